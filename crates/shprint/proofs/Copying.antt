@@ -72,7 +72,8 @@ unfolding bare
 bare_two b c X unjoined = rw (unlike b c unjoined) refl
 
 -- a byte that begins no continuation
-bare_first : (b n : ℕ) (X : List ℕ) → (b ≡ 92 → slice_get X 0 ≡ Some 10 → 0 < n → ⊥) → bare (b ∷ take n X) ≡ b ∷ bare (take n X)
+bare_first : (b n : ℕ) (X : List ℕ) → (b ≡ 92 → slice_get X 0 ≡ Some 10 → 0 < n → ⊥) →
+    bare (b ∷ take n X) ≡ b ∷ bare (take n X)
 unfolding bare
 bare_first b zero X unjoined = refl
 bare_first b (suc n) [] unjoined = refl
@@ -90,12 +91,15 @@ module _ (B : List ℕ) (at «end» b : ℕ) (here : slice_get B at ≡ Some b) 
       rw (n, drop_some B at b here) refl
 
   -- no continuation begins here
-  pub bare_more : (b ≡ 92 → slice_get B (at + 1) ≡ Some 10 → at + 1 < «end» → ⊥) → bare (take («end» - at) (drop at B)) ≡ b ∷ bare (take («end» - (at + 1)) (drop (at + 1) B))
+  pub bare_more : (b ≡ 92 → slice_get B (at + 1) ≡ Some 10 → at + 1 < «end» → ⊥) →
+      bare (take («end» - at) (drop at B)) ≡ b ∷ bare (take («end» - (at + 1)) (drop (at + 1) B))
   bare_more unjoined =
-      ap bare taken ∙ bare_first b («end» - (at + 1)) (drop (at + 1) B) (λ e f lt. unjoined e (sym (get_drop B (at + 1)) ∙ f) (omega (arith, lt)))
+      ap bare taken ∙ bare_first b («end» - (at + 1)) (drop (at + 1) B)
+      (λ e f lt. unjoined e (sym (get_drop B (at + 1)) ∙ f) (omega (arith, lt)))
 
 -- a continuation begins here
-pub bare_joined : (B : List ℕ) (at «end» : ℕ) → slice_get B at ≡ Some 92 → slice_get B (at + 1) ≡ Some 10 → at + 1 < «end»
+pub bare_joined : (B : List ℕ) (at «end» : ℕ) → slice_get B at ≡ Some 92 → slice_get B (at + 1) ≡ Some 10 →
+    at + 1 < «end»
     → bare (take («end» - at) (drop at B)) ≡ bare (take («end» - (at + 2)) (drop (at + 2) B))
 bare_joined B at «end» one two lt =
     let both : at + 1 + 1 ≡ at + 2 = omega arith in
@@ -105,7 +109,8 @@ bare_joined B at «end» one two lt =
 -- ---- a word behind `<<`
 
 module _ (B : List ℕ) (s : Span) (some : s.start < s.«end») where
-  strip_by : (o : Option ℕ) → slice_get B s.start ≡ o → would_strip redirects.Here (text_at B s) ≡ option_eq ◌==◌ o (Some 45)
+  strip_by : (o : Option ℕ) → slice_get B s.start ≡ o →
+      would_strip redirects.Here (text_at B s) ≡ option_eq ◌==◌ o (Some 45)
   strip_by None e = rw (drop_none B s.start e, none_taken (s.«end» - s.start)) refl
   strip_by (Some b) e = rw (taken B s.start s.«end» b e some) refl
 

@@ -47,12 +47,14 @@ word_by_counts here Suffix T p e = absurd cc
 neither : (here c : Bool) (x y : Token) → Counts here x → Counts here y → Counts here (cond c x y)
 neither here c x y one two = cond_both c x y (Counts here) (λ e. one) (λ e. two)
 
-token_counts : (position : Position) (T : List ℕ) (p : ℕ) (b : Option ℕ) → Counts (is_number_at T p) (token_of position T p b)
+token_counts : (position : Position) (T : List ℕ) (p : ℕ) (b : Option ℕ) →
+    Counts (is_number_at T p) (token_of position T p b)
 token_counts position T p None = λ e. absurd cc
 token_counts position T p (Some b) =
     let here = is_number_at T p in
     neither here (is_newline_byte b) _ _ (λ e. absurd cc)
-    (neither here (b == 59) _ _ (neither here (stands T (behind T p) 59) _ _ (λ e. absurd cc) (neither here (stands T (behind T p) 38) _ _ (λ e. absurd cc) (λ e. absurd cc)))
+    (neither here (b == 59) _ _ (neither here (stands T (behind T p) 59) _ _ (λ e. absurd cc)
+    (neither here (stands T (behind T p) 38) _ _ (λ e. absurd cc) (λ e. absurd cc)))
     (neither here (b == 38) _ _ (neither here (stands T (behind T p) 38) _ _ (λ e. absurd cc) (λ e. absurd cc))
     (neither here (b == 124) _ _ (neither here (stands T (behind T p) 124) _ _ (λ e. absurd cc) (λ e. absurd cc))
     (neither here (b == 40) _ _ (λ e. absurd cc)
@@ -60,9 +62,11 @@ token_counts position T p (Some b) =
     (neither here (b == 60) _ _ (λ e. absurd cc)
     (neither here (b == 62) _ _ (λ e. absurd cc)
     (neither here (b == 35) _ _ (λ e. absurd cc)
-    (cond_both here tokens.Number (word_by position T p) (Counts here) (λ e f. e) (λ e. word_by_counts here position T p))))))))))
+    (cond_both here tokens.Number (word_by position T p) (Counts here) (λ e f. e)
+    (λ e. word_by_counts here position T p))))))))))
 
-pub number_here : (position : Position) (T : List ℕ) (p : ℕ) (t : Token) → token_at position T p ≡ t → is_number_token t ≡ true → is_number_at T p ≡ true
+pub number_here : (position : Position) (T : List ℕ) (p : ℕ) (t : Token) → token_at position T p ≡ t →
+    is_number_token t ≡ true → is_number_at T p ≡ true
 unfolding token_at
 number_here position T p t same is = token_counts position T p (byte_at T p) (ap is_number_token same ∙ is)
 
@@ -102,7 +106,8 @@ bare_digit c (b ∷ bs) e = rw (digit_clear c e) refl
 pub bare_of_digits : (t : Text) → all_digits t ≡ true → bare t ≡ t
 unfolding bare
 bare_of_digits [] all = refl
-bare_of_digits (c ∷ cs) all = let parts = and_parts _ _ all in bare_digit c cs parts.0 ∙ ap (λ z. c ∷ z) (bare_of_digits cs parts.1)
+bare_of_digits (c ∷ cs) all = let parts = and_parts _ _ all in
+    bare_digit c cs parts.0 ∙ ap (λ z. c ∷ z) (bare_of_digits cs parts.1)
 
 digits_more : (c : ℕ) (t : Text) → is_digit c ≡ true → all_digits t ≡ true → all_digits (c ∷ t) ≡ true
 digits_more c t one others = and_from _ _ one others
@@ -116,12 +121,16 @@ byte_of None e = absurd cc
 byte_of (Some c) e = (c, refl, e)
 
 -- the same stretch from behind a continuation
-past_pair : (T : List ℕ) (p : ℕ) → continues T p ≡ true → stands_in is_digit T p ≡ true → (stands_in is_digit T (p + 2) ≡ true) × (past is_digit T p ≡ past is_digit T (p + 2))
+past_pair : (T : List ℕ) (p : ℕ) → continues T p ≡ true → stands_in is_digit T p ≡ true →
+    (stands_in is_digit T (p + 2) ≡ true) × (past is_digit T p ≡ past is_digit T (p + 2))
 unfolding stands_in behind
 past_pair T p pair digit =
     let place = joined_more T p pair in
-    let there = ap (λ q. passes is_digit (slice_get T q)) (sym place) ∙ digit in
-    (there, past_more is_digit T p digit ∙ ap (λ q. past is_digit T (q + 1)) place ∙ sym (past_more is_digit T (p + 2) there))
+    let there = ap (λ q. passes is_digit (slice_get T q)) (sym place) ∙ digit in (
+      there,
+      past_more is_digit T p digit ∙ ap (λ q. past is_digit T (q + 1)) place
+          ∙ sym (past_more is_digit T (p + 2) there),
+    )
 
 pair_front : (T : List ℕ) (p q : ℕ) → continues T p ≡ true → p + 2 ≤ q → raw T p q ≡ 92 ∷ 10 ∷ raw T (p + 2) q
 unfolding continues raw_stands
@@ -129,7 +138,8 @@ pair_front T p q pair le =
     let parts : (is_byte (slice_get T p) 92 ≡ true) × (is_byte (slice_get T (p + 1)) 10 ≡ true) = and_parts _ _ pair in
     let next : p + 1 + 1 ≡ p + 2 = omega arith in
     raw_front T p q 92 (is_that (slice_get T p) 92 parts.0) (omega (arith, le))
-    ∙ ap (λ z. 92 ∷ z) (raw_front T (p + 1) q 10 (is_that (slice_get T (p + 1)) 10 parts.1) (omega (arith, le)) ∙ ap (λ r. 10 ∷ raw T r q) next)
+    ∙ ap (λ z. 92 ∷ z) (raw_front T (p + 1) q 10 (is_that (slice_get T (p + 1)) 10 parts.1) (omega (arith, le))
+    ∙ ap (λ r. 10 ∷ raw T r q) next)
 
 abbrev Digits : Text → Type 0
 Digits t = (c : ℕ) × (cs : Text) × (t ≡ c ∷ cs) × (all_digits (c ∷ cs) ≡ true)
@@ -146,30 +156,36 @@ DigitsAt T p = Digits (bare (raw T p (past is_digit T p)))
 abbrev Further : ℕ → List ℕ → Type 0
 Further n T = (q : ℕ) → length T - q ≤ n → stands_in is_digit T q ≡ true → DigitsAt T q
 
-behind_pair : (n : ℕ) (T : List ℕ) (p : ℕ) → Further n T → length T - p ≤ suc n → stands_in is_digit T p ≡ true → continues T p ≡ true → DigitsAt T p
+behind_pair : (n : ℕ) (T : List ℕ) (p : ℕ) → Further n T → length T - p ≤ suc n → stands_in is_digit T p ≡ true →
+    continues T p ≡ true → DigitsAt T p
 behind_pair n T p further few digit pair =
     let more = past_pair T p pair digit in
     let q = past is_digit T (p + 2) in
     let rest = further (p + 2) (omega (arith, few, stands_in_low is_digit T p digit, place_low T p)) more.0 in
-    let same : bare (raw T p (past is_digit T p)) ≡ bare (raw T (p + 2) q) = ap (λ r. bare (raw T p r)) more.1 ∙ ap bare (pair_front T p q pair (past_low is_digit T (p + 2))) ∙ bare_pair (raw T (p + 2) q) in
+    let same : bare (raw T p (past is_digit T p)) ≡ bare (raw T (p + 2) q) = ap (λ r. bare (raw T p r)) more.1
+    ∙ ap bare (pair_front T p q pair (past_low is_digit T (p + 2))) ∙ bare_pair (raw T (p + 2) q) in
     (rest.0, rest.1, same ∙ rest.2, rest.3)
 
-one_digit : (n : ℕ) (T : List ℕ) (p : ℕ) → Further n T → length T - p ≤ suc n → stands_in is_digit T p ≡ true → continues T p ≡ false → DigitsAt T p
+one_digit : (n : ℕ) (T : List ℕ) (p : ℕ) → Further n T → length T - p ≤ suc n → stands_in is_digit T p ≡ true →
+    continues T p ≡ false → DigitsAt T p
 unfolding stands_in behind
 one_digit n T p further few digit no_pair =
     let place : past_continuations T p ≡ p = joined_none T p no_pair in
     let b = byte_of (byte_at T p) digit in
     let raw_is : slice_get T p ≡ Some b.0 = ap (slice_get T) (sym place) ∙ b.1 in
-    let on : past is_digit T p ≡ past is_digit T (p + 1) = past_more is_digit T p digit ∙ ap (λ q. past is_digit T (q + 1)) place in
+    let on : past is_digit T p ≡ past is_digit T (p + 1) = past_more is_digit T p digit
+    ∙ ap (λ q. past is_digit T (q + 1)) place in
     let q = past is_digit T (p + 1) in
     let same : bare (raw T p (past is_digit T p)) ≡ b.0 ∷ bare (raw T (p + 1) q) =
-    ap (λ r. bare (raw T p r)) on ∙ ap bare (raw_front T p q b.0 raw_is (omega (arith, past_low is_digit T (p + 1)))) ∙ bare_digit b.0 (raw T (p + 1) q) b.2 in
+    ap (λ r. bare (raw T p r)) on ∙ ap bare (raw_front T p q b.0 raw_is (omega (arith, past_low is_digit T (p + 1))))
+    ∙ bare_digit b.0 (raw T (p + 1) q) b.2 in
     by_case (stands_in is_digit T (p + 1))
     (λ more.
     let rest = further (p + 1) (omega (arith, few, stands_in_low is_digit T p digit, place_low T p)) more in
     (b.0, bare (raw T (p + 1) q), same, digits_more b.0 (bare (raw T (p + 1) q)) b.2 (ap all_digits rest.2 ∙ rest.3)))
     (λ none.
-    let nothing : bare (raw T (p + 1) q) ≡ [] = ap (λ r. bare (raw T (p + 1) r)) (past_none is_digit T (p + 1) none) ∙ ap bare (raw_nothing T (p + 1)) ∙ bare_nothing in
+    let nothing : bare (raw T (p + 1) q) ≡ [] = ap (λ r. bare (raw T (p + 1) r)) (past_none is_digit T (p + 1) none)
+    ∙ ap bare (raw_nothing T (p + 1)) ∙ bare_nothing in
     (b.0, bare (raw T (p + 1) q), same, digits_more b.0 (bare (raw T (p + 1) q)) b.2 (ap all_digits nothing)))
 
 digits_from : (n : ℕ) (T : List ℕ) (p : ℕ) → length T - p ≤ n → stands_in is_digit T p ≡ true → DigitsAt T p
@@ -182,8 +198,10 @@ number_of : (t : Text) → Digits t → GoodNumber (Some t)
 number_of [] (c, cs, is, all) = absurd cc
 number_of (d ∷ ds) (c, cs, is, all) = ap all_digits is ∙ all
 
-pub digits_good : (B : List ℕ) (g : Given) → g.text ≡ drop g.offset B → (p : ℕ) → is_number_at g.text p ≡ true → GoodNumber (Some (bare_at B (span g.offset p (past_digits g.text p))))
+pub digits_good : (B : List ℕ) (g : Given) → g.text ≡ drop g.offset B → (p : ℕ) → is_number_at g.text p ≡ true →
+    GoodNumber (Some (bare_at B (span g.offset p (past_digits g.text p))))
 unfolding is_number_at past_digits
 digits_good B g here p is =
     let q = past is_digit g.text p in
-    subst (λ (t : Text). GoodNumber (Some (bare t))) (raw_at B g here p q) (number_of _ (digits_from (length g.text) g.text p (omega arith) (and_parts _ _ is).0))
+    subst (λ (t : Text). GoodNumber (Some (bare t))) (raw_at B g here p q)
+    (number_of _ (digits_from (length g.text) g.text p (omega arith) (and_parts _ _ is).0))

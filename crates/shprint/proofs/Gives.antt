@@ -12,11 +12,13 @@ pub record Gives (g : Given) {X : Type 0} (r : Form X) (s : State) (x : X) (t : 
   pub passes : Row Spelled
   pub reads : may r g s (Ok (x, t)) passes
 
-pub gives : {g : Given} {X : Type 0} {r : Form X} {s t : State} {x : X} (k : Row Spelled) → may r g s (Ok (x, t)) k → Gives g r s x t
+pub gives : {g : Given} {X : Type 0} {r : Form X} {s t : State} {x : X} (k : Row Spelled) → may r g s (Ok (x, t)) k →
+    Gives g r s x t
 gives k part = record { passes = k; reads = part }
 
 infixr 6 ◌⟫◌
-pub ◌⟫◌ : {g : Given} {X Y : Type 0} {r : Form X} {q : X → Form Y} {s t u : State} {x : X} {y : Y} → Gives g r s x t → Gives g (q x) t y u → Gives g (both r q) s y u
+pub ◌⟫◌ : {g : Given} {X Y : Type 0} {r : Form X} {q : X → Form Y} {s t u : State} {x : X} {y : Y} → Gives g r s x t →
+    Gives g (q x) t y u → Gives g (both r q) s y u
 one ⟫ two = record { passes = one.passes ++ two.passes; reads = and_then one.reads two.reads }
 
 pub given_here : {g : Given} {X : Type 0} {x : X} {s : State} → Gives g (give x) s x s
@@ -31,22 +33,27 @@ moved_here m = gives _ just
 pub pushed_here : {g : Given} {A : Type 0} (xs : Row A) (x : A) {s : State} → Gives g (push xs x) s (xs ++ x ∷ []) s
 pushed_here xs x = gives _ just
 
-pub told_here : {g : Given} {X : Type 0} (told : Told) {r : Form X} {s t : State} {x : X} → Gives g r s x t → Gives g (token told r) s (x, span g.offset s.at t.at) t
+pub told_here : {g : Given} {X : Type 0} (told : Told) {r : Form X} {s t : State} {x : X} → Gives g r s x t →
+    Gives g (token told r) s (x, span g.offset s.at t.at) t
 told_here told one = gives _ (whole one.reads)
 
 -- the first form, or the second
-pub first_of : {g : Given} {X : Type 0} {b : Bool} (r q : Form X) {s t : State} {x : X} → b ≡ true → Gives g r s x t → Gives g (pick b r q) s x t
+pub first_of : {g : Given} {X : Type 0} {b : Bool} (r q : Form X) {s t : State} {x : X} → b ≡ true → Gives g r s x t →
+    Gives g (pick b r q) s x t
 first_of r q e one = rw e one
 
-pub second_of : {g : Given} {X : Type 0} {b : Bool} (r q : Form X) {s t : State} {x : X} → b ≡ false → Gives g q s x t → Gives g (pick b r q) s x t
+pub second_of : {g : Given} {X : Type 0} {b : Bool} (r q : Form X) {s t : State} {x : X} → b ≡ false → Gives g q s x t →
+    Gives g (pick b r q) s x t
 second_of r q e one = rw e one
 
 -- turns
-pub last_turn : {g : Given} {A : Type 0} (turn : A → Form (Step A)) {a b : A} {s t : State} → Gives g (turn a) s (done b) t → Gives g (many turn a) s b t
+pub last_turn : {g : Given} {A : Type 0} (turn : A → Form (Step A)) {a b : A} {s t : State} →
+    Gives g (turn a) s (done b) t → Gives g (many turn a) s b t
 unfolding many
 last_turn turn one = gives _ (last one.reads)
 
-pub one_turn : {g : Given} {A : Type 0} (turn : A → Form (Step A)) {a b c : A} {s t u : State} → Gives g (turn a) s (again b) t → leads_on g s t ≡ true → Gives g (many turn b) t c u → Gives g (many turn a) s c u
+pub one_turn : {g : Given} {A : Type 0} (turn : A → Form (Step A)) {a b c : A} {s t u : State} →
+    Gives g (turn a) s (again b) t → leads_on g s t ≡ true → Gives g (many turn b) t c u → Gives g (many turn a) s c u
 unfolding many
 one_turn turn one on rest = gives _ (more one.reads on rest.reads)
 

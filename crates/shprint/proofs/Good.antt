@@ -61,12 +61,14 @@ GoodHere edition o t None = takes_here o ≡ false
 GoodHere edition o t (Some h) = GoodDocument edition o t h
 
 -- a redirection, by its parts
-pub record GoodRedirect (edition : Edition) (room : ℕ) (number : Option Text) (o : RedirectOperator) (t : Text) (ss : Shape SubstsOf) (h : Option (AHereOf Text)) : Type 0 where
+pub record GoodRedirect (edition : Edition) (room : ℕ) (number : Option Text) (o : RedirectOperator) (t : Text)
+    (ss : Shape SubstsOf) (h : Option (AHereOf Text)) : Type 0 where
   pub digits : GoodNumber number
   pub document : GoodHere edition o t h
   pub reads : ItemAnywhere edition room Suffix tokens.Word t ss
 
-abbrev pub a_redirect_of : Bool → Option Text → RedirectOperator → Text → Shape SubstsOf → Option (AHereOf Text) → Shape AnItemOf
+abbrev pub a_redirect_of : Bool → Option Text → RedirectOperator → Text → Shape SubstsOf → Option (AHereOf Text) →
+    Shape AnItemOf
 a_redirect_of broken number o t ss h = item broken (redirect number o tt (word t ss) h)
 
 -- what items are: those of a simple command, the words of a for, the redirections behind a compound command
@@ -77,18 +79,24 @@ pub data Kind : Type 0 where
 
 -- an item from one position to another, where so many constructs may be open
 pub data GoodItem (edition : Edition) (room : ℕ) : Kind → Position → Shape AnItemOf → Position → Type 0 where
-  of_word : {position next : Position} {token : Token} {broken : Bool} {t : Text} {ss : Shape SubstsOf} → behind_word token ≡ Some next → ItemAnywhere edition room position token t ss
+  of_word : {position next : Position} {token : Token} {broken : Bool} {t : Text} {ss : Shape SubstsOf} →
+      behind_word token ≡ Some next → ItemAnywhere edition room position token t ss
       → GoodItem edition room of_command position (an_item_of broken next (word t ss)) next
-  of_argument : {broken : Bool} {t : Text} {ss : Shape SubstsOf} → ItemAnywhere edition room Suffix tokens.Word t ss → GoodItem edition room of_for Suffix (an_item_of broken Suffix (word t ss)) Suffix
-  of_redirect : {position : Position} {broken : Bool} {number : Option Text} {o : RedirectOperator} {t : Text} {ss : Shape SubstsOf} {h : Option (AHereOf Text)} → GoodRedirect edition room number o t ss h
+  of_argument : {broken : Bool} {t : Text} {ss : Shape SubstsOf} → ItemAnywhere edition room Suffix tokens.Word t ss →
+      GoodItem edition room of_for Suffix (an_item_of broken Suffix (word t ss)) Suffix
+  of_redirect : {position : Position} {broken : Bool} {number : Option Text} {o : RedirectOperator} {t : Text}
+      {ss : Shape SubstsOf} {h : Option (AHereOf Text)} → GoodRedirect edition room number o t ss h
       → GoodItem edition room of_command position (a_redirect_of broken number o t ss h) (behind_redirect position)
-  of_redirect_behind : {broken : Bool} {number : Option Text} {o : RedirectOperator} {t : Text} {ss : Shape SubstsOf} {h : Option (AHereOf Text)} → GoodRedirect edition room number o t ss h
+  of_redirect_behind : {broken : Bool} {number : Option Text} {o : RedirectOperator} {t : Text} {ss : Shape SubstsOf}
+      {h : Option (AHereOf Text)} → GoodRedirect edition room number o t ss h
       → GoodItem edition room of_compound Command (a_redirect_of broken number o t ss h) Command
 
 -- items of one kind, from one position to another
 pub data GoodItems (edition : Edition) (room : ℕ) (kind : Kind) : Position → Shape ItemsOf → Position → Type 0 where
   none_more : {position : Position} → GoodItems edition room kind position no_item position
-  one_more : {position next last : Position} {i : Shape AnItemOf} {is : Shape ItemsOf} → GoodItem edition room kind position i next → GoodItems edition room kind next is last → GoodItems edition room kind position (more_items i is) last
+  one_more : {position next last : Position} {i : Shape AnItemOf} {is : Shape ItemsOf} →
+      GoodItem edition room kind position i next → GoodItems edition room kind next is last →
+      GoodItems edition room kind position (more_items i is) last
 
 abbrev pub SomeItem : Shape ItemsOf → Type 0
 SomeItem no_item = ⊥
@@ -115,7 +123,8 @@ GoodForWords edition room no_in = Unit {0}
 GoodForWords edition room (in_words items) = GoodWords edition room items
 
 -- a word that begins with such a token in this position, wherever it stands
-pub record GoodWord (edition : Edition) (room : ℕ) (position : Position) (begins : Token → Bool) (w : Shape AWordOf) : Type 0 where
+pub record GoodWord (edition : Edition) (room : ℕ) (position : Position) (begins : Token → Bool)
+    (w : Shape AWordOf) : Type 0 where
   pub t : Text
   pub ss : Shape SubstsOf
   pub is : w ≡ word t ss
@@ -127,11 +136,13 @@ pub record GoodWord (edition : Edition) (room : ℕ) (position : Position) (begi
 -- the patterns behind the first one
 abbrev pub GoodMorePatterns : Edition → ℕ → Shape PatternsOf → Type 0
 GoodMorePatterns edition room no_pattern = Unit {0}
-GoodMorePatterns edition room (more_patterns w ws) = GoodWord edition room Suffix begins_word w × GoodMorePatterns edition room ws
+GoodMorePatterns edition room (more_patterns w ws) = GoodWord edition room Suffix begins_word w
+    × GoodMorePatterns edition room ws
 
 abbrev pub GoodPatterns : Edition → ℕ → Shape PatternsOf → Type 0
 GoodPatterns edition room no_pattern = ⊥
-GoodPatterns edition room (more_patterns w ws) = GoodWord edition room Command begins_pattern w × GoodMorePatterns edition room ws
+GoodPatterns edition room (more_patterns w ws) = GoodWord edition room Command begins_pattern w
+    × GoodMorePatterns edition room ws
 
 -- the name of a for: a word that is a NAME, wherever it stands
 pub record GoodName (edition : Edition) (room : ℕ) (name : Shape AWordOf) : Type 0 where
@@ -160,42 +171,51 @@ abbrev mutual
 
   pub GoodParts : Edition → ℕ → Shape AndOrPartsOf → Type 0
   GoodParts edition room no_and_or = Unit {0}
-  GoodParts edition room (more_and_or operator j p ps) = GoodComments j.comments × GoodPipeline edition room p × GoodParts edition room ps
+  GoodParts edition room (more_and_or operator j p ps) = GoodComments j.comments × GoodPipeline edition room p
+      × GoodParts edition room ps
 
   pub GoodPipeline : Edition → ℕ → Shape APipelineOf → Type 0
   GoodPipeline edition room (pipeline bang first rest) = GoodCommand edition room first × GoodPipes edition room rest
 
   pub GoodPipes : Edition → ℕ → Shape PipelinePartsOf → Type 0
   GoodPipes edition room no_pipe = Unit {0}
-  GoodPipes edition room (more_pipes j c cs) = GoodComments j.comments × GoodCommand edition room c × GoodPipes edition room cs
+  GoodPipes edition room (more_pipes j c cs) = GoodComments j.comments × GoodCommand edition room c
+      × GoodPipes edition room cs
 
   -- a function is open while its body is read
   pub GoodCommand : Edition → ℕ → Shape ACommandOf → Type 0
   GoodCommand edition room (simple items) = GoodSimple edition room items
   GoodCommand edition room (compound c) = GoodCompound edition room c
   GoodCommand edition zero (function name comments body) = ⊥
-  GoodCommand edition (suc room) (function name comments body) = NameBefore (suc room) name × GoodComments comments × GoodCompound edition room body
+  GoodCommand edition (suc room) (function name comments body) = NameBefore (suc room) name × GoodComments comments
+      × GoodCompound edition room body
 
   -- a compound command is open while what it holds is read, and not while its redirections are
   pub GoodCompound : Edition → ℕ → Shape ACompoundOf → Type 0
   GoodCompound edition zero (formed form mark redirects) = ⊥
-  GoodCompound edition (suc room) (formed form mark redirects) = GoodForm edition room form × GoodRedirects edition (suc room) redirects
+  GoodCompound edition (suc room) (formed form mark redirects) = GoodForm edition room form
+      × GoodRedirects edition (suc room) redirects
 
   pub GoodForm : Edition → ℕ → Shape AFormOf → Type 0
   GoodForm edition room (brace es) = GoodEntries edition room es
   GoodForm edition room (subshell es) = GoodEntries edition room es
-  GoodForm edition room (if_then first rest other) = GoodBranch edition room first × GoodBranches edition room rest × GoodElse edition room other
+  GoodForm edition room (if_then first rest other) = GoodBranch edition room first × GoodBranches edition room rest
+      × GoodElse edition room other
   GoodForm edition room (while_do b) = GoodBranch edition room b
   GoodForm edition room (until_do b) = GoodBranch edition room b
-  GoodForm edition room (for_in name words body) = GoodName edition room name × GoodForWords edition room words × GoodEntries edition room body
-  GoodForm edition room (case_in w items tail) = GoodWord edition room Suffix begins_word w × GoodCases edition room items × GoodComments tail
+  GoodForm edition room (for_in name words body) = GoodName edition room name × GoodForWords edition room words
+      × GoodEntries edition room body
+  GoodForm edition room (case_in w items tail) = GoodWord edition room Suffix begins_word w
+      × GoodCases edition room items × GoodComments tail
 
   pub GoodCases : Edition → ℕ → Shape CaseItemsOf → Type 0
   GoodCases edition room no_case = Unit {0}
   GoodCases edition room (more_cases c cs) = GoodCase edition room c × GoodCases edition room cs
 
   pub GoodCase : Edition → ℕ → Shape ACaseItemOf → Type 0
-  GoodCase edition room (case_item comments patterns body mark) = GoodComments comments × GoodPatterns edition room patterns × GoodEntries edition room body × (mark.falls ≡ true → is_later edition ≡ true)
+  GoodCase edition room (case_item comments patterns body mark) = GoodComments comments
+      × GoodPatterns edition room patterns × GoodEntries edition room body
+      × (mark.falls ≡ true → is_later edition ≡ true)
 
   pub GoodBranch : Edition → ℕ → Shape ABranchOf → Type 0
   GoodBranch edition room (branch condition body) = GoodEntries edition room condition × GoodEntries edition room body
@@ -214,11 +234,13 @@ GoodBody edition zero body = ⊥
 GoodBody edition (suc room) body = GoodCompound edition room body
 
 -- a function, by its parts
-pub record GoodFunction (edition : Edition) (room : ℕ) (name : Text) (comments : Row Text) (body : Shape ACompoundOf) : Type 0 where
+pub record GoodFunction (edition : Edition) (room : ℕ) (name : Text) (comments : Row Text)
+    (body : Shape ACompoundOf) : Type 0 where
   pub before : NameBefore room name
   pub own : GoodComments comments
   pub inside : GoodBody edition room body
 
-pub parts_of_function : (edition : Edition) (room : ℕ) (name : Text) (comments : Row Text) (body : Shape ACompoundOf) → GoodCommand edition room (function name comments body) → GoodFunction edition room name comments body
+pub parts_of_function : (edition : Edition) (room : ℕ) (name : Text) (comments : Row Text) (body : Shape ACompoundOf) →
+    GoodCommand edition room (function name comments body) → GoodFunction edition room name comments body
 parts_of_function edition zero name comments body good = absurd good
 parts_of_function edition (suc room) name comments body good = record { before = good.0; own = good.1; inside = good.2 }

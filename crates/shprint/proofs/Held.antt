@@ -44,7 +44,8 @@ no_bytes = refl
 pub bytes_append : (xs ys : Row Document) → held_bytes (xs ++ ys) ≡ held_bytes xs ++ held_bytes ys
 unfolding held_bytes
 bytes_append [] ys = refl
-bytes_append (x ∷ xs) ys = ap (λ r. bytes_of x ++ r) (bytes_append xs ys) ∙ sym (append_assoc (bytes_of x) (held_bytes xs) (held_bytes ys))
+bytes_append (x ∷ xs) ys = ap (λ r. bytes_of x ++ r) (bytes_append xs ys)
+    ∙ sym (append_assoc (bytes_of x) (held_bytes xs) (held_bytes ys))
 
 -- one more
 pub bytes_more : (xs : Row Document) (x : Document) → held_bytes (xs ++ x ∷ []) ≡ held_bytes xs ++ bytes_of x
@@ -79,9 +80,11 @@ abbrev pub Followed : Marks → Type 0
 Followed ms = (held : Text) → follows (laid_behind held ms) ≡ true
 
 -- one more document waits
-pub one_waits : {g : Given} (h : Held) (x : Document) (p : ℕ) → Gives g (change (waits (as_waiting x))) (state h p) tt (state (with_document h x) p)
+pub one_waits : {g : Given} (h : Held) (x : Document) (p : ℕ) →
+    Gives g (change (waits (as_waiting x))) (state h p) tt (state (with_document h x) p)
 one_waits {g = g} h x p =
-    let is : map as_waiting h.waiting ++ as_waiting x ∷ [] ≡ map as_waiting (h.waiting ++ x ∷ []) = sym (map-append as_waiting h.waiting (x ∷ [])) in
+    let is : map as_waiting h.waiting ++ as_waiting x ∷ [] ≡ map as_waiting (h.waiting ++ x ∷ []) =
+    sym (map-append as_waiting h.waiting (x ∷ [])) in
     gives _ (changes (ap (λ ws. Ok (record { at = p; waiting = ws; bodies = h.bodies })) is))
 
 -- ---- one text, from the offset o of the printed text on
@@ -95,18 +98,22 @@ module _ (edition : Edition) (B T : List ℕ) (o : ℕ) (here : drop o B ≡ T) 
   pub text_of_span : (p : ℕ) (w zs : List ℕ) → drop p T ≡ w ++ zs → text_at B (span o p (p + length w)) ≡ w
   text_of_span p w zs at =
       let n : o + (p + length w) - (o + p) ≡ length w = omega arith in
-      ap (λ k. take k (drop (o + p) B)) n ∙ ap (take (length w)) (sym (drop-drop p o B) ∙ ap (drop p) here) ∙ text_here T p w zs at
+      ap (λ k. take k (drop (o + p) B)) n ∙ ap (take (length w)) (sym (drop-drop p o B) ∙ ap (drop p) here)
+      ∙ text_here T p w zs at
 
   -- bodies that are read from p on
   pub record BodiesRead (xs : Row Document) (bodies : Row Span) (p : ℕ) : Type 0 where
     pub spans : Row Span
-    pub reads : bodies_from (given edition T o) (map as_waiting xs) bodies p ≡ Ok (bodies ++ spans, p + length (held_bytes xs))
+    pub reads : bodies_from (given edition T o) (map as_waiting xs) bodies p
+        ≡ Ok (bodies ++ spans, p + length (held_bytes xs))
     pub texts : map (text_at B) spans ≡ map (λ (x : Document). x.bytes) xs
 
   within_by : (p n : ℕ) (w zs : List ℕ) → p ≤ length T → drop p T ≡ w ++ zs → n ≡ length w → p + n ≤ length T
-  within_by p n w zs within at is = let size : length T - p ≡ length w + length zs = sym (length-drop p T) ∙ ap length at ∙ length-append w zs in omega (arith, size, within, is)
+  within_by p n w zs within at is = let size : length T - p ≡ length w + length zs = sym (length-drop p T)
+      ∙ ap length at ∙ length-append w zs in omega (arith, size, within, is)
 
-  pub all_bodies : (xs : Row Document) (bodies : Row Span) (p : ℕ) (zs : Text) → p ≤ length T → drop p T ≡ held_bytes xs ++ zs → BodiesRead xs bodies p
+  pub all_bodies : (xs : Row Document) (bodies : Row Span) (p : ℕ) (zs : Text) → p ≤ length T →
+      drop p T ≡ held_bytes xs ++ zs → BodiesRead xs bodies p
   unfolding held_bytes bodies_from
   all_bodies [] bodies p zs within at = record {
     spans = [];
@@ -116,18 +123,25 @@ module _ (edition : Edition) (B T : List ℕ) (o : ℕ) (here : drop o B ≡ T) 
   all_bodies (x ∷ xs) bodies p zs within at =
       let rest = held_bytes xs ++ zs in
       let whole : drop p T ≡ bytes_of x ++ rest = at ∙ append_assoc (bytes_of x) (held_bytes xs) zs in
-      let parts : drop p T ≡ x.bytes ++ (x.d.text ++ 10 ∷ rest) = whole ∙ append_assoc x.bytes (x.d.text ++ 10 ∷ []) rest ∙ ap (λ r. x.bytes ++ r) (append_assoc x.d.text (10 ∷ []) rest) in
-      let size : length (bytes_of x) ≡ length x.bytes + (length x.d.text + 1) = length-append x.bytes (x.d.text ++ 10 ∷ []) ∙ ap (λ n. length x.bytes + n) (length-append x.d.text (10 ∷ [])) in
+      let parts : drop p T ≡ x.bytes ++ (x.d.text ++ 10 ∷ rest) = whole
+      ∙ append_assoc x.bytes (x.d.text ++ 10 ∷ []) rest
+      ∙ ap (λ r. x.bytes ++ r) (append_assoc x.d.text (10 ∷ []) rest) in
+      let size : length (bytes_of x) ≡ length x.bytes + (length x.d.text + 1) =
+      length-append x.bytes (x.d.text ++ 10 ∷ [])
+      ∙ ap (λ n. length x.bytes + n) (length-append x.d.text (10 ∷ [])) in
       let q = p + length x.bytes in
       let f = p + length (bytes_of x) in
       let s = span o p q in
       let found : delimiter_from T (as_waiting x) p ≡ Some q = x.good.ends_there T x.b p rest within parts in
       let past : past_line T q ≡ f = x.good.past_it T p rest within parts ∙ ap (λ n. p + n) (sym size) in
-      let others = all_bodies xs (bodies ++ s ∷ []) f zs (within_by p (length (bytes_of x)) (bytes_of x) rest within whole refl) (skip T p (bytes_of x) rest whole) in
-      let last : f + length (held_bytes xs) ≡ p + length (bytes_of x ++ held_bytes xs) = let n = length-append (bytes_of x) (held_bytes xs) in omega (arith, n) in
+      let others = all_bodies xs (bodies ++ s ∷ []) f zs
+      (within_by p (length (bytes_of x)) (bytes_of x) rest within whole refl) (skip T p (bytes_of x) rest whole) in
+      let last : f + length (held_bytes xs) ≡ p + length (bytes_of x ++ held_bytes xs) = let n =
+      length-append (bytes_of x) (held_bytes xs) in omega (arith, n) in
       record {
         spans = s ∷ others.spans;
-        reads = ap (body_by (bodies_from (given edition T o) (map as_waiting xs)) (given edition T o) (as_waiting x) bodies p) found
+        reads = ap (body_by (bodies_from (given edition T o) (map as_waiting xs)) (given edition T o)
+            (as_waiting x) bodies p) found
             ∙ ap (bodies_from (given edition T o) (map as_waiting xs) (bodies ++ s ∷ [])) past ∙ others.reads
             ∙ rw (append_assoc, last) refl;
         texts = rw (text_of_span p x.bytes (x.d.text ++ 10 ∷ rest) parts, others.texts) refl;
@@ -153,7 +167,8 @@ module _ (edition : Edition) (B T : List ℕ) (o : ℕ) (here : drop o B ≡ T) 
   emptied h p ms at =
       let zs = laid_behind [] ms in
       let whole : drop p T ≡ (10 ∷ held_bytes h.waiting) ++ zs = at in
-      let behind_it : drop (p + 1) T ≡ held_bytes h.waiting ++ zs = skip T p (10 ∷ []) (held_bytes h.waiting ++ zs) at in
+      let behind_it : drop (p + 1) T ≡ held_bytes h.waiting ++ zs =
+      skip T p (10 ∷ []) (held_bytes h.waiting ++ zs) at in
       let size : length (drop p T) ≡ suc (length (held_bytes h.waiting ++ zs)) = ap length at in
       let within : p + 1 ≤ length T = omega (arith, size, length-drop p T) in
       let r = all_bodies h.waiting h.bodies (p + 1) zs within behind_it in
@@ -167,5 +182,6 @@ module _ (edition : Edition) (B T : List ℕ) (o : ℕ) (here : drop o B ≡ T) 
         reads = gives _ (changes (ap state_by r.reads));
         at = skip T (p + 1) (held_bytes h.waiting) zs behind_it;
         none = refl;
-        texts = append-nil (map (text_at B) (h.bodies ++ r.spans)) ∙ map-append (text_at B) h.bodies r.spans ∙ ap (λ r. map (text_at B) h.bodies ++ r) r.texts;
+        texts = append-nil (map (text_at B) (h.bodies ++ r.spans)) ∙ map-append (text_at B) h.bodies r.spans
+            ∙ ap (λ r. map (text_at B) h.bodies ++ r) r.texts;
       }

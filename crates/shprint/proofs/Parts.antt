@@ -21,20 +21,25 @@ list_seen l = search (rules, fold_out-List)
 -- ---- parts printed one after the other
 
 -- three parts, of which the last has two
-pub written_parts : (t : Sheet) (ms ns os ps : Marks) → written (written (written t ms) ns) (os ++ ps) ≡ written t (ms ++ ns ++ os ++ ps)
-written_parts t ms ns os ps = rw (written_append t ms ns, written_append t (ms ++ ns) (os ++ ps)) (ap (written t) (sym (append_assoc (ms ++ ns) os ps)))
+pub written_parts : (t : Sheet) (ms ns os ps : Marks) →
+    written (written (written t ms) ns) (os ++ ps) ≡ written t (ms ++ ns ++ os ++ ps)
+written_parts t ms ns os ps = rw (written_append t ms ns, written_append t (ms ++ ns) (os ++ ps))
+    (ap (written t) (sym (append_assoc (ms ++ ns) os ps)))
 
 -- the parts of an item of a `case`, and what ends it
 written_item : (t : Sheet) (m closer : Text) (comments patterns body tail : Marks)
-    → written (written (written (written (written (written t comments) (text m ∷ [])) patterns) (text closer ∷ [])) body) tail
+    → written (written (written (written (written (written t comments) (text m ∷ [])) patterns) (text closer ∷ []))
+    body) tail
     ≡ written t (comments ++ (text m ∷ patterns ++ (text closer ∷ body ++ tail)))
 written_item t m closer comments patterns body tail = grind (arith, written_append, written_cons)
 
 pub written_case : (t : Sheet) (m closer ender : Text) (comments patterns body : Marks)
-    → written (written (written (written (written (written (written t comments) (text m ∷ [])) patterns) (text closer ∷ [])) body) (text ender ∷ [])) (line_end ∷ [])
+    → written (written (written (written (written (written (written t comments) (text m ∷ [])) patterns)
+    (text closer ∷ [])) body) (text ender ∷ [])) (line_end ∷ [])
     ≡ written t (comments ++ (text m ∷ patterns ++ (text closer ∷ body ++ (text ender ∷ line_end ∷ []))))
 written_case t m closer ender comments patterns body =
-    written_append _ (text ender ∷ []) (line_end ∷ []) ∙ written_item t m closer comments patterns body (text ender ∷ line_end ∷ [])
+    written_append _ (text ender ∷ []) (line_end ∷ [])
+    ∙ written_item t m closer comments patterns body (text ender ∷ line_end ∷ [])
 
 -- where no here-document is
 pub here_none : (w : Shape AWordOf) → print_here w None ≡ []
@@ -42,7 +47,8 @@ here_none (word t substs) = refl
 
 -- the parts of a `case`
 pub written_esac : (t : Sheet) (a b m e : Text) (ws cases tail : Marks)
-    → written (written (written (written t (text a ∷ ws ++ (text b ∷ line_end ∷ []))) (cases ++ tail)) (text m ∷ [])) (text e ∷ [])
+    → written (written (written (written t (text a ∷ ws ++ (text b ∷ line_end ∷ []))) (cases ++ tail)) (text m ∷ []))
+    (text e ∷ [])
     ≡ written t (text a ∷ ws ++ (text b ∷ line_end ∷ cases ++ tail ++ (text m ∷ text e ∷ [])))
 written_esac t a b m e ws cases tail =
     let head = text a ∷ ws ++ (text b ∷ line_end ∷ []) in
@@ -50,7 +56,8 @@ written_esac t a b m e ws cases tail =
     written_append (written (written t head) (cases ++ tail)) (text m ∷ []) (text e ∷ [])
     ∙ ap (λ s. written s ends) (written_append t head (cases ++ tail))
     ∙ written_append t (head ++ (cases ++ tail)) ends
-    ∙ ap (written t) (append_assoc head (cases ++ tail) ends ∙ ap (λ r. text a ∷ r) (append_assoc ws (text b ∷ line_end ∷ []) ((cases ++ tail) ++ ends)))
+    ∙ ap (written t) (append_assoc head (cases ++ tail) ends
+    ∙ ap (λ r. text a ∷ r) (append_assoc ws (text b ∷ line_end ∷ []) ((cases ++ tail) ++ ends)))
 
 -- ---- margins that are cut to what they were
 
@@ -71,13 +78,15 @@ one_alone (entry (remark r) false blank None) = refl
 one_alone (entry (remark r) false blank (Some c)) = refl
 one_alone (entry (remark r) true blank c) = refl
 
-pub one_of_two : (e f : Shape AnEntryOf) (es : Shape EntriesOf) → is_one_line (more_entries e (more_entries f es)) ≡ false
+pub one_of_two : (e f : Shape AnEntryOf) (es : Shape EntriesOf) →
+    is_one_line (more_entries e (more_entries f es)) ≡ false
 one_of_two (entry (command a) false blank None) f es = refl
 one_of_two (entry (command a) false blank (Some c)) f es = refl
 one_of_two (entry (command a) true blank c) f es = refl
 one_of_two (entry (remark r) background blank c) f es = refl
 
-pub one_of_many : (B : List ℕ) (es : Row Entry) → 1 < length es → is_one_line (shape_of B (entries_of (map view_entry es))) ≡ false
+pub one_of_many : (B : List ℕ) (es : Row Entry) → 1 < length es →
+    is_one_line (shape_of B (entries_of (map view_entry es))) ≡ false
 one_of_many B [] lt = absurd (omega (arith, lt))
 one_of_many B (e ∷ []) lt = absurd (omega (arith, lt))
 one_of_many B (e ∷ f ∷ es) lt = one_of_two _ _ _
@@ -89,7 +98,8 @@ module _ (B : List ℕ) (y : Layout) (m : Text) where
 
   -- ---- the body of an item of a `case`
 
-  pub body_none : (es : Row Entry) → length es ≡ 0 → print_body y m (shape_of B (entries_of (map view_entry es))) ≡ one (codes " ")
+  pub body_none : (es : Row Entry) → length es ≡ 0 →
+      print_body y m (shape_of B (entries_of (map view_entry es))) ≡ one (codes " ")
   body_none [] e = refl
   body_none (x ∷ es) e = absurd (omega (arith, e))
 
@@ -100,12 +110,14 @@ module _ (B : List ℕ) (y : Layout) (m : Text) where
 
   -- ---- before the body of a function
 
-  pub gap_none : (body : Shape ACompoundOf) (cs : Row Comment) → length cs ≡ 0 → print_function_gap y m (shape_of_comments B (map view_comment cs)) body
+  pub gap_none : (body : Shape ACompoundOf) (cs : Row Comment) → length cs ≡ 0 →
+      print_function_gap y m (shape_of_comments B (map view_comment cs)) body
       ≡ (if y.func_next_line && is_brace body then line_end ∷ text m ∷ [] else one (codes " "))
   gap_none body [] e = refl
   gap_none body (c ∷ cs) e = absurd (omega (arith, e))
 
-  pub gap_some : (body : Shape ACompoundOf) (cs : Row Comment) → 0 < length cs → print_function_gap y m (shape_of_comments B (map view_comment cs)) body
+  pub gap_some : (body : Shape ACompoundOf) (cs : Row Comment) → 0 < length cs →
+      print_function_gap y m (shape_of_comments B (map view_comment cs)) body
       ≡ print_comments m (shape_of_comments B (map view_comment cs)) ++ (line_end ∷ text m ∷ [])
   gap_some body [] lt = absurd (omega (arith, lt))
   gap_some body (c ∷ cs) lt = refl

@@ -42,7 +42,8 @@ module _ (edition : Edition) (y : Layout) (B : List ℕ) where
       record { value = []; told = r.reads.passes; reads = last_line [] _ r.reads.passes r.reads.reads; shape = refl }
 
   -- one entry more in front
-  entry_read : (so : SoFar) (p : ℕ) (x : Shape AnEntryOf) (es : Shape EntriesOf) (rest : Marks) (one : EntryLine edition B (drop p B) p refl (is_blank_line so) x rest)
+  entry_read : (so : SoFar) (p : ℕ) (x : Shape AnEntryOf) (es : Shape EntriesOf) (rest : Marks)
+      (one : EntryLine edition B (drop p B) p refl (is_blank_line so) x rest)
       → ScriptRead (with_line so (one.value ∷ [])) (p + one.line.f) es → ScriptRead so p (more_entries x es)
   entry_read so p x es rest one others =
       let v = one.value in
@@ -50,11 +51,13 @@ module _ (edition : Edition) (y : Layout) (B : List ℕ) where
       record {
         value = v ∷ others.value;
         told = one.line.reads.passes ++ others.told;
-        reads = subst (λ all. Lines edition B so p (record { entries = entries_of all; wrong = None }) (one.line.reads.passes ++ others.told)) (append_assoc so.entries (v ∷ []) others.value) all;
+        reads = subst (λ all. Lines edition B so p (record { entries = entries_of all; wrong = None })
+            (one.line.reads.passes ++ others.told)) (append_assoc so.entries (v ∷ []) others.value) all;
         shape = shapes v others.value x es one.shape others.shape;
       }
     where
-      shapes : (v : AnEntry) (vs : Row AnEntry) (x : Shape AnEntryOf) (es : Shape EntriesOf) → shape_of_entry B v ≡ x → shape_of B (entries_of vs) ≡ es → shape_of B (entries_of (v ∷ vs)) ≡ more_entries x es
+      shapes : (v : AnEntry) (vs : Row AnEntry) (x : Shape AnEntryOf) (es : Shape EntriesOf) → shape_of_entry B v ≡ x →
+          shape_of B (entries_of vs) ≡ es → shape_of B (entries_of (v ∷ vs)) ≡ more_entries x es
       shapes v vs x es e f = rw (e, f) refl
 
   and_false : (b : Bool) (c : Bool) → b ≡ false → (b && c) ≡ false
@@ -69,43 +72,63 @@ module _ (edition : Edition) (y : Layout) (B : List ℕ) where
   blank_first (x ∷ xs) e = refl
 
   -- an entry from the beginning of its line on
-  from_margin : (so : SoFar) (p : ℕ) (what : Shape AContentOf) (background blank : Bool) (comment : Option Text) (es : Shape EntriesOf) → GoodEntries edition most_open (more_entries (entry what background blank comment) es)
+  from_margin : (so : SoFar) (p : ℕ) (what : Shape AContentOf) (background blank : Bool) (comment : Option Text)
+      (es : Shape EntriesOf) → GoodEntries edition most_open (more_entries (entry what background blank comment) es)
       → are_normal (more_entries (entry what background blank comment) es) ≡ true → is_blank_line so ≡ blank
-      → At p (text [] ∷ (print_content y [] what ++ entry_rest edition B (drop p B) p refl most_open y (fine edition B (drop p B) p refl y most_open) background comment (print_entries y [] es)))
-      → ((to : SoFar) (q : ℕ) → to.gap ≡ false → is_empty to.entries ≡ false → At q (print_entries y [] es) → ScriptRead to q es)
+      → At p (text [] ∷ (print_content y [] what
+      ++ entry_rest edition B (drop p B) p refl most_open y
+      (fine edition B (drop p B) p refl y most_open) background comment (print_entries y [] es)))
+      → ((to : SoFar) (q : ℕ) → to.gap ≡ false → is_empty to.entries ≡ false → At q (print_entries y [] es) →
+      ScriptRead to q es)
       → ScriptRead so p (more_entries (entry what background blank comment) es)
   from_margin so p what background blank comment es good normal blank_is at others =
-      let one = entry_line edition B (drop p B) p refl y blank what background comment (print_entries y [] es) good.0.0 good.0.1 (and_parts _ _ normal).0 at in
-      let one_so = subst (λ b. EntryLine edition B (drop p B) p refl b (entry what background blank comment) (print_entries y [] es)) (sym blank_is) one in
+      let one = entry_line edition B (drop p B) p refl y blank what background comment
+      (print_entries y [] es) good.0.0 good.0.1 (and_parts _ _ normal).0 at in
+      let one_so = subst (λ b. EntryLine edition B (drop p B) p refl b (entry what background blank comment)
+      (print_entries y [] es)) (sym blank_is) one in
       entry_read so p (entry what background blank comment) es (print_entries y [] es) one_so
-      (others (with_line so (one_so.value ∷ [])) (p + one_so.line.f) refl (filled so.entries one_so.value) (at_next p one_so.line.f (print_entries y [] es) one_so.line.at))
+      (others (with_line so (one_so.value ∷ [])) (p + one_so.line.f) refl (filled so.entries one_so.value)
+      (at_next p one_so.line.f (print_entries y [] es) one_so.line.at))
 
   -- what is printed for a list, from its first entry on
   marks_are : (p : ℕ) (what : Shape AContentOf) (background blank : Bool) (comment : Option Text) (es : Shape EntriesOf)
       → print_entries y [] (more_entries (entry what background blank comment) es)
-      ≡ print_blank blank ++ (text [] ∷ (print_content y [] what ++ entry_rest edition B (drop p B) p refl most_open y (fine edition B (drop p B) p refl y most_open) background comment (print_entries y [] es)))
+      ≡ print_blank blank ++ (text []
+      ∷ (print_content y [] what ++ entry_rest edition B (drop p B) p refl most_open y
+      (fine edition B (drop p B) p refl y most_open) background comment (print_entries y [] es)))
   marks_are p what background blank comment es =
       let all = print_entries y [] (more_entries (entry what background blank comment) es) in
-      let one = entry_marks edition B (drop p B) p refl most_open y (fine edition B (drop p B) p refl y most_open) [] what background blank comment es [] in
-      sym (append-nil all) ∙ one ∙ ap (λ more. print_blank blank ++ (text [] ∷ (print_content y [] what ++ entry_rest edition B (drop p B) p refl most_open y (fine edition B (drop p B) p refl y most_open) background comment more))) (append-nil (print_entries y [] es))
+      let one = entry_marks edition B (drop p B) p refl most_open y
+      (fine edition B (drop p B) p refl y most_open) [] what background blank comment es [] in
+      sym (append-nil all) ∙ one ∙ ap
+      (λ more. print_blank blank ++
+      (text [] ∷ (print_content y [] what
+      ++ entry_rest edition B (drop p B) p refl most_open y
+      (fine edition B (drop p B) p refl y most_open) background comment more))) (append-nil (print_entries y [] es))
 
   -- behind an empty line
-  blank_read : (so : SoFar) (p : ℕ) (es : Shape EntriesOf) (rest : Marks) (line : ScriptLine edition B (drop p B) p refl (is_blank_line so) [] true rest) → ScriptRead (with_line so []) (p + line.f) es → ScriptRead so p es
+  blank_read : (so : SoFar) (p : ℕ) (es : Shape EntriesOf) (rest : Marks)
+      (line : ScriptLine edition B (drop p B) p refl (is_blank_line so) [] true rest) →
+      ScriptRead (with_line so []) (p + line.f) es → ScriptRead so p es
   blank_read so p es rest line others =
       let all = line_ended [] _ line.reads.passes line.reads.reads others.reads in
       record {
         value = others.value;
         told = line.reads.passes ++ others.told;
-        reads = subst (λ all. Lines edition B so p (record { entries = entries_of (all ++ others.value); wrong = None }) (line.reads.passes ++ others.told)) (append-nil so.entries) all;
+        reads = subst (λ all. Lines edition B so p (record { entries = entries_of (all ++ others.value); wrong = None })
+            (line.reads.passes ++ others.told)) (append-nil so.entries) all;
         shape = others.shape;
       }
 
-  lines_read : (es : Shape EntriesOf) (so : SoFar) (p : ℕ) → GoodEntries edition most_open es → are_normal es ≡ true → (is_empty so.entries ≡ true → first_not_blank es ≡ true) → so.gap ≡ false
+  lines_read : (es : Shape EntriesOf) (so : SoFar) (p : ℕ) → GoodEntries edition most_open es → are_normal es ≡ true →
+      (is_empty so.entries ≡ true → first_not_blank es ≡ true) → so.gap ≡ false
       → At p (print_entries y [] es) → ScriptRead so p es
   lines_read no_entry so p good normal first gap at = end_read so p at
   lines_read (more_entries (entry what background false comment) es) so p good normal first gap at =
-      from_margin so p what background false comment es good normal (and_false so.gap _ gap) (at ∙ ap laid (marks_are p what background false comment es))
-      (λ to q none some there. lines_read es to q good.1 (and_parts _ _ normal).1 (λ e. absurd (both_ways (is_empty to.entries) some e)) none there)
+      from_margin so p what background false comment es good normal (and_false so.gap _ gap)
+      (at ∙ ap laid (marks_are p what background false comment es))
+      (λ to q none some there. lines_read es to q good.1 (and_parts _ _ normal).1
+      (λ e. absurd (both_ways (is_empty to.entries) some e)) none there)
   lines_read (more_entries (entry what background true comment) es) so p good normal first gap at =
       let more_at = at ∙ ap laid (marks_are p what background true comment es) in
       let line = blank_line_read edition B (drop p B) p refl y (is_blank_line so) _ more_at in
@@ -116,20 +139,31 @@ module _ (edition : Edition) (y : Layout) (B : List ℕ) where
       let blank_is : is_blank_line to ≡ true = ap not none_before in
       blank_read so p (more_entries (entry what background true comment) es) _ line
       (from_margin to q what background true comment es good normal blank_is (at_next p line.f _ line.at)
-      (λ to q none some there. lines_read es to q good.1 (and_parts _ _ normal).1 (λ e. absurd (both_ways (is_empty to.entries) some e)) none there))
+      (λ to q none some there. lines_read es to q good.1 (and_parts _ _ normal).1
+      (λ e. absurd (both_ways (is_empty to.entries) some e)) none there))
 
-pub reads_back : (edition : Edition) (y : Layout) (B : List ℕ) (s : AScript) → Outcome edition B s → ReadsBack edition (printed y (shape_of B s.entries)) (shape_of B s.entries)
+pub reads_back : (edition : Edition) (y : Layout) (B : List ℕ) (s : AScript) → Outcome edition B s →
+    ReadsBack edition (printed y (shape_of B s.entries)) (shape_of B s.entries)
 reads_back edition y B s is =
     let es = shape_of B s.entries in
     let T = printed y es in
-    let normal = and_parts _ _ (same_form B s.entries ∙ script_in_normal_form edition B s (script_only edition B s is)) in
-    let r = lines_read edition y T es nothing_yet 0 (script_readable edition B s is) normal.1 (λ none. normal.0) refl refl in
+    let normal = and_parts _ _ (same_form B s.entries
+    ∙ script_in_normal_form edition B s (script_only edition B s is)) in
+    let r = lines_read edition y T es nothing_yet 0 (script_readable edition B s is) normal.1
+    (λ none. normal.0) refl refl in
     let found : AScript = record { entries = entries_of r.value; wrong = None } in
     let outcome : Outcome edition T found = (r.told, r.reads) in
-    record { script = found; outcome = outcome; faultless = refl; same = r.shape; only = λ other o. script_only edition T other o ∙ sym (script_only edition T found outcome) }
+    record {
+      script = found;
+      outcome = outcome;
+      faultless = refl;
+      same = r.shape;
+      only = λ other o. script_only edition T other o ∙ sym (script_only edition T found outcome);
+    }
 
 -- printing again gives the same bytes
-pub prints_the_same : (edition : Edition) (y : Layout) (B : List ℕ) (s t : AScript) → Outcome edition B s → Outcome edition (printed y (shape_of B s.entries)) t
+pub prints_the_same : (edition : Edition) (y : Layout) (B : List ℕ) (s t : AScript) → Outcome edition B s →
+    Outcome edition (printed y (shape_of B s.entries)) t
     → printed y (shape_of (printed y (shape_of B s.entries)) t.entries) ≡ printed y (shape_of B s.entries)
 prints_the_same edition y B s t is read =
     let back = reads_back edition y B s is in

@@ -21,14 +21,16 @@ module _ {A : Type 0} (f : A → Marks) where
   marks_from (x ∷ xs) (suc i) = marks_from xs i
 
   module _ {X : Type 0} (v : X → A) where
-    from_suc : (xs : Row X) (i : ℕ) (d : X) → i < length xs → marks_from (map v xs) i ≡ f (v (get_or xs i d)) ++ marks_from (map v xs) (suc i)
+    from_suc : (xs : Row X) (i : ℕ) (d : X) → i < length xs →
+        marks_from (map v xs) i ≡ f (v (get_or xs i d)) ++ marks_from (map v xs) (suc i)
     unfolding marks_from
     from_suc [] i d h = absurd (omega arith)
     from_suc (x ∷ xs) zero d h = refl
     from_suc (x ∷ xs) (suc i) d h = from_suc xs i d (omega arith)
 
     -- one part more
-    pub from_more : (xs : Row X) (i : ℕ) (d : X) → i < length xs → marks_from (map v xs) i ≡ f (v (get_or xs i d)) ++ marks_from (map v xs) (i + 1)
+    pub from_more : (xs : Row X) (i : ℕ) (d : X) → i < length xs →
+        marks_from (map v xs) i ≡ f (v (get_or xs i d)) ++ marks_from (map v xs) (i + 1)
     from_more xs i d h = rw add-one (from_suc xs i d h)
 
     -- past the last part nothing is left
@@ -62,12 +64,14 @@ module _ (B : List ℕ) (y : Layout) (m : Text) where
   abbrev pub case_marks : ACaseItem → Marks
   case_marks c = print_case y m (shape_of_case B c)
 
-  pub comment_lines_are : (cs : Row Span) → print_comment_lines m (shape_of_comments B cs) ≡ marks_from comment_line cs 0
+  pub comment_lines_are : (cs : Row Span) →
+      print_comment_lines m (shape_of_comments B cs) ≡ marks_from comment_line cs 0
   unfolding marks_from
   comment_lines_are [] = refl
   comment_lines_are (c ∷ cs) = ap (λ r. comment_line c ++ r) (comment_lines_are cs)
 
-  pub further_comments_are : (cs : Row Span) → print_further_comments m (shape_of_comments B cs) ≡ marks_from further_comment cs 0
+  pub further_comments_are : (cs : Row Span) →
+      print_further_comments m (shape_of_comments B cs) ≡ marks_from further_comment cs 0
   unfolding marks_from
   further_comments_are [] = refl
   further_comments_are (c ∷ cs) = ap (λ r. further_comment c ++ r) (further_comments_are cs)
@@ -77,7 +81,8 @@ module _ (B : List ℕ) (y : Layout) (m : Text) where
   items_are [] = refl
   items_are (i ∷ is) = ap (λ r. item_marks i ++ r) (items_are is)
 
-  pub patterns_are : (ws : Row AWord) → print_patterns (shape_of_patterns B (patterns_of ws)) ≡ marks_from pattern_marks ws 0
+  pub patterns_are : (ws : Row AWord) →
+      print_patterns (shape_of_patterns B (patterns_of ws)) ≡ marks_from pattern_marks ws 0
   unfolding marks_from
   patterns_are [] = refl
   patterns_are (w ∷ ws) = ap (λ r. pattern_marks w ++ r) (patterns_are ws)
@@ -87,7 +92,8 @@ module _ (B : List ℕ) (y : Layout) (m : Text) where
   entries_are [] = refl
   entries_are (e ∷ es) = ap (λ r. entry_marks e ++ r) (entries_are es)
 
-  pub branches_are : (bs : Row ABranch) → print_branches y m (shape_of_branches B (branches_of bs)) ≡ marks_from branch_marks bs 0
+  pub branches_are : (bs : Row ABranch) →
+      print_branches y m (shape_of_branches B (branches_of bs)) ≡ marks_from branch_marks bs 0
   unfolding marks_from
   branches_are [] = refl
   branches_are (b ∷ bs) = ap (λ r. branch_marks b ++ r) (branches_are bs)
@@ -100,39 +106,54 @@ module _ (B : List ℕ) (y : Layout) (m : Text) where
   -- ---- chains: what is left of them, where the line was broken before or not
 
   abbrev pub parts_left : Bool → Row AndOrPart → Marks
-  parts_left broken ps = print_and_or_parts y m broken (shape_of_and_or_parts B (and_or_parts_of (map view_and_or_part ps)))
+  parts_left broken ps = print_and_or_parts y m broken
+      (shape_of_and_or_parts B (and_or_parts_of (map view_and_or_part ps)))
 
   abbrev pub pipes_left : Bool → Row PipelinePart → Marks
   pipes_left broken ps = print_pipes y m broken (shape_of_pipes B (pipeline_parts_of (map view_pipeline_part ps)))
 
   join_with : (operator : Text) (broken b : Bool) (cs : Row Text)
-      → Path Marks (text (codes " ") ∷ text operator ∷ (if b then print_comments (deeper y m) cs ++ (line_end ∷ text (deeper y m) ∷ []) else one (codes " ")))
-      (text (codes " ") ∷ text operator ∷ (if b then print_comments (operand_margin y m (broken || b)) cs ++ (line_end ∷ text (operand_margin y m (broken || b)) ∷ []) else one (codes " ")))
+      → Path Marks (text (codes " ") ∷ text operator
+      ∷ (if b then print_comments (deeper y m) cs ++ (line_end ∷ text (deeper y m) ∷ []) else one (codes " ")))
+      (text (codes " ") ∷ text operator
+      ∷ (if b then print_comments (operand_margin y m (broken || b)) cs
+      ++ (line_end ∷ text (operand_margin y m (broken || b)) ∷ []) else one (codes " ")))
   join_with operator true true cs = refl
   join_with operator true false cs = refl
   join_with operator false true cs = refl
   join_with operator false false cs = refl
 
   -- an operator before an operand at the operand's margin
-  pub join_at : (operator : Text) (broken : Bool) (j : AJoinOf Text) → print_join y m operator j ≡ print_join_on (operand_margin y m (broken || breaks_line j)) operator j
+  pub join_at : (operator : Text) (broken : Bool) (j : AJoinOf Text) →
+      print_join y m operator j ≡ print_join_on (operand_margin y m (broken || breaks_line j)) operator j
   join_at operator broken j = join_with operator broken (breaks_line j) j.comments
 
   pub parts_end : (broken : Bool) (ps : Row AndOrPart) (i : ℕ) → length ps ≤ i → parts_left broken (drop i ps) ≡ []
   parts_end broken ps i le = at_drop_all (parts_left broken) ps i le
 
   pub parts_more : (broken : Bool) (ps : Row AndOrPart) (i : ℕ) (d : AndOrPart) → i < length ps
-      → let p = view_and_or_part (get_or ps i d) in let j = shape_of_join B p.join in let deep = operand_margin y m (broken || breaks_line j) in
-      parts_left broken (drop i ps) ≡ print_join_on deep (and_or_text p.operator) j ++ print_pipeline y deep (shape_of_pipeline B p.pipeline) ++ parts_left (broken || breaks_line j) (drop (i + 1) ps)
+      → let p = view_and_or_part (get_or ps i d) in let j = shape_of_join B p.join in
+      let deep = operand_margin y m (broken || breaks_line j) in
+      parts_left broken (drop i ps) ≡ print_join_on deep (and_or_text p.operator) j
+      ++ print_pipeline y deep (shape_of_pipeline B p.pipeline)
+      ++ parts_left (broken || breaks_line j) (drop (i + 1) ps)
   parts_more broken ps i d lt = at_drop_more (parts_left broken) ps i d lt
-      ∙ (let p = view_and_or_part (get_or ps i d) in let j = shape_of_join B p.join in let deep = operand_margin y m (broken || breaks_line j) in
-      ap (λ r. r ++ print_pipeline y deep (shape_of_pipeline B p.pipeline) ++ parts_left (broken || breaks_line j) (drop (i + 1) ps)) (join_at (and_or_text p.operator) broken j))
+      ∙ (let p = view_and_or_part (get_or ps i d) in let j = shape_of_join B p.join in
+      let deep = operand_margin y m (broken || breaks_line j) in
+      ap (λ r. r ++ print_pipeline y deep (shape_of_pipeline B p.pipeline)
+      ++ parts_left (broken || breaks_line j) (drop (i + 1) ps)) (join_at (and_or_text p.operator) broken j))
 
   pub pipes_end : (broken : Bool) (ps : Row PipelinePart) (i : ℕ) → length ps ≤ i → pipes_left broken (drop i ps) ≡ []
   pipes_end broken ps i le = at_drop_all (pipes_left broken) ps i le
 
   pub pipes_more : (broken : Bool) (ps : Row PipelinePart) (i : ℕ) (d : PipelinePart) → i < length ps
-      → let p = view_pipeline_part (get_or ps i d) in let j = shape_of_join B p.join in let deep = operand_margin y m (broken || breaks_line j) in
-      pipes_left broken (drop i ps) ≡ print_join_on deep (codes "|") j ++ print_command y deep (shape_of_command B p.command) ++ pipes_left (broken || breaks_line j) (drop (i + 1) ps)
+      → let p = view_pipeline_part (get_or ps i d) in let j = shape_of_join B p.join in
+      let deep = operand_margin y m (broken || breaks_line j) in
+      pipes_left broken (drop i ps) ≡ print_join_on deep (codes "|") j
+      ++ print_command y deep (shape_of_command B p.command)
+      ++ pipes_left (broken || breaks_line j) (drop (i + 1) ps)
   pipes_more broken ps i d lt = at_drop_more (pipes_left broken) ps i d lt
-      ∙ (let p = view_pipeline_part (get_or ps i d) in let j = shape_of_join B p.join in let deep = operand_margin y m (broken || breaks_line j) in
-      ap (λ r. r ++ print_command y deep (shape_of_command B p.command) ++ pipes_left (broken || breaks_line j) (drop (i + 1) ps)) (join_at (codes "|") broken j))
+      ∙ (let p = view_pipeline_part (get_or ps i d) in let j = shape_of_join B p.join in
+      let deep = operand_margin y m (broken || breaks_line j) in
+      ap (λ r. r ++ print_command y deep (shape_of_command B p.command)
+      ++ pipes_left (broken || breaks_line j) (drop (i + 1) ps)) (join_at (codes "|") broken j))

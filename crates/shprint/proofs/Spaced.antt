@@ -30,29 +30,35 @@ module _ (B : Text) where
 
   module _ (y : Layout) (m : Text) where
     -- a word one blank behind another
-    pub word_is : (i : Shape AnItemOf) (at : ℕ) (s : Span) → is_broken_item i ≡ false → print_item y i ≡ text (text_at B s) ∷ [] → slice_get B at ≡ Some 32 → s.start ≡ at + 1
+    pub word_is : (i : Shape AnItemOf) (at : ℕ) (s : Span) → is_broken_item i ≡ false →
+        print_item y i ≡ text (text_at B s) ∷ [] → slice_get B at ≡ Some 32 → s.start ≡ at + 1
         → s.start ≤ s.«end» → (t : Sheet) → written t (item_behind y m i) ≡ written t (one (stretch B at s.«end»))
     unfolding written laid_behind held_behind
     word_is i at s unbroken printed blank next some t =
         let before : at < s.«end» = omega (arith, next, some) in
-        let told : stretch B at s.«end» ≡ 32 ∷ text_at B s = taken B at s.«end» 32 blank before ∙ ap (λ r. 32 ∷ r) (rw (← next) refl) in
+        let told : stretch B at s.«end» ≡ 32 ∷ text_at B s = taken B at s.«end» 32 blank before
+        ∙ ap (λ r. 32 ∷ r) (rw (← next) refl) in
         rw (unbroken, printed, told) refl
 
     abbrev items_marks : List Item → Marks
     items_marks is = print_items y m (shape_of_items B (items_of (map view_item is)))
 
-    pub none_passed : (a : ℕ) (is : List Item) (t : Sheet) → written t (items_marks is) ≡ written t (text (stretch B a a) ∷ items_marks is)
+    pub none_passed : (a : ℕ) (is : List Item) (t : Sheet) →
+        written t (items_marks is) ≡ written t (text (stretch B a a) ∷ items_marks is)
     unfolding written laid_behind held_behind
     none_passed a is t = rw (none_more a) refl
 
     -- two texts, one behind the other, are one
-    texts_join : (t : Sheet) (x z : Text) (ms : Marks) → written t (text x ∷ text z ∷ ms) ≡ written t (text (x ++ z) ∷ ms)
+    texts_join : (t : Sheet) (x z : Text) (ms : Marks) →
+        written t (text x ∷ text z ∷ ms) ≡ written t (text (x ++ z) ∷ ms)
     unfolding written laid_behind held_behind
     texts_join t x z ms = rw append_assoc refl
 
     -- one word more
-    pub one_passed : (a b c : ℕ) (before : Marks) (i : Item) (is : List Item) → a ≤ b → b ≤ c → ((t : Sheet) → written t before ≡ written t (text (stretch B a b) ∷ items_marks (i ∷ is)))
-        → ((t : Sheet) → written t (item_behind y m (shape_of_item B (view_item i))) ≡ written t (one (stretch B b c))) → (t : Sheet) → written t before ≡ written t (text (stretch B a c) ∷ items_marks is)
+    pub one_passed : (a b c : ℕ) (before : Marks) (i : Item) (is : List Item) → a ≤ b → b ≤ c →
+        ((t : Sheet) → written t before ≡ written t (text (stretch B a b) ∷ items_marks (i ∷ is)))
+        → ((t : Sheet) → written t (item_behind y m (shape_of_item B (view_item i))) ≡ written t (one (stretch B b c)))
+        → (t : Sheet) → written t before ≡ written t (text (stretch B a c) ∷ items_marks is)
     one_passed a b c before i is ab bc so_far word t =
         let behind = item_behind y m (shape_of_item B (view_item i)) in
         let from = written t (one (stretch B a b)) in
@@ -66,10 +72,14 @@ module _ (B : Text) where
         ∙ ap (λ r. written t (text r ∷ items_marks is)) (sym (stretches a b c ab bc))
 
     -- words, and the items behind them
-    pub simple_printed : (t : Sheet) (s : Span) (past : ℕ) (i : Item) (is others : List Item) → print_item y (shape_of_item B (view_item i)) ≡ text (text_at B s) ∷ []
-        → s.start ≤ s.«end» → s.«end» ≤ past → ((t : Sheet) → written t (items_marks is) ≡ written t (text (stretch B s.«end» past) ∷ items_marks others))
-        → written (written t (text (stretch B s.start past) ∷ [])) (print_items y m (shape_of_items B (items_of (map view_item others))))
-        ≡ written t (print_item y (shape_of_item B (view_item i)) ++ print_items y m (shape_of_items B (items_of (map view_item is))))
+    pub simple_printed : (t : Sheet) (s : Span) (past : ℕ) (i : Item) (is others : List Item) →
+        print_item y (shape_of_item B (view_item i)) ≡ text (text_at B s) ∷ []
+        → s.start ≤ s.«end» → s.«end» ≤ past →
+        ((t : Sheet) → written t (items_marks is) ≡ written t (text (stretch B s.«end» past) ∷ items_marks others))
+        → written (written t (text (stretch B s.start past) ∷ []))
+        (print_items y m (shape_of_items B (items_of (map view_item others))))
+        ≡ written t (print_item y (shape_of_item B (view_item i))
+        ++ print_items y m (shape_of_items B (items_of (map view_item is))))
     simple_printed t s past i is others printed some on passed =
         let first = text_at B s in
         let from = written t (one first) in

@@ -44,10 +44,12 @@ pub text_here : (T : List ℕ) (p : ℕ) (xs ys : List ℕ) → drop p T ≡ xs 
 text_here T p xs ys at = ap (take (length xs)) at ∙ take_front xs ys
 
 pub first : (T : List ℕ) (p c : ℕ) (xs : List ℕ) → drop p T ≡ c ∷ xs → slice_get T p ≡ Some c
-first T p c xs at = let e : p + 0 ≡ p = omega arith in ap (slice_get T) (sym e) ∙ sym (get_drop p T 0) ∙ ap (λ z. slice_get z 0) at
+first T p c xs at = let e : p + 0 ≡ p = omega arith in
+    ap (slice_get T) (sym e) ∙ sym (get_drop p T 0) ∙ ap (λ z. slice_get z 0) at
 
 pub none_first : (T : List ℕ) (p : ℕ) → drop p T ≡ [] → slice_get T p ≡ None
-none_first T p at = let e : p + 0 ≡ p = omega arith in ap (slice_get T) (sym e) ∙ sym (get_drop p T 0) ∙ ap (λ (z : List ℕ). slice_get z 0) at
+none_first T p at = let e : p + 0 ≡ p = omega arith in
+    ap (slice_get T) (sym e) ∙ sym (get_drop p T 0) ∙ ap (λ (z : List ℕ). slice_get z 0) at
 
 pub next_one : (T : List ℕ) (p c : ℕ) (xs : List ℕ) → drop p T ≡ c ∷ xs → drop (p + 1) T ≡ xs
 next_one T p c xs at = skip T p (c ∷ []) xs at
@@ -65,7 +67,13 @@ unfolding raw_stands
 byte_here T p c xs clear at =
     let raw = first T p c xs at in
     let place : past_continuations T p ≡ p = joined_none T p (no_backslash T p (ap (λ x. is_byte x 92) raw ∙ clear)) in
-    record { raw = raw; place = place; byte = ap (slice_get T) place ∙ raw; behind_it = behind_is T p ∙ ap (λ q. q + 1) place; rest = next_one T p c xs at }
+    record {
+      raw = raw;
+      place = place;
+      byte = ap (slice_get T) place ∙ raw;
+      behind_it = behind_is T p ∙ ap (λ q. q + 1) place;
+      rest = next_one T p c xs at;
+    }
 
 pub in_class : {T : List ℕ} {p c : ℕ} {xs : List ℕ} (test : ℕ → Bool) → Reads T p c xs → stands_in test T p ≡ test c
 unfolding stands_in
@@ -95,7 +103,8 @@ pub start_here : {T : List ℕ} {p c : ℕ} {xs : List ℕ} → Reads T p c xs �
 start_here r e = record { place = r.place; no_blank = in_class is_blank r ∙ e }
 
 no_pair : (T : List ℕ) (p : ℕ) → past_continuations T p ≡ p → continues T p ≡ false
-no_pair T p at = must_fail (continues T p) (λ c. let more = joined_more T p c in let low = place_low T (p + 2) in absurd (omega (arith, at, more, low)))
+no_pair T p at = must_fail (continues T p)
+    (λ c. let more = joined_more T p c in let low = place_low T (p + 2) in absurd (omega (arith, at, more, low)))
 
 raw_read : (test : ℕ → Bool) (T : List ℕ) (p : ℕ) → past_continuations T p ≡ p → raw_in test T p ≡ stands_in test T p
 unfolding raw_in stands_in
@@ -109,18 +118,24 @@ pub no_gap : {T : List ℕ} {p : ℕ} → Start T p → Gap T p p false
 unfolding past_blanks is_broken_at
 no_gap {T = T} {p = p} s =
     let raw : raw_past is_blank T p ≡ p = raw_none is_blank T p (raw_read is_blank T p s.place ∙ s.no_blank) in
-    record { blanks = ap (past_continuations T) (past_none is_blank T p s.no_blank) ∙ s.place; breaks = ap (continues T) raw ∙ no_pair T p s.place }
+    record {
+      blanks = ap (past_continuations T) (past_none is_blank T p s.no_blank) ∙ s.place;
+      breaks = ap (continues T) raw ∙ no_pair T p s.place;
+    }
 
 blank_clear : (b : ℕ) → is_blank b ≡ true → (b == 92) ≡ false
 blank_clear b e = grind (arith, nat_tests)
 
 -- a blank, and then a gap
-pub blank_gap : {T : List ℕ} {p q b : ℕ} {xs : List ℕ} {broken : Bool} → is_blank b ≡ true → drop p T ≡ b ∷ xs → Gap T (p + 1) q broken → Gap T p q broken
+pub blank_gap : {T : List ℕ} {p q b : ℕ} {xs : List ℕ} {broken : Bool} → is_blank b ≡ true → drop p T ≡ b ∷ xs →
+    Gap T (p + 1) q broken → Gap T p q broken
 unfolding past_blanks is_broken_at
 blank_gap {T = T} {p = p} {b = b} {xs = xs} e at gap =
     let r = byte_here T p b xs (blank_clear b e) at in
-    let one : past is_blank T p ≡ past is_blank T (p + 1) = past_more is_blank T p (in_class is_blank r ∙ e) ∙ ap (past is_blank T) r.behind_it in
-    let raw : raw_past is_blank T p ≡ raw_past is_blank T (p + 1) = raw_more is_blank T p (raw_class T p b is_blank r.raw ∙ e) in
+    let one : past is_blank T p ≡ past is_blank T (p + 1) = past_more is_blank T p (in_class is_blank r ∙ e)
+    ∙ ap (past is_blank T) r.behind_it in
+    let raw : raw_past is_blank T p ≡ raw_past is_blank T (p + 1) =
+    raw_more is_blank T p (raw_class T p b is_blank r.raw ∙ e) in
     record { blanks = ap (past_continuations T) one ∙ gap.blanks; breaks = ap (continues T) raw ∙ gap.breaks }
 
 -- only blanks
@@ -128,19 +143,24 @@ abbrev pub all_blank : List ℕ → Bool
 all_blank [] = true
 all_blank (b ∷ bs) = is_blank b && all_blank bs
 
-pub blanks_gap : (T : List ℕ) (p : ℕ) (bs xs : List ℕ) → all_blank bs ≡ true → drop p T ≡ bs ++ xs → Start T (p + length bs) → Gap T p (p + length bs) false
-blanks_gap T p [] xs all at s = let e : p + 0 ≡ p = omega arith in subst (λ q. Gap T p q false) (sym e) (no_gap (subst (Start T) e s))
+pub blanks_gap : (T : List ℕ) (p : ℕ) (bs xs : List ℕ) → all_blank bs ≡ true → drop p T ≡ bs ++ xs →
+    Start T (p + length bs) → Gap T p (p + length bs) false
+blanks_gap T p [] xs all at s = let e : p + 0 ≡ p = omega arith in
+    subst (λ q. Gap T p q false) (sym e) (no_gap (subst (Start T) e s))
 blanks_gap T p (b ∷ bs) xs all at s =
     let parts = and_parts _ _ all in
     let e : p + 1 + length bs ≡ p + suc (length bs) = omega arith in
-    subst (λ q. Gap T p q false) e (blank_gap parts.0 at (blanks_gap T (p + 1) bs xs parts.1 (next_one T p b (bs ++ xs) at) (subst (Start T) (sym e) s)))
+    subst (λ q. Gap T p q false) e
+    (blank_gap parts.0 at (blanks_gap T (p + 1) bs xs parts.1 (next_one T p b (bs ++ xs) at)
+    (subst (Start T) (sym e) s)))
 
 raw_is : (T : List ℕ) (p c x : ℕ) → slice_get T p ≡ Some c → (c == x) ≡ true → raw_stands T p x ≡ true
 unfolding raw_stands
 raw_is T p c x raw e = ap (λ b. is_byte b x) raw ∙ e
 
 -- a continuation before blanks
-joined_gap : {T : List ℕ} {p q b : ℕ} {xs : List ℕ} → is_blank b ≡ true → drop p T ≡ 92 ∷ 10 ∷ b ∷ xs → Gap T (p + 2) q false → Gap T p q true
+joined_gap : {T : List ℕ} {p q b : ℕ} {xs : List ℕ} → is_blank b ≡ true → drop p T ≡ 92 ∷ 10 ∷ b ∷ xs →
+    Gap T (p + 2) q false → Gap T p q true
 unfolding past_blanks is_broken_at continues stands_in
 joined_gap {T = T} {p = p} {q = q} {b = b} {xs = xs} e at gap =
     let raw1 = first T p 92 _ at in
@@ -151,14 +171,17 @@ joined_gap {T = T} {p = p} {q = q} {b = b} {xs = xs} e at gap =
     let r = byte_here T (p + 2) b xs (blank_clear b e) (subst (λ r. drop r T ≡ b ∷ xs) two at2) in
     let pair : continues T p ≡ true = and_from _ _ (raw_is T p 92 92 raw1 refl) (raw_is T (p + 1) 10 10 raw2 refl) in
     let place : past_continuations T p ≡ p + 2 = joined_more T p pair ∙ r.place in
-    let blank : stands_in is_blank T p ≡ true = ap (λ q. passes is_blank (slice_get T q)) place ∙ ap (passes is_blank) r.raw ∙ e in
+    let blank : stands_in is_blank T p ≡ true = ap (λ q. passes is_blank (slice_get T q)) place
+    ∙ ap (passes is_blank) r.raw ∙ e in
     let behind_both : behind T p ≡ behind T (p + 2) = behind_is T p ∙ ap (λ q. q + 1) place ∙ sym r.behind_it in
-    let same : past is_blank T p ≡ past is_blank T (p + 2) = past_more is_blank T p blank ∙ ap (past is_blank T) behind_both ∙ sym (past_more is_blank T (p + 2) (in_class is_blank r ∙ e)) in
+    let same : past is_blank T p ≡ past is_blank T (p + 2) = past_more is_blank T p blank
+    ∙ ap (past is_blank T) behind_both ∙ sym (past_more is_blank T (p + 2) (in_class is_blank r ∙ e)) in
     let raw : raw_past is_blank T p ≡ p = raw_none is_blank T p (raw_class T p 92 is_blank raw1) in
     record { blanks = ap (past_continuations T) same ∙ gap.blanks; breaks = ap (continues T) raw ∙ pair }
 
 -- a blank, a continuation and blanks
-pub broken_gap : (T : List ℕ) (p b : ℕ) (bs xs : List ℕ) → all_blank (b ∷ bs) ≡ true → drop p T ≡ 32 ∷ 92 ∷ 10 ∷ b ∷ (bs ++ xs) → Start T (p + 3 + length (b ∷ bs))
+pub broken_gap : (T : List ℕ) (p b : ℕ) (bs xs : List ℕ) → all_blank (b ∷ bs) ≡ true →
+    drop p T ≡ 32 ∷ 92 ∷ 10 ∷ b ∷ (bs ++ xs) → Start T (p + 3 + length (b ∷ bs))
     → Gap T p (p + 3 + length (b ∷ bs)) true
 broken_gap T p b bs xs all at s =
     let at1 = next_one T p 32 _ at in
@@ -168,56 +191,72 @@ broken_gap T p b bs xs all at s =
     blank_gap refl at (joined_gap (and_parts _ _ all).0 at1 (subst (λ q. Gap T (p + 1 + 2) q false) e last))
 
 -- the next token behind a gap
-pub next_behind : {T : List ℕ} {p q : ℕ} {broken : Bool} (position : Position) → Gap T p q broken → next_at position T p ≡ record { token = token_at position T q; broken = broken }
+pub next_behind : {T : List ℕ} {p q : ℕ} {broken : Bool} (position : Position) → Gap T p q broken →
+    next_at position T p ≡ record { token = token_at position T q; broken = broken }
 next_behind position gap = rw (gap.blanks, gap.breaks) refl
 
 -- ---- tokens of one byte or two
 
-pub token_here : {T : List ℕ} {p c : ℕ} {xs : List ℕ} (position : Position) → Reads T p c xs → token_at position T p ≡ token_of position T p (Some c)
+pub token_here : {T : List ℕ} {p c : ℕ} {xs : List ℕ} (position : Position) → Reads T p c xs →
+    token_at position T p ≡ token_of position T p (Some c)
 unfolding token_at
 token_here {T = T} {p = p} position r = ap (token_of position T p) r.byte
 
-pub newline_token : (position : Position) (T : List ℕ) (p : ℕ) (xs : List ℕ) → drop p T ≡ 10 ∷ xs → token_at position T p ≡ tokens.Newline
+pub newline_token : (position : Position) (T : List ℕ) (p : ℕ) (xs : List ℕ) → drop p T ≡ 10 ∷ xs →
+    token_at position T p ≡ tokens.Newline
 newline_token position T p xs at = token_here position (byte_here T p 10 xs refl at)
 
-pub comment_token : (position : Position) (T : List ℕ) (p : ℕ) (xs : List ℕ) → drop p T ≡ 35 ∷ xs → token_at position T p ≡ tokens.Comment
+pub comment_token : (position : Position) (T : List ℕ) (p : ℕ) (xs : List ℕ) → drop p T ≡ 35 ∷ xs →
+    token_at position T p ≡ tokens.Comment
 comment_token position T p xs at = token_here position (byte_here T p 35 xs refl at)
 
-pub open_token : (position : Position) (T : List ℕ) (p : ℕ) (xs : List ℕ) → drop p T ≡ 40 ∷ xs → token_at position T p ≡ tokens.OpenParen
+pub open_token : (position : Position) (T : List ℕ) (p : ℕ) (xs : List ℕ) → drop p T ≡ 40 ∷ xs →
+    token_at position T p ≡ tokens.OpenParen
 open_token position T p xs at = token_here position (byte_here T p 40 xs refl at)
 
-pub close_token : (position : Position) (T : List ℕ) (p : ℕ) (xs : List ℕ) → drop p T ≡ 41 ∷ xs → token_at position T p ≡ tokens.CloseParen
+pub close_token : (position : Position) (T : List ℕ) (p : ℕ) (xs : List ℕ) → drop p T ≡ 41 ∷ xs →
+    token_at position T p ≡ tokens.CloseParen
 close_token position T p xs at = token_here position (byte_here T p 41 xs refl at)
 
 -- the byte behind this one
-second : {T : List ℕ} {p c d : ℕ} {xs : List ℕ} (x : ℕ) → (d == 92) ≡ false → Reads T p c (d ∷ xs) → stands T (behind T p) x ≡ (d == x)
-second {T = T} {p = p} {d = d} {xs = xs} x clear r = ap (λ q. stands T q x) r.behind_it ∙ is_here x (byte_here T (p + 1) d xs clear r.rest)
+second : {T : List ℕ} {p c d : ℕ} {xs : List ℕ} (x : ℕ) → (d == 92) ≡ false → Reads T p c (d ∷ xs) →
+    stands T (behind T p) x ≡ (d == x)
+second {T = T} {p = p} {d = d} {xs = xs} x clear r = ap (λ q. stands T q x) r.behind_it
+    ∙ is_here x (byte_here T (p + 1) d xs clear r.rest)
 
-pub semicolon_token : (position : Position) (T : List ℕ) (p d : ℕ) (xs : List ℕ) → (d == 92) ≡ false → (d == 59) ≡ false → (d == 38) ≡ false → drop p T ≡ 59 ∷ d ∷ xs → token_at position T p ≡ tokens.Semicolon
+pub semicolon_token : (position : Position) (T : List ℕ) (p d : ℕ) (xs : List ℕ) → (d == 92) ≡ false → (d == 59) ≡ false
+    → (d == 38) ≡ false → drop p T ≡ 59 ∷ d ∷ xs → token_at position T p ≡ tokens.Semicolon
 semicolon_token position T p d xs clear other no_ampersand at =
-    let r = byte_here T p 59 (d ∷ xs) refl at in token_here position r ∙ rw (second 59 clear r, other, second 38 clear r, no_ampersand) refl
+    let r = byte_here T p 59 (d ∷ xs) refl at in
+    token_here position r ∙ rw (second 59 clear r, other, second 38 clear r, no_ampersand) refl
 
-pub ampersand_token : (position : Position) (T : List ℕ) (p d : ℕ) (xs : List ℕ) → (d == 92) ≡ false → (d == 38) ≡ false → drop p T ≡ 38 ∷ d ∷ xs → token_at position T p ≡ tokens.Ampersand
+pub ampersand_token : (position : Position) (T : List ℕ) (p d : ℕ) (xs : List ℕ) → (d == 92) ≡ false → (d == 38) ≡ false
+    → drop p T ≡ 38 ∷ d ∷ xs → token_at position T p ≡ tokens.Ampersand
 ampersand_token position T p d xs clear other at =
     let r = byte_here T p 38 (d ∷ xs) refl at in token_here position r ∙ rw (second 38 clear r, other) refl
 
-pub pipe_token : (position : Position) (T : List ℕ) (p d : ℕ) (xs : List ℕ) → (d == 92) ≡ false → (d == 124) ≡ false → drop p T ≡ 124 ∷ d ∷ xs → token_at position T p ≡ tokens.Pipe
+pub pipe_token : (position : Position) (T : List ℕ) (p d : ℕ) (xs : List ℕ) → (d == 92) ≡ false → (d == 124) ≡ false →
+    drop p T ≡ 124 ∷ d ∷ xs → token_at position T p ≡ tokens.Pipe
 pipe_token position T p d xs clear other at =
     let r = byte_here T p 124 (d ∷ xs) refl at in token_here position r ∙ rw (second 124 clear r, other) refl
 
-pub and_token : (position : Position) (T : List ℕ) (p : ℕ) (xs : List ℕ) → drop p T ≡ 38 ∷ 38 ∷ xs → token_at position T p ≡ tokens.AndIf
+pub and_token : (position : Position) (T : List ℕ) (p : ℕ) (xs : List ℕ) → drop p T ≡ 38 ∷ 38 ∷ xs →
+    token_at position T p ≡ tokens.AndIf
 and_token position T p xs at =
     let r = byte_here T p 38 (38 ∷ xs) refl at in token_here position r ∙ rw (second 38 refl r) refl
 
-pub or_token : (position : Position) (T : List ℕ) (p : ℕ) (xs : List ℕ) → drop p T ≡ 124 ∷ 124 ∷ xs → token_at position T p ≡ tokens.OrIf
+pub or_token : (position : Position) (T : List ℕ) (p : ℕ) (xs : List ℕ) → drop p T ≡ 124 ∷ 124 ∷ xs →
+    token_at position T p ≡ tokens.OrIf
 or_token position T p xs at =
     let r = byte_here T p 124 (124 ∷ xs) refl at in token_here position r ∙ rw (second 124 refl r) refl
 
-pub falls_token : (position : Position) (T : List ℕ) (p : ℕ) (xs : List ℕ) → drop p T ≡ 59 ∷ 38 ∷ xs → token_at position T p ≡ tokens.SemicolonAmpersand
+pub falls_token : (position : Position) (T : List ℕ) (p : ℕ) (xs : List ℕ) → drop p T ≡ 59 ∷ 38 ∷ xs →
+    token_at position T p ≡ tokens.SemicolonAmpersand
 falls_token position T p xs at =
     let r = byte_here T p 59 (38 ∷ xs) refl at in token_here position r ∙ rw (second 59 refl r, second 38 refl r) refl
 
-pub double_semicolon_token : (position : Position) (T : List ℕ) (p : ℕ) (xs : List ℕ) → drop p T ≡ 59 ∷ 59 ∷ xs → token_at position T p ≡ tokens.DoubleSemicolon
+pub double_semicolon_token : (position : Position) (T : List ℕ) (p : ℕ) (xs : List ℕ) → drop p T ≡ 59 ∷ 59 ∷ xs →
+    token_at position T p ≡ tokens.DoubleSemicolon
 double_semicolon_token position T p xs at =
     let r = byte_here T p 59 (59 ∷ xs) refl at in token_here position r ∙ rw (second 59 refl r) refl
 
@@ -232,7 +271,10 @@ end_here T p at =
     let raw = none_first T p at in
     let place : past_continuations T p ≡ p = joined_none T p (no_backslash T p (ap (λ x. is_byte x 92) raw)) in
     let byte : byte_at T p ≡ None = ap (slice_get T) place ∙ raw in
-    record { gap = no_gap (record { place = place; no_blank = ap (passes is_blank) byte }); token = λ position. ap (token_of position T p) byte }
+    record {
+      gap = no_gap (record { place = place; no_blank = ap (passes is_blank) byte });
+      token = λ position. ap (token_of position T p) byte;
+    }
 
 -- ---- reserved words
 
@@ -261,28 +303,36 @@ not_true : (b : Bool) → not b ≡ true → b ≡ false
 not_true true e = absurd cc
 not_true false e = refl
 
-plain_parts : (c : ℕ) (cs : List ℕ) → is_plain (c ∷ cs) ≡ true → (ends (Some c) ≡ false) × ((c == 92) ≡ false) × (is_plain cs ≡ true)
-plain_parts c cs e = let one = and_parts _ _ e in let two = and_parts _ _ one.1 in (not_true _ one.0, not_true _ two.0, two.1)
+plain_parts : (c : ℕ) (cs : List ℕ) → is_plain (c ∷ cs) ≡ true → (ends (Some c) ≡ false) × ((c == 92) ≡ false)
+    × (is_plain cs ≡ true)
+plain_parts c cs e = let one = and_parts _ _ e in let two = and_parts _ _ one.1 in
+    (not_true _ one.0, not_true _ two.0, two.1)
 
 module _ (T : List ℕ) (x : ℕ) (xs : List ℕ) (clear : (x == 92) ≡ false) (ends_it : ends (Some x) ≡ true) where
-  pub spelled_here : (p : ℕ) (v w : List ℕ) → is_plain v ≡ true → is_plain w ≡ true → drop p T ≡ w ++ x ∷ xs → is_word_at T p v ≡ same_word v w
+  pub spelled_here : (p : ℕ) (v w : List ℕ) → is_plain v ≡ true → is_plain w ≡ true → drop p T ≡ w ++ x ∷ xs →
+      is_word_at T p v ≡ same_word v w
   spelled_here p [] [] one two at = spelled_none T p ∙ ap ends (byte_here T p x xs clear at).byte ∙ ends_it
-  spelled_here p [] (c ∷ w) one two at = let parts = plain_parts c w two in spelled_none T p ∙ ap ends (byte_here T p c _ parts.1 at).byte ∙ parts.0
+  spelled_here p [] (c ∷ w) one two at = let parts = plain_parts c w two in
+      spelled_none T p ∙ ap ends (byte_here T p c _ parts.1 at).byte ∙ parts.0
   spelled_here p (d ∷ v) [] one two at =
       let r = byte_here T p x xs clear at in
-      spelled_more T p d v ∙ ap (λ b. b && is_word_at T (behind T p) v) (is_here d r ∙ ender x d ends_it (plain_parts d v one).0)
+      spelled_more T p d v ∙ ap (λ b. b && is_word_at T (behind T p) v)
+      (is_here d r ∙ ender x d ends_it (plain_parts d v one).0)
   spelled_here p (d ∷ v) (c ∷ w) one two at =
       let parts = plain_parts c w two in
       let r = byte_here T p c (w ++ x ∷ xs) parts.1 at in
       spelled_more T p d v ∙ ap (λ b. b && is_word_at T (behind T p) v) (is_here d r)
-      ∙ ap (λ b. c == d && b) (ap (λ q. is_word_at T q v) r.behind_it ∙ spelled_here (p + 1) v w (plain_parts d v one).2 parts.2 r.rest)
+      ∙ ap (λ b. c == d && b) (ap (λ q. is_word_at T q v) r.behind_it
+      ∙ spelled_here (p + 1) v w (plain_parts d v one).2 parts.2 r.rest)
 
-  first_here : (p : ℕ) (w : List ℕ) (vs : Row Spelling) → is_plain w ≡ true → all_plain vs ≡ true → drop p T ≡ w ++ x ∷ xs → first_of_words T p vs ≡ first_same w vs
+  first_here : (p : ℕ) (w : List ℕ) (vs : Row Spelling) → is_plain w ≡ true → all_plain vs ≡ true →
+      drop p T ≡ w ++ x ∷ xs → first_of_words T p vs ≡ first_same w vs
   unfolding first_of_words
   first_here p w [] plain all at = refl
   first_here p w (v ∷ vs) plain all at =
       let parts = and_parts _ _ all in
-      ap (λ b. cond b (Some v.1) (first_of_words T p vs)) (spelled_here p v.0 w parts.0 plain at) ∙ ap (λ o. cond (same_word v.0 w) (Some v.1) o) (first_here p w vs plain parts.1 at)
+      ap (λ b. cond b (Some v.1) (first_of_words T p vs)) (spelled_here p v.0 w parts.0 plain at)
+      ∙ ap (λ o. cond (same_word v.0 w) (Some v.1) o) (first_here p w vs plain parts.1 at)
 
 -- a reserved word where it may stand
 pub record Keyword (T : List ℕ) (p : ℕ) (w : List ℕ) (r : Reserved) : Type 0 where
@@ -300,14 +350,17 @@ name_clear c e = grind (arith, nat_tests)
 ends_no_name : (x : ℕ) → ends (Some x) ≡ true → is_name x ≡ false
 ends_no_name x e = grind (arith, nat_tests)
 
-names_here : (T : List ℕ) (p x : ℕ) (cs xs : List ℕ) → (x == 92) ≡ false → ends (Some x) ≡ true → all_names cs ≡ true → drop p T ≡ cs ++ x ∷ xs → past is_name T p ≡ p + length cs
+names_here : (T : List ℕ) (p x : ℕ) (cs xs : List ℕ) → (x == 92) ≡ false → ends (Some x) ≡ true → all_names cs ≡ true →
+    drop p T ≡ cs ++ x ∷ xs → past is_name T p ≡ p + length cs
 names_here T p x [] xs clear stops all at =
-    let e : p + 0 ≡ p = omega arith in past_none is_name T p (in_class is_name (byte_here T p x xs clear at) ∙ ends_no_name x stops) ∙ sym e
+    let e : p + 0 ≡ p = omega arith in
+    past_none is_name T p (in_class is_name (byte_here T p x xs clear at) ∙ ends_no_name x stops) ∙ sym e
 names_here T p x (c ∷ cs) xs clear stops all at =
     let parts = and_parts _ _ all in
     let r = byte_here T p c (cs ++ x ∷ xs) (name_clear c parts.0) at in
     let e : p + 1 + length cs ≡ p + suc (length cs) = omega arith in
-    past_more is_name T p (in_class is_name r ∙ parts.0) ∙ ap (past is_name T) r.behind_it ∙ names_here T (p + 1) x cs xs clear stops parts.1 r.rest ∙ e
+    past_more is_name T p (in_class is_name r ∙ parts.0) ∙ ap (past is_name T) r.behind_it
+    ∙ names_here T (p + 1) x cs xs clear stops parts.1 r.rest ∙ e
 
 all_are_plain : all_plain reserved_words ≡ true
 unfolding reserved_words
@@ -319,15 +372,19 @@ no_number T p e = rw e refl
 
 -- the text of a byte that begins a word which is no number: what the word is in a command's place
 abbrev pub WordByte : ℕ → Type 0
-WordByte c = (T : List ℕ) (p : ℕ) → is_number T p ≡ false → token_of Command T p (Some c) ≡ first_word (begins_assignment T p) (reserved_at T p)
+WordByte c = (T : List ℕ) (p : ℕ) → is_number T p ≡ false →
+    token_of Command T p (Some c) ≡ first_word (begins_assignment T p) (reserved_at T p)
 
-pub keyword_here : (T : List ℕ) (p c x : ℕ) (cs xs : List ℕ) (r : Reserved) → WordByte c → is_blank c ≡ false → is_digit c ≡ false → is_plain (c ∷ cs) ≡ true → all_names cs ≡ true
-    → first_same (c ∷ cs) reserved_words ≡ Some r → (x == 92) ≡ false → ends (Some x) ≡ true → drop p T ≡ c ∷ (cs ++ x ∷ xs) → Keyword T p (c ∷ cs) r
+pub keyword_here : (T : List ℕ) (p c x : ℕ) (cs xs : List ℕ) (r : Reserved) → WordByte c → is_blank c ≡ false →
+    is_digit c ≡ false → is_plain (c ∷ cs) ≡ true → all_names cs ≡ true
+    → first_same (c ∷ cs) reserved_words ≡ Some r → (x == 92) ≡ false → ends (Some x) ≡ true →
+    drop p T ≡ c ∷ (cs ++ x ∷ xs) → Keyword T p (c ∷ cs) r
 unfolding past_reserved
 keyword_here T p c x cs xs r byte no_blank no_digit plain names same clear stops at =
     let here = byte_here T p c (cs ++ x ∷ xs) (plain_parts c cs plain).1 at in
     let number = no_number T p (in_class is_digit here ∙ no_digit) in
-    let reserved_is : reserved_at T p ≡ Some r = first_here T x xs clear stops p (c ∷ cs) reserved_words plain all_are_plain at ∙ same in
+    let reserved_is : reserved_at T p ≡ Some r =
+    first_here T x xs clear stops p (c ∷ cs) reserved_words plain all_are_plain at ∙ same in
     let token_is = token_here Command here ∙ byte T p number ∙ ap (first_word (begins_assignment T p)) reserved_is in
     let over = ap (past is_name T) here.behind_it ∙ names_here T (p + 1) x cs xs clear stops names here.rest in
     let e : p + 1 + length cs ≡ p + suc (length cs) = omega arith in
@@ -374,11 +431,13 @@ module _ (T : List ℕ) (p x : ℕ) (xs : List ℕ) (clear : (x == 92) ≡ false
 
   pub brace_here : drop p T ≡ codes "{" ++ x ∷ xs → Keyword T p (codes "{") reserved.OpenBrace
   unfolding reserved_words
-  brace_here at = keyword_here T p _ x _ xs reserved.OpenBrace (λ T p e. rw e refl) refl refl refl refl refl clear stops at
+  brace_here at = keyword_here T p _ x _ xs reserved.OpenBrace
+      (λ T p e. rw e refl) refl refl refl refl refl clear stops at
 
   pub close_brace_here : drop p T ≡ codes "}" ++ x ∷ xs → Keyword T p (codes "}") reserved.CloseBrace
   unfolding reserved_words
-  close_brace_here at = keyword_here T p _ x _ xs reserved.CloseBrace (λ T p e. rw e refl) refl refl refl refl refl clear stops at
+  close_brace_here at = keyword_here T p _ x _ xs reserved.CloseBrace
+      (λ T p e. rw e refl) refl refl refl refl refl clear stops at
 
   pub bang_here : drop p T ≡ codes "!" ++ x ∷ xs → Keyword T p (codes "!") reserved.Bang
   unfolding reserved_words
@@ -402,12 +461,14 @@ module _ (T : List ℕ) (p x : ℕ) (xs : List ℕ) (clear : (x == 92) ≡ false
 
 -- ---- editions
 
-by_edition : (P : Token → Bool) → P tokens.Semicolon ≡ false → P tokens.SemicolonAmpersand ≡ false → (later : Bool) (u : Token) → cond later tokens.SemicolonAmpersand tokens.Semicolon ≡ u → P u ≡ true → ⊥
+by_edition : (P : Token → Bool) → P tokens.Semicolon ≡ false → P tokens.SemicolonAmpersand ≡ false →
+    (later : Bool) (u : Token) → cond later tokens.SemicolonAmpersand tokens.Semicolon ≡ u → P u ≡ true → ⊥
 by_edition P one two true u same e = both_ways (P u) (ap P (sym same) ∙ two) e
 by_edition P one two false u same e = both_ways (P u) (ap P (sym same) ∙ one) e
 
 -- what an edition has in a place is what the text has, where it is no `;`
-pub told_so : (P : Token → Bool) → P tokens.Semicolon ≡ false → P tokens.SemicolonAmpersand ≡ false → (edition : Edition) (t u : Token) → token_in edition t ≡ u → P u ≡ true → t ≡ u
+pub told_so : (P : Token → Bool) → P tokens.Semicolon ≡ false → P tokens.SemicolonAmpersand ≡ false →
+    (edition : Edition) (t u : Token) → token_in edition t ≡ u → P u ≡ true → t ≡ u
 told_so P one two edition tokens.SemicolonAmpersand u same e = absurd (by_edition P one two (is_later edition) u same e)
 told_so P one two edition _ u same e = same
 
@@ -417,7 +478,8 @@ word_stays edition tokens.SemicolonAmpersand e = absurd cc
 word_stays edition _ e = refl
 
 -- `;&` is a token of its own in a later edition
-pub falls_stays : (edition : Edition) → is_later edition ≡ true → token_in edition tokens.SemicolonAmpersand ≡ tokens.SemicolonAmpersand
+pub falls_stays : (edition : Edition) → is_later edition ≡ true →
+    token_in edition tokens.SemicolonAmpersand ≡ tokens.SemicolonAmpersand
 falls_stays edition e = rw e refl
 
 -- a delimiter of an edition is one of each
@@ -425,13 +487,15 @@ delimiter_by : (c : Bool) (x : Option ADelimiter) (d : ADelimiter) → cond c No
 delimiter_by true x d e = absurd cc
 delimiter_by false x d e = e
 
-pub delimiter_stays : (edition : Edition) (bytes : List ℕ) (d : ADelimiter) → delimiter_in edition bytes ≡ Some d → delimiter_of bytes ≡ Some d
+pub delimiter_stays : (edition : Edition) (bytes : List ℕ) (d : ADelimiter) → delimiter_in edition bytes ≡ Some d →
+    delimiter_of bytes ≡ Some d
 delimiter_stays edition bytes d e = delimiter_by _ (delimiter_of bytes) d e
 
 -- ---- words and assignments
 
 -- an item of a simple command is a word or an assignment
-pub kind_of : (t : Token) (next : Position) → behind_word t ≡ Some next → ((t ≡ tokens.Word) × (next ≡ Suffix)) ⊎ ((t ≡ tokens.Assignment) × (next ≡ Prefix))
+pub kind_of : (t : Token) (next : Position) → behind_word t ≡ Some next →
+    ((t ≡ tokens.Word) × (next ≡ Suffix)) ⊎ ((t ≡ tokens.Assignment) × (next ≡ Prefix))
 kind_of tokens.End next e = absurd cc
 kind_of tokens.Newline next e = absurd cc
 kind_of tokens.Semicolon next e = absurd cc
@@ -475,7 +539,8 @@ paren_token tokens.OpenParen e = refl
 paren_token _ e = absurd cc
 
 pub item_no_round : (t : Token) → begins_simple t ≡ true → is_paren t ≡ false
-item_no_round t begins = must_fail (is_paren t) (λ e. both_ways (begins_simple t) (ap begins_simple (paren_token t e)) begins)
+item_no_round t begins = must_fail (is_paren t)
+    (λ e. both_ways (begins_simple t) (ap begins_simple (paren_token t e)) begins)
 
 -- what begins no simple command is no word
 pub no_word : (t : Token) → begins_simple t ≡ false → is_word t ≡ false
@@ -510,7 +575,8 @@ redirect_is_item t e = must_hold (begins_word t) (begins_redirect t) e
     must_hold false b e = e
 
 pub redirect_no_word : (t : Token) → begins_redirect t ≡ true → is_word t ≡ false
-redirect_no_word t redirect = must_fail (is_word t) (λ e. both_ways (begins_redirect t) (ap begins_redirect (word_token t e)) redirect)
+redirect_no_word t redirect = must_fail (is_word t)
+    (λ e. both_ways (begins_redirect t) (ap begins_redirect (word_token t e)) redirect)
 
 -- where a redirection begins
 pub record RedirectThere (edition : Edition) (position : Position) (T : List ℕ) (p : ℕ) : Type 0 where
@@ -534,11 +600,13 @@ that_byte : (x : Option ℕ) (c : ℕ) → is_byte x c ≡ true → x ≡ Some c
 that_byte None c e = absurd cc
 that_byte (Some b) c e = let same : b ≡ c = grind (arith, nat_tests) in ap Some same
 
-no_such_byte : (T : List ℕ) (q x : ℕ) → token_at Suffix T q ≡ tokens.Word → is_word (token_of Suffix T q (Some x)) ≡ false → stands T q x ≡ false
+no_such_byte : (T : List ℕ) (q x : ℕ) → token_at Suffix T q ≡ tokens.Word →
+    is_word (token_of Suffix T q (Some x)) ≡ false → stands T q x ≡ false
 unfolding stands token_at
 no_such_byte T q x word other =
     must_fail (is_byte (byte_at T q) x)
-    (λ e. both_ways (is_word (token_of Suffix T q (byte_at T q))) (ap (λ b. is_word (token_of Suffix T q b)) (that_byte (byte_at T q) x e) ∙ other) (ap is_word word))
+    (λ e. both_ways (is_word (token_of Suffix T q (byte_at T q)))
+    (ap (λ b. is_word (token_of Suffix T q b)) (that_byte (byte_at T q) x e) ∙ other) (ap is_word word))
 
 -- a word begins with no byte of an operator
 pub word_no_longer : (T : List ℕ) (q : ℕ) → token_at Suffix T q ≡ tokens.Word → NoLonger T q
@@ -558,7 +626,9 @@ abbrev pub NoDash : RedirectOperator → List ℕ → ℕ → Type 0
 NoDash redirects.Here T q = stands T q 45 ≡ false
 NoDash _ T q = Unit {0}
 
-pub redirect_token : (position : Position) (k : RedirectOperator) (T : List ℕ) (p : ℕ) (xs : List ℕ) → NoDash k T (p + length (redirect_text k)) → NoLonger T (p + length (redirect_text k)) → drop p T ≡ redirect_text k ++ xs
+pub redirect_token : (position : Position) (k : RedirectOperator) (T : List ℕ) (p : ℕ) (xs : List ℕ) →
+    NoDash k T (p + length (redirect_text k)) → NoLonger T (p + length (redirect_text k)) →
+    drop p T ≡ redirect_text k ++ xs
     → token_at position T p ≡ tokens.Redirect k
 unfolding less_at greater_at
 redirect_token position redirects.Input T p xs none n at =
@@ -578,13 +648,15 @@ redirect_token position redirects.DuplicateInput T p xs none n at =
 redirect_token position redirects.DuplicateOutput T p xs none n at =
     let r = byte_here T p 62 (38 ∷ xs) refl at in token_here position r ∙ rw (second 62 refl r, second 38 refl r) refl
 redirect_token position redirects.ReadWrite T p xs none n at =
-    let r = byte_here T p 60 (62 ∷ xs) refl at in token_here position r ∙ rw (second 60 refl r, second 38 refl r, second 62 refl r) refl
+    let r = byte_here T p 60 (62 ∷ xs) refl at in
+    token_here position r ∙ rw (second 60 refl r, second 38 refl r, second 62 refl r) refl
 redirect_token position redirects.HereStripped T p xs none n at =
     let r = byte_here T p 60 (60 ∷ 45 ∷ xs) refl at in
     let s = byte_here T (p + 1) 60 (45 ∷ xs) refl r.rest in
     token_here position r ∙ rw (second 60 refl r, r.behind_it, second 45 refl s) refl
 redirect_token position redirects.Clobber T p xs none n at =
-    let r = byte_here T p 62 (124 ∷ xs) refl at in token_here position r ∙ rw (second 62 refl r, second 38 refl r, second 124 refl r) refl
+    let r = byte_here T p 62 (124 ∷ xs) refl at in
+    token_here position r ∙ rw (second 62 refl r, second 38 refl r, second 124 refl r) refl
 
 -- `<` or `>`
 abbrev pub is_angle : ℕ → Bool
@@ -623,16 +695,21 @@ digit_clear c e = grind (arith, nat_tests)
 digit_no_blank : (c : ℕ) → is_digit c ≡ true → is_blank c ≡ false
 digit_no_blank c e = grind (arith, nat_tests)
 
-digits_here : (T : List ℕ) (p x : ℕ) (cs xs : List ℕ) → is_angle x ≡ true → all_digits cs ≡ true → drop p T ≡ cs ++ x ∷ xs → past is_digit T p ≡ p + length cs
+digits_here : (T : List ℕ) (p x : ℕ) (cs xs : List ℕ) → is_angle x ≡ true → all_digits cs ≡ true →
+    drop p T ≡ cs ++ x ∷ xs → past is_digit T p ≡ p + length cs
 digits_here T p x [] xs angle all at =
-    let e : p + 0 ≡ p = omega arith in past_none is_digit T p (in_class is_digit (byte_here T p x xs (angle_clear x angle) at) ∙ angle_no_digit x angle) ∙ sym e
+    let e : p + 0 ≡ p = omega arith in
+    past_none is_digit T p (in_class is_digit (byte_here T p x xs (angle_clear x angle) at)
+    ∙ angle_no_digit x angle) ∙ sym e
 digits_here T p x (c ∷ cs) xs angle all at =
     let parts = and_parts _ _ all in
     let r = byte_here T p c (cs ++ x ∷ xs) (digit_clear c parts.0) at in
     let e : p + 1 + length cs ≡ p + suc (length cs) = omega arith in
-    past_more is_digit T p (in_class is_digit r ∙ parts.0) ∙ ap (past is_digit T) r.behind_it ∙ digits_here T (p + 1) x cs xs angle parts.1 r.rest ∙ e
+    past_more is_digit T p (in_class is_digit r ∙ parts.0) ∙ ap (past is_digit T) r.behind_it
+    ∙ digits_here T (p + 1) x cs xs angle parts.1 r.rest ∙ e
 
-digit_token : (position : Position) (T : List ℕ) (p c : ℕ) → is_digit c ≡ true → is_number T p ≡ true → token_of position T p (Some c) ≡ tokens.Number
+digit_token : (position : Position) (T : List ℕ) (p c : ℕ) → is_digit c ≡ true → is_number T p ≡ true →
+    token_of position T p (Some c) ≡ tokens.Number
 digit_token position T p c digit number =
     let newline : is_newline c ≡ false = grind (arith, nat_tests) in
     let semicolon : (c == 59) ≡ false = grind (arith, nat_tests) in
@@ -645,7 +722,8 @@ digit_token position T p c digit number =
     let sharp : (c == 35) ≡ false = grind (arith, nat_tests) in
     rw (newline, semicolon, ampersand, bar, opener, closer, less, greater, sharp, number) refl
 
-pub number_token : (position : Position) (T : List ℕ) (p x d : ℕ) (ds xs : List ℕ) → all_digits (d ∷ ds) ≡ true → is_angle x ≡ true → drop p T ≡ (d ∷ ds) ++ x ∷ xs → NumberHere position T p (d ∷ ds)
+pub number_token : (position : Position) (T : List ℕ) (p x d : ℕ) (ds xs : List ℕ) → all_digits (d ∷ ds) ≡ true →
+    is_angle x ≡ true → drop p T ≡ (d ∷ ds) ++ x ∷ xs → NumberHere position T p (d ∷ ds)
 unfolding is_number past_digits
 number_token position T p x d ds xs all angle at =
     let digit = (and_parts _ _ all).0 in
@@ -653,5 +731,10 @@ number_token position T p x d ds xs all angle at =
     let q = p + length (d ∷ ds) in
     let past_it = digits_here T p x (d ∷ ds) xs angle all at in
     let s = byte_here T q x xs (angle_clear x angle) (skip T p (d ∷ ds) (x ∷ xs) at) in
-    let number : is_number T p ≡ true = and_from _ _ (in_class is_digit r ∙ digit) (rw (past_it, is_here 60 s, is_here 62 s) angle) in
-    record { start = start_here r (digit_no_blank d digit); token = token_here position r ∙ digit_token position T p d digit number; past_it = past_it }
+    let number : is_number T p ≡ true =
+    and_from _ _ (in_class is_digit r ∙ digit) (rw (past_it, is_here 60 s, is_here 62 s) angle) in
+    record {
+      start = start_here r (digit_no_blank d digit);
+      token = token_here position r ∙ digit_token position T p d digit number;
+      past_it = past_it;
+    }

@@ -7,7 +7,8 @@ use Rattle.shprint.specs.Written.{Sheet, sheet_of, written}
 
 -- ---- marks, and others behind them
 
-pub laid_append : (h : Text) (ms ns : Marks) → laid_behind h (ms ++ ns) ≡ laid_behind h ms ++ laid_behind (held_behind h ms) ns
+pub laid_append : (h : Text) (ms ns : Marks) →
+    laid_behind h (ms ++ ns) ≡ laid_behind h ms ++ laid_behind (held_behind h ms) ns
 unfolding laid_behind held_behind
 laid_append h [] ns = refl
 laid_append h (text t ∷ ms) ns = rw (laid_append h ms ns, append_assoc) refl
@@ -42,7 +43,9 @@ written_text s x = ap (λ r. sheet_of (s.so_far ++ r) s.held) (append-nil x)
 
 -- a text without a byte
 pub written_nothing : (s : Sheet) (x : Text) → x ≡ [] → s ≡ written s (text x ∷ [])
-written_nothing s x none = sym (written_text s x ∙ ap (λ t. sheet_of (s.so_far ++ t) s.held) none ∙ ap (λ t. sheet_of t s.held) (append-nil s.so_far))
+written_nothing s x none = sym
+    (written_text s x ∙ ap (λ t. sheet_of (s.so_far ++ t) s.held) none
+    ∙ ap (λ t. sheet_of t s.held) (append-nil s.so_far))
 
 pub written_line : (s : Sheet) → written s (line_end ∷ []) ≡ sheet_of ((s.so_far ++ 10 ∷ []) ++ s.held) []
 unfolding written laid_behind held_behind
@@ -51,7 +54,8 @@ written_line s = rw (append_assoc, append-nil) refl
 -- where nothing waits
 pub written_line_alone : (s : Sheet) → s.held ≡ [] → sheet_of (s.so_far ++ 10 ∷ []) s.held ≡ written s (line_end ∷ [])
 written_line_alone s none =
-    sym (written_line s ∙ ap (λ h. sheet_of ((s.so_far ++ 10 ∷ []) ++ h) []) none ∙ ap (λ t. sheet_of t []) (append-nil (s.so_far ++ 10 ∷ [])) ∙ ap (sheet_of (s.so_far ++ 10 ∷ [])) (sym none))
+    sym (written_line s ∙ ap (λ h. sheet_of ((s.so_far ++ 10 ∷ []) ++ h) []) none
+    ∙ ap (λ t. sheet_of t []) (append-nil (s.so_far ++ 10 ∷ [])) ∙ ap (sheet_of (s.so_far ++ 10 ∷ [])) (sym none))
 
 pub written_document : (s : Sheet) (x : Text) → written s (document x ∷ []) ≡ sheet_of s.so_far (s.held ++ x)
 unfolding written laid_behind held_behind

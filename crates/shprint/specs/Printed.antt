@@ -48,7 +48,9 @@ operand_margin y margin broken = if broken then deeper y margin else margin
 -- an operator with what stands around it
 abbrev pub print_join : Layout → Text → Text → AJoinOf Text → Marks
 print_join y margin operator j =
-    text (codes " ") ∷ text operator ∷ (if breaks_line j then print_comments (deeper y margin) j.comments ++ (line_end ∷ text (deeper y margin) ∷ []) else one (codes " "))
+    text (codes " ") ∷ text operator
+    ∷ (if breaks_line j then print_comments (deeper y margin) j.comments ++ (line_end ∷ text (deeper y margin) ∷ [])
+    else one (codes " "))
 
 -- ---- simple commands
 
@@ -77,7 +79,8 @@ would_strip _ _ = false
 
 abbrev pub print_operator : Layout → RedirectOperator → Shape AWordOf → Marks
 print_operator y operator (word t substs) =
-    text (redirect_text operator) ∷ (if (y.space_redirects && not (duplicates operator)) || would_strip operator t then one (codes " ") else [])
+    text (redirect_text operator)
+    ∷ (if (y.space_redirects && not (duplicates operator)) || would_strip operator t then one (codes " ") else [])
 
 -- the line of a delimiter
 abbrev pub delimiter_line : Option ADelimiter → Text
@@ -92,7 +95,8 @@ print_here (word t substs) (Some h) = document (h.body ++ delimiter_line (delimi
 abbrev pub print_item : Layout → Shape AnItemOf → Marks
 print_item y (item broken (assign w)) = print_word w
 print_item y (item broken (argument w)) = print_word w
-print_item y (item broken (redirect number operator mark w here)) = print_number number ++ print_operator y operator w ++ print_word w ++ print_here w here
+print_item y (item broken (redirect number operator mark w here)) = print_number number ++ print_operator y operator w
+    ++ print_word w ++ print_here w here
 
 abbrev pub is_broken_item : Shape AnItemOf → Bool
 is_broken_item (item broken what) = broken
@@ -100,7 +104,8 @@ is_broken_item (item broken what) = broken
 -- items behind others
 abbrev pub print_items : Layout → Text → Shape ItemsOf → Marks
 print_items y margin no_item = []
-print_items y margin (more_items i is) = print_gap y margin (is_broken_item i) ++ print_item y i ++ print_items y margin is
+print_items y margin (more_items i is) = print_gap y margin (is_broken_item i) ++ print_item y i
+    ++ print_items y margin is
 
 abbrev pub print_simple : Layout → Text → Shape ItemsOf → Marks
 print_simple y margin no_item = []
@@ -137,7 +142,8 @@ is_brace _ = false
 
 -- between the `()` of a function and its body
 abbrev pub print_function_gap : Layout → Text → Row Text → Shape ACompoundOf → Marks
-print_function_gap y margin [] body = if y.func_next_line && is_brace body then line_end ∷ text margin ∷ [] else one (codes " ")
+print_function_gap y margin [] body = if y.func_next_line && is_brace body then line_end ∷ text margin ∷ []
+    else one (codes " ")
 print_function_gap y margin (c ∷ cs) body = print_comments margin (c ∷ cs) ++ (line_end ∷ text margin ∷ [])
 
 abbrev pub print_for_words : Layout → Text → Shape ForWordsOf → Marks
@@ -170,7 +176,8 @@ abbrev mutual
 
   pub print_entry : Layout → Text → Shape AnEntryOf → Marks
   print_entry y margin (entry what background blank comment) =
-      print_blank blank ++ (text margin ∷ print_content y margin what ++ print_background background ++ print_own_comment comment ++ (line_end ∷ []))
+      print_blank blank ++ (text margin ∷ print_content y margin what ++ print_background background
+      ++ print_own_comment comment ++ (line_end ∷ []))
 
   pub print_content : Layout → Text → Shape AContentOf → Marks
   print_content y margin (command a) = print_and_or y margin a
@@ -183,35 +190,43 @@ abbrev mutual
   pub print_and_or_parts : Layout → Text → Bool → Shape AndOrPartsOf → Marks
   print_and_or_parts y margin broken no_and_or = []
   print_and_or_parts y margin broken (more_and_or operator j p ps) =
-      print_join y margin (and_or_text operator) j ++ print_pipeline y (operand_margin y margin (broken || breaks_line j)) p
+      print_join y margin (and_or_text operator) j
+      ++ print_pipeline y (operand_margin y margin (broken || breaks_line j)) p
       ++ print_and_or_parts y margin (broken || breaks_line j) ps
 
   pub print_pipeline : Layout → Text → Shape APipelineOf → Marks
-  print_pipeline y margin (pipeline bang first rest) = print_bang bang ++ print_command y margin first ++ print_pipes y margin false rest
+  print_pipeline y margin (pipeline bang first rest) = print_bang bang ++ print_command y margin first
+      ++ print_pipes y margin false rest
 
   pub print_pipes : Layout → Text → Bool → Shape PipelinePartsOf → Marks
   print_pipes y margin broken no_pipe = []
   print_pipes y margin broken (more_pipes j c cs) =
-      print_join y margin (codes "|") j ++ print_command y (operand_margin y margin (broken || breaks_line j)) c ++ print_pipes y margin (broken || breaks_line j) cs
+      print_join y margin (codes "|") j ++ print_command y (operand_margin y margin (broken || breaks_line j)) c
+      ++ print_pipes y margin (broken || breaks_line j) cs
 
   pub print_command : Layout → Text → Shape ACommandOf → Marks
   print_command y margin (simple items) = print_simple y margin items
   print_command y margin (compound c) = print_compound y margin c
-  print_command y margin (function name comments body) = text name ∷ text (codes "()") ∷ print_function_gap y margin comments body ++ print_compound y margin body
+  print_command y margin (function name comments body) = text name ∷ text (codes "()")
+      ∷ print_function_gap y margin comments body ++ print_compound y margin body
 
   -- redirections stand behind the closer, as items do behind others
   pub print_compound : Layout → Text → Shape ACompoundOf → Marks
   print_compound y margin (formed form mark redirects) = print_form y margin form ++ print_items y margin redirects
 
   pub print_form : Layout → Text → Shape AFormOf → Marks
-  print_form y margin (brace es) = text (codes "{") ∷ lines_between margin (print_entries y (deeper y margin) es) ++ one (codes "}")
-  print_form y margin (subshell es) = text (codes "(") ∷ lines_between margin (print_entries y (deeper y margin) es) ++ one (codes ")")
+  print_form y margin (brace es) = text (codes "{") ∷ lines_between margin (print_entries y (deeper y margin) es)
+      ++ one (codes "}")
+  print_form y margin (subshell es) = text (codes "(") ∷ lines_between margin (print_entries y (deeper y margin) es)
+      ++ one (codes ")")
   print_form y margin (if_then first rest other) =
-      print_branch y margin (codes "if") (codes "then") first ++ print_branches y margin rest ++ print_else y margin other ++ one (codes "fi")
+      print_branch y margin (codes "if") (codes "then") first ++ print_branches y margin rest
+      ++ print_else y margin other ++ one (codes "fi")
   print_form y margin (while_do b) = print_branch y margin (codes "while") (codes "do") b ++ one (codes "done")
   print_form y margin (until_do b) = print_branch y margin (codes "until") (codes "do") b ++ one (codes "done")
   print_form y margin (for_in name words body) =
-      text (codes "for ") ∷ print_word name ++ print_for_words y margin words ++ lines_between margin (print_entries y (deeper y margin) body) ++ one (codes "done")
+      text (codes "for ") ∷ print_word name ++ print_for_words y margin words
+      ++ lines_between margin (print_entries y (deeper y margin) body) ++ one (codes "done")
   print_form y margin (case_in w items tail) =
       text (codes "case ") ∷ print_word w ++ (text (codes " in") ∷ line_end ∷ print_cases y (case_margin y margin) items
       ++ print_comment_lines (case_margin y margin) tail ++ (text margin ∷ text (codes "esac") ∷ []))
@@ -219,7 +234,8 @@ abbrev mutual
   -- a condition on the line of its keyword or on lines of its own, and what it runs
   pub print_branch : Layout → Text → Text → Text → Shape ABranchOf → Marks
   print_branch y margin opener opens_body (branch condition body) =
-      text opener ∷ (if is_one_line condition then text (codes " ") ∷ print_only y margin condition ++ one (codes "; ") else lines_between margin (print_entries y (deeper y margin) condition))
+      text opener ∷ (if is_one_line condition then text (codes " ") ∷ print_only y margin condition ++ one (codes "; ")
+      else lines_between margin (print_entries y (deeper y margin) condition))
       ++ (text opens_body ∷ lines_between margin (print_entries y (deeper y margin) body))
 
   -- the one entry of a condition
@@ -232,7 +248,8 @@ abbrev mutual
 
   pub print_branches : Layout → Text → Shape BranchesOf → Marks
   print_branches y margin no_branch = []
-  print_branches y margin (more_branches b bs) = print_branch y margin (codes "elif") (codes "then") b ++ print_branches y margin bs
+  print_branches y margin (more_branches b bs) = print_branch y margin (codes "elif") (codes "then") b
+      ++ print_branches y margin bs
 
   pub print_else : Layout → Text → Shape OtherwiseOf → Marks
   print_else y margin no_else = []
@@ -245,7 +262,9 @@ abbrev mutual
   -- behind entries the ender has a line of its own, as deep as they stand
   pub print_case : Layout → Text → Shape ACaseItemOf → Marks
   print_case y margin (case_item comments patterns body mark) =
-      print_comment_lines margin comments ++ (text margin ∷ print_first_pattern patterns ++ (text (codes ")") ∷ print_body y margin body ++ (text (ender mark.falls) ∷ line_end ∷ [])))
+      print_comment_lines margin comments
+      ++ (text margin ∷ print_first_pattern patterns
+      ++ (text (codes ")") ∷ print_body y margin body ++ (text (ender mark.falls) ∷ line_end ∷ [])))
 
   -- without entries a body stands on the line of the patterns
   pub print_body : Layout → Text → Shape EntriesOf → Marks

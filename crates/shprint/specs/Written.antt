@@ -41,12 +41,14 @@ stretch bytes start past = take (past - start) (drop start bytes)
 -- an operator with what stands around it, before an operand at this margin
 abbrev pub print_join_on : Text → Text → AJoinOf Text → Marks
 print_join_on margin operator j =
-    text (codes " ") ∷ text operator ∷ (if breaks_line j then print_comments margin j.comments ++ (line_end ∷ text margin ∷ []) else one (codes " "))
+    text (codes " ") ∷ text operator
+    ∷ (if breaks_line j then print_comments margin j.comments ++ (line_end ∷ text margin ∷ []) else one (codes " "))
 
 -- a condition between its keyword and what opens its body
 abbrev pub print_condition : Layout → Text → Shape EntriesOf → Marks
 print_condition y margin condition =
-    if is_one_line condition then text (codes " ") ∷ print_only y margin condition ++ one (codes "; ") else lines_between margin (print_entries y (deeper y margin) condition)
+    if is_one_line condition then text (codes " ") ∷ print_only y margin condition ++ one (codes "; ")
+    else lines_between margin (print_entries y (deeper y margin) condition)
 
 -- the line of a `case`
 abbrev pub print_case_head : Shape AWordOf → Marks

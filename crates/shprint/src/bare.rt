@@ -13,7 +13,8 @@ use std::alloc::AllocError;
 ///
 /// [`AllocError`], where memory runs out. What was added until then stands there.
 pub fn add_bare<S: Source>(text: &mut Vec<u8>, source: &S, span: Span) -> Result<(), AllocError>
-    ensures { IfOk result (λ _. text.new.items ≡ text.old.items ++ bare_at (S.bytes source.now) span) }
+    ensures { IfOk result (λ _. text.new.items ≡ text.old.items
+        ++ bare_at (S.bytes source.now) span) }
 {
     let mut at = span.start;
     'bytes: while at < span.end {

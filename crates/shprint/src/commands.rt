@@ -39,7 +39,8 @@ fn ender(falls: bool) -> &'static [u8]
 }
 
 fn is_command(content: &Content) -> bool
-    ensures { (bytes : Row ℕ) → result ≡ is_command (shape_of_content bytes (view_content content.now)) }
+    ensures { (bytes : Row ℕ) →
+        result ≡ is_command (shape_of_content bytes (view_content content.now)) }
 {
     matches!(content, Content::AndOr(_))
 }
@@ -53,7 +54,8 @@ fn is_bare(entry: &Entry) -> bool
 
 /// Whether a condition stands on the line of its keyword.
 fn is_one_line(condition: &[Entry]) -> bool
-    ensures { (bytes : Row ℕ) → result ≡ is_one_line (shape_of bytes (entries_of (map view_entry condition.now))) }
+    ensures { (bytes : Row ℕ) →
+        result ≡ is_one_line (shape_of bytes (entries_of (map view_entry condition.now))) }
 {
     match condition.split_first() {
         Some((first, rest)) => rest.is_empty() && is_bare(first),
@@ -62,7 +64,8 @@ fn is_one_line(condition: &[Entry]) -> bool
 }
 
 fn is_brace(body: &Compound) -> bool
-    ensures { (bytes : Row ℕ) → result ≡ is_brace (shape_of_compound bytes (view_compound body.now)) }
+    ensures { (bytes : Row ℕ) →
+        result ≡ is_brace (shape_of_compound bytes (view_compound body.now)) }
 {
     matches!(body.form, Form::Brace(_))
 }
@@ -93,8 +96,12 @@ impl<'a, S: Source> Printer<'a, S> {
     /// Before a join, where the line was broken before or not: from the first broken line on the operands
     /// stand deeper. Answers whether the line is broken by now.
     fn enter_operand(&self, broken: bool, join: &Join, page: &mut Page) -> Result<bool, AllocError>
-        ensures now { IfOk result (λ now. now ≡ (broken || breaks_line (shape_of_join (S.bytes self.now.source.now) (view_join join.now)))) }
-        ensures margin { IfOk result (λ now. (margin : Text) → page.old.margin.items ≡ operand_margin self.now.layout margin broken →
+        ensures now { IfOk result
+            (λ now. now ≡ (broken || breaks_line
+            (shape_of_join (S.bytes self.now.source.now) (view_join join.now)))) }
+        ensures margin { IfOk result
+            (λ now. (margin : Text) →
+            page.old.margin.items ≡ operand_margin self.now.layout margin broken →
             page.new.margin.items ≡ operand_margin self.now.layout margin now) }
         ensures sheet { IfOk result (λ now. sheet page.new ≡ sheet page.old) }
     {
@@ -107,7 +114,8 @@ impl<'a, S: Source> Printer<'a, S> {
 
     /// Before the items of a `case`.
     fn enter_case(&self, page: &mut Page) -> Result<(), AllocError>
-        ensures { IfOk result (λ _. (page.new.margin.items ≡ case_margin self.now.layout page.old.margin.items)
+        ensures { IfOk result (λ _.
+            (page.new.margin.items ≡ case_margin self.now.layout page.old.margin.items)
             × (sheet page.new ≡ sheet page.old)) }
     {
         if self.layout.case_indent {
@@ -124,7 +132,9 @@ impl<'a, S: Source> Printer<'a, S> {
         page: &mut Page,
     ) -> Result<(), AllocError>
         ensures { IfOk result (λ _. Prints page.old page.new
-            (print_function_gap self.now.layout page.old.margin.items (shape_of_comments (S.bytes self.now.source.now) (map view_comment comments.now)) (shape_of_compound (S.bytes self.now.source.now) (view_compound body.now)))) }
+            (print_function_gap self.now.layout page.old.margin.items
+            (shape_of_comments (S.bytes self.now.source.now) (map view_comment comments.now))
+            (shape_of_compound (S.bytes self.now.source.now) (view_compound body.now)))) }
     {
         if !comments.is_empty() {
             self.print_comments(comments, page)?;
@@ -140,7 +150,9 @@ impl<'a, S: Source> Printer<'a, S> {
     /// The words of a `for`, up to its `do`.
     fn print_for_words(&self, words: &[Item], page: &mut Page) -> Result<(), AllocError>
         ensures { IfOk result (λ _. Prints page.old page.new
-            (print_for_words self.now.layout page.old.margin.items (in_words (shape_of_items (S.bytes self.now.source.now) (items_of (map view_item words.now)))))) }
+            (print_for_words self.now.layout page.old.margin.items
+            (in_words (shape_of_items (S.bytes self.now.source.now)
+            (items_of (map view_item words.now)))))) }
     {
         page.put(b" in")?;
         self.print_items(words, page)?;
@@ -163,7 +175,8 @@ impl<'a, S: Source> Printer<'a, S> {
     #[tactic(auto, using(crate::proofs::Writing::written_append, crate::proofs::Writing::written_cons, crate::proofs::Writing::written_none, crate::proofs::Rows::from_end, crate::proofs::Rows::entries_are))]
     pub fn print_entries(&self, entries: &[Entry], page: &mut Page) -> Result<(), AllocError>
         ensures { IfOk result (λ _. Prints page.old page.new
-            (print_entries self.now.layout page.old.margin.items (shape_of (S.bytes self.now.source.now) (entries_of (map view_entry entries.now))))) }
+            (print_entries self.now.layout page.old.margin.items
+            (shape_of (S.bytes self.now.source.now) (entries_of (map view_entry entries.now))))) }
     {
         for entry in entries {
             self.print_entry(entry, page)?;
@@ -174,7 +187,8 @@ impl<'a, S: Source> Printer<'a, S> {
     #[cycle(print)]
     fn print_entry(&self, entry: &Entry, page: &mut Page) -> Result<(), AllocError>
         ensures { IfOk result (λ _. Prints page.old page.new
-            (print_entry self.now.layout page.old.margin.items (shape_of_entry (S.bytes self.now.source.now) (view_entry entry.now)))) }
+            (print_entry self.now.layout page.old.margin.items
+            (shape_of_entry (S.bytes self.now.source.now) (view_entry entry.now)))) }
     {
         print_blank(entry.blank, page)?;
         page.begin_line()?;
@@ -188,7 +202,8 @@ impl<'a, S: Source> Printer<'a, S> {
     #[inline(always)]
     fn print_content(&self, content: &Content, page: &mut Page) -> Result<(), AllocError>
         ensures { IfOk result (λ _. Prints page.old page.new
-            (print_content self.now.layout page.old.margin.items (shape_of_content (S.bytes self.now.source.now) (view_content content.now)))) }
+            (print_content self.now.layout page.old.margin.items
+            (shape_of_content (S.bytes self.now.source.now) (view_content content.now)))) }
     {
         match content {
             Content::AndOr(and_or) => self.print_and_or(and_or, page),
@@ -199,7 +214,8 @@ impl<'a, S: Source> Printer<'a, S> {
     #[cycle(print)]
     fn print_and_or(&self, and_or: &AndOr, page: &mut Page) -> Result<(), AllocError>
         ensures { IfOk result (λ _. Prints page.old page.new
-            (print_and_or self.now.layout page.old.margin.items (shape_of_and_or (S.bytes self.now.source.now) (view_and_or and_or.now)))) }
+            (print_and_or self.now.layout page.old.margin.items
+            (shape_of_and_or (S.bytes self.now.source.now) (view_and_or and_or.now)))) }
     {
         self.print_pipeline(&and_or.first, page)?;
         self.print_and_or_parts(&and_or.rest, page)
@@ -210,7 +226,9 @@ impl<'a, S: Source> Printer<'a, S> {
     #[tactic(auto, using(crate::proofs::Writing::written_append, crate::proofs::Writing::written_cons, crate::proofs::Writing::written_none, crate::proofs::Rows::parts_end))]
     fn print_and_or_parts(&self, parts: &[AndOrPart], page: &mut Page) -> Result<(), AllocError>
         ensures { IfOk result (λ _. Prints page.old page.new
-            (print_and_or_parts self.now.layout page.old.margin.items false (shape_of_and_or_parts (S.bytes self.now.source.now) (and_or_parts_of (map view_and_or_part parts.now))))) }
+            (print_and_or_parts self.now.layout page.old.margin.items false
+            (shape_of_and_or_parts (S.bytes self.now.source.now)
+            (and_or_parts_of (map view_and_or_part parts.now))))) }
     {
         // Most often there are none.
         if parts.is_empty() {
@@ -231,7 +249,8 @@ impl<'a, S: Source> Printer<'a, S> {
     #[inline(always)]
     fn print_pipeline(&self, pipeline: &Pipeline, page: &mut Page) -> Result<(), AllocError>
         ensures { IfOk result (λ _. Prints page.old page.new
-            (print_pipeline self.now.layout page.old.margin.items (shape_of_pipeline (S.bytes self.now.source.now) (view_pipeline pipeline.now)))) }
+            (print_pipeline self.now.layout page.old.margin.items
+            (shape_of_pipeline (S.bytes self.now.source.now) (view_pipeline pipeline.now)))) }
     {
         print_bang(pipeline.bang, page)?;
         self.print_command(&pipeline.first, page)?;
@@ -243,7 +262,9 @@ impl<'a, S: Source> Printer<'a, S> {
     #[tactic(auto, using(crate::proofs::Writing::written_append, crate::proofs::Writing::written_cons, crate::proofs::Writing::written_none, crate::proofs::Rows::pipes_end))]
     fn print_pipes(&self, parts: &[PipelinePart], page: &mut Page) -> Result<(), AllocError>
         ensures { IfOk result (λ _. Prints page.old page.new
-            (print_pipes self.now.layout page.old.margin.items false (shape_of_pipes (S.bytes self.now.source.now) (pipeline_parts_of (map view_pipeline_part parts.now))))) }
+            (print_pipes self.now.layout page.old.margin.items false
+            (shape_of_pipes (S.bytes self.now.source.now)
+            (pipeline_parts_of (map view_pipeline_part parts.now))))) }
     {
         // Most often there are none.
         if parts.is_empty() {
@@ -263,7 +284,8 @@ impl<'a, S: Source> Printer<'a, S> {
     #[cycle(print)]
     fn print_command(&self, command: &Command, page: &mut Page) -> Result<(), AllocError>
         ensures { IfOk result (λ _. Prints page.old page.new
-            (print_command self.now.layout page.old.margin.items (shape_of_command (S.bytes self.now.source.now) (view_command command.now)))) }
+            (print_command self.now.layout page.old.margin.items
+            (shape_of_command (S.bytes self.now.source.now) (view_command command.now)))) }
     {
         match command {
             Command::Simple { items } => self.print_simple(items, page),
@@ -275,7 +297,8 @@ impl<'a, S: Source> Printer<'a, S> {
     #[cycle(print)]
     fn print_function(&self, function: &Function, page: &mut Page) -> Result<(), AllocError>
         ensures { IfOk result (λ _. Prints page.old page.new
-            (print_command self.now.layout page.old.margin.items (shape_of_command (S.bytes self.now.source.now) (view_function function.now)))) }
+            (print_command self.now.layout page.old.margin.items
+            (shape_of_command (S.bytes self.now.source.now) (view_function function.now)))) }
     {
         self.print_text(function.name, page)?;
         page.put(b"()")?;
@@ -288,7 +311,8 @@ impl<'a, S: Source> Printer<'a, S> {
     #[inline(always)]
     fn print_compound(&self, compound: &Compound, page: &mut Page) -> Result<(), AllocError>
         ensures { IfOk result (λ _. Prints page.old page.new
-            (print_compound self.now.layout page.old.margin.items (shape_of_compound (S.bytes self.now.source.now) (view_compound compound.now)))) }
+            (print_compound self.now.layout page.old.margin.items
+            (shape_of_compound (S.bytes self.now.source.now) (view_compound compound.now)))) }
     {
         self.print_form(&compound.form, page)?;
         self.print_items(&compound.redirects, page)
@@ -297,7 +321,8 @@ impl<'a, S: Source> Printer<'a, S> {
     #[cycle(print)]
     fn print_form(&self, form: &Form, page: &mut Page) -> Result<(), AllocError>
         ensures { IfOk result (λ _. Prints page.old page.new
-            (print_form self.now.layout page.old.margin.items (shape_of_form (S.bytes self.now.source.now) (view_form form.now)))) }
+            (print_form self.now.layout page.old.margin.items
+            (shape_of_form (S.bytes self.now.source.now) (view_form form.now)))) }
     {
         match form {
             Form::Brace(list) => self.print_group(b"{", list, b"}", page),
@@ -345,7 +370,9 @@ impl<'a, S: Source> Printer<'a, S> {
         page: &mut Page,
     ) -> Result<(), AllocError>
         ensures { IfOk result (λ _. Prints page.old page.new
-            (text opener.now ∷ lines_between page.old.margin.items (print_entries self.now.layout (deeper self.now.layout page.old.margin.items) (shape_of (S.bytes self.now.source.now) (view_list list.now))) ++ one closer.now)) }
+            (text opener.now ∷ lines_between page.old.margin.items
+            (print_entries self.now.layout (deeper self.now.layout page.old.margin.items)
+            (shape_of (S.bytes self.now.source.now) (view_list list.now))) ++ one closer.now)) }
     {
         page.put(opener)?;
         self.print_lines_between(list, page)?;
@@ -356,7 +383,9 @@ impl<'a, S: Source> Printer<'a, S> {
     #[cycle(print)]
     fn print_lines_between(&self, list: &List, page: &mut Page) -> Result<(), AllocError>
         ensures { IfOk result (λ _. Prints page.old page.new
-            (lines_between page.old.margin.items (print_entries self.now.layout (deeper self.now.layout page.old.margin.items) (shape_of (S.bytes self.now.source.now) (view_list list.now))))) }
+            (lines_between page.old.margin.items
+            (print_entries self.now.layout (deeper self.now.layout page.old.margin.items)
+            (shape_of (S.bytes self.now.source.now) (view_list list.now))))) }
     {
         page.end_line()?;
         let home = page.margin.len();
@@ -369,7 +398,9 @@ impl<'a, S: Source> Printer<'a, S> {
     #[cycle(print)]
     fn print_loop(&self, opener: &[u8], branch: &Branch, page: &mut Page) -> Result<(), AllocError>
         ensures { IfOk result (λ _. Prints page.old page.new
-            (print_branch self.now.layout page.old.margin.items opener.now (codes "do") (shape_of_branch (S.bytes self.now.source.now) (view_branch branch.now)) ++ one (codes "done"))) }
+            (print_branch self.now.layout page.old.margin.items opener.now (codes "do")
+            (shape_of_branch (S.bytes self.now.source.now) (view_branch branch.now))
+            ++ one (codes "done"))) }
     {
         self.print_branch(opener, b"do", branch, page)?;
         page.put(b"done")
@@ -385,7 +416,8 @@ impl<'a, S: Source> Printer<'a, S> {
         page: &mut Page,
     ) -> Result<(), AllocError>
         ensures { IfOk result (λ _. Prints page.old page.new
-            (print_branch self.now.layout page.old.margin.items opener.now opens_body.now (shape_of_branch (S.bytes self.now.source.now) (view_branch branch.now)))) }
+            (print_branch self.now.layout page.old.margin.items opener.now opens_body.now
+            (shape_of_branch (S.bytes self.now.source.now) (view_branch branch.now)))) }
     {
         page.put(opener)?;
         self.print_condition(&branch.condition, page)?;
@@ -397,7 +429,8 @@ impl<'a, S: Source> Printer<'a, S> {
     #[cycle(print)]
     fn print_condition(&self, condition: &List, page: &mut Page) -> Result<(), AllocError>
         ensures { IfOk result (λ _. Prints page.old page.new
-            (print_condition self.now.layout page.old.margin.items (shape_of (S.bytes self.now.source.now) (view_list condition.now)))) }
+            (print_condition self.now.layout page.old.margin.items
+            (shape_of (S.bytes self.now.source.now) (view_list condition.now)))) }
     {
         if !is_one_line(&condition.entries) {
             return self.print_lines_between(condition, page);
@@ -411,7 +444,8 @@ impl<'a, S: Source> Printer<'a, S> {
     #[cycle(print)]
     fn print_only(&self, list: &List, page: &mut Page) -> Result<(), AllocError>
         ensures { IfOk result (λ _. Prints page.old page.new
-            (print_only self.now.layout page.old.margin.items (shape_of (S.bytes self.now.source.now) (view_list list.now)))) }
+            (print_only self.now.layout page.old.margin.items
+            (shape_of (S.bytes self.now.source.now) (view_list list.now)))) }
     {
         match list.entries.first() {
             Some(entry) => self.print_content(&entry.what, page),
@@ -423,7 +457,9 @@ impl<'a, S: Source> Printer<'a, S> {
     #[tactic(auto, using(crate::proofs::Writing::written_append, crate::proofs::Writing::written_cons, crate::proofs::Writing::written_none, crate::proofs::Rows::from_end, crate::proofs::Rows::branches_are))]
     fn print_branches(&self, branches: &[Branch], page: &mut Page) -> Result<(), AllocError>
         ensures { IfOk result (λ _. Prints page.old page.new
-            (print_branches self.now.layout page.old.margin.items (shape_of_branches (S.bytes self.now.source.now) (branches_of (map view_branch branches.now))))) }
+            (print_branches self.now.layout page.old.margin.items
+            (shape_of_branches (S.bytes self.now.source.now)
+            (branches_of (map view_branch branches.now))))) }
     {
         for branch in branches {
             self.print_branch(b"elif", b"then", branch, page)?;
@@ -440,7 +476,10 @@ impl<'a, S: Source> Printer<'a, S> {
         page: &mut Page,
     ) -> Result<(), AllocError>
         ensures { IfOk result (λ _. Prints page.old page.new
-            (print_cases self.now.layout (case_margin self.now.layout page.old.margin.items) (shape_of_cases (S.bytes self.now.source.now) (cases_of (map view_case_item items.now))) ++ print_comment_lines (case_margin self.now.layout page.old.margin.items) (shape_of_comments (S.bytes self.now.source.now) (map view_comment tail.now)))) }
+            (print_cases self.now.layout (case_margin self.now.layout page.old.margin.items)
+            (shape_of_cases (S.bytes self.now.source.now) (cases_of (map view_case_item items.now)))
+            ++ print_comment_lines (case_margin self.now.layout page.old.margin.items)
+            (shape_of_comments (S.bytes self.now.source.now) (map view_comment tail.now)))) }
     {
         let home = page.margin.len();
         self.enter_case(page)?;
@@ -454,7 +493,9 @@ impl<'a, S: Source> Printer<'a, S> {
     #[tactic(auto, using(crate::proofs::Writing::written_append, crate::proofs::Writing::written_cons, crate::proofs::Writing::written_none, crate::proofs::Rows::from_end, crate::proofs::Rows::cases_are))]
     fn print_cases(&self, items: &[CaseItem], page: &mut Page) -> Result<(), AllocError>
         ensures { IfOk result (λ _. Prints page.old page.new
-            (print_cases self.now.layout page.old.margin.items (shape_of_cases (S.bytes self.now.source.now) (cases_of (map view_case_item items.now))))) }
+            (print_cases self.now.layout page.old.margin.items
+            (shape_of_cases (S.bytes self.now.source.now)
+            (cases_of (map view_case_item items.now))))) }
     {
         for item in items {
             self.print_case(item, page)?;
@@ -466,7 +507,8 @@ impl<'a, S: Source> Printer<'a, S> {
     #[cycle(print)]
     fn print_case(&self, item: &CaseItem, page: &mut Page) -> Result<(), AllocError>
         ensures { IfOk result (λ _. Prints page.old page.new
-            (print_case self.now.layout page.old.margin.items (shape_of_case (S.bytes self.now.source.now) (view_case_item item.now)))) }
+            (print_case self.now.layout page.old.margin.items
+            (shape_of_case (S.bytes self.now.source.now) (view_case_item item.now)))) }
     {
         self.print_comment_lines(&item.comments, page)?;
         page.begin_line()?;
@@ -482,7 +524,8 @@ impl<'a, S: Source> Printer<'a, S> {
     #[cycle(print)]
     fn print_body(&self, body: &List, page: &mut Page) -> Result<(), AllocError>
         ensures { IfOk result (λ _. Prints page.old page.new
-            (print_body self.now.layout page.old.margin.items (shape_of (S.bytes self.now.source.now) (view_list body.now)))) }
+            (print_body self.now.layout page.old.margin.items
+            (shape_of (S.bytes self.now.source.now) (view_list body.now)))) }
     {
         if body.entries.is_empty() {
             return page.put(b" ");

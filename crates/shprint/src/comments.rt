@@ -29,7 +29,8 @@ impl<'a, S: Source> Printer<'a, S> {
         page: &mut Page,
     ) -> Result<(), AllocError>
         ensures { IfOk result (λ _. Prints page.old page.new
-            (print_comment_lines page.old.margin.items (shape_of_comments (S.bytes self.now.source.now) (map view_comment comments.now)))) }
+            (print_comment_lines page.old.margin.items
+            (shape_of_comments (S.bytes self.now.source.now) (map view_comment comments.now)))) }
     {
         for comment in comments {
             page.begin_line()?;
@@ -47,7 +48,8 @@ impl<'a, S: Source> Printer<'a, S> {
         page: &mut Page,
     ) -> Result<(), AllocError>
         ensures { IfOk result (λ _. Prints page.old page.new
-            (print_further_comments page.old.margin.items (shape_of_comments (S.bytes self.now.source.now) (map view_comment comments.now)))) }
+            (print_further_comments page.old.margin.items
+            (shape_of_comments (S.bytes self.now.source.now) (map view_comment comments.now)))) }
     {
         for comment in comments {
             page.next_line()?;
@@ -63,7 +65,8 @@ impl<'a, S: Source> Printer<'a, S> {
         page: &mut Page,
     ) -> Result<(), AllocError>
         ensures { IfOk result (λ _. Prints page.old page.new
-            (print_comments page.old.margin.items (shape_of_comments (S.bytes self.now.source.now) (map view_comment comments.now)))) }
+            (print_comments page.old.margin.items
+            (shape_of_comments (S.bytes self.now.source.now) (map view_comment comments.now)))) }
     {
         let Some((first, rest)) = comments.split_first() else {
             return Ok(());
@@ -80,7 +83,8 @@ impl<'a, S: Source> Printer<'a, S> {
         page: &mut Page,
     ) -> Result<(), AllocError>
         ensures { IfOk result (λ _. Prints page.old page.new
-            (print_own_comment (option_map (shape_of_comment (S.bytes self.now.source.now)) (option_map view_comment comment)))) }
+            (print_own_comment (option_map (shape_of_comment (S.bytes self.now.source.now))
+            (option_map view_comment comment)))) }
     {
         let Some(comment) = comment else {
             return Ok(());
@@ -97,7 +101,8 @@ impl<'a, S: Source> Printer<'a, S> {
         page: &mut Page,
     ) -> Result<(), AllocError>
         ensures { IfOk result (λ _. Prints page.old page.new
-            (print_join_on page.old.margin.items operator.now (shape_of_join (S.bytes self.now.source.now) (view_join join.now)))) }
+            (print_join_on page.old.margin.items operator.now
+            (shape_of_join (S.bytes self.now.source.now) (view_join join.now)))) }
     {
         page.put(b" ")?;
         page.put(operator)?;

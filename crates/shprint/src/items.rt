@@ -49,7 +49,8 @@ fn duplicates(operator: RedirectOperator) -> bool
 impl<'a, S: Source> Printer<'a, S> {
     /// What parts an item from what stands before it: a space, or a continuation.
     fn print_gap(&self, broken: bool, page: &mut Page) -> Result<(), AllocError>
-        ensures { IfOk result (λ _. Prints page.old page.new (print_gap self.now.layout page.old.margin.items broken)) }
+        ensures { IfOk result (λ _. Prints page.old page.new
+            (print_gap self.now.layout page.old.margin.items broken)) }
     {
         if !broken {
             return page.put(b" ");
@@ -64,13 +65,15 @@ impl<'a, S: Source> Printer<'a, S> {
 
     /// A word as it stands, with its substitutions.
     pub(crate) fn print_word(&self, word: &Word, page: &mut Page) -> Result<(), AllocError>
-        ensures { IfOk result (λ _. Prints page.old page.new (print_word (shape_of_word (S.bytes self.now.source.now) (view_word word.now)))) }
+        ensures { IfOk result (λ _. Prints page.old page.new
+            (print_word (shape_of_word (S.bytes self.now.source.now) (view_word word.now)))) }
     {
         self.print_text(word.span, page)
     }
 
     fn print_number(&self, number: Option<Span>, page: &mut Page) -> Result<(), AllocError>
-        ensures { IfOk result (λ _. Prints page.old page.new (print_number (option_map (bare_at (S.bytes self.now.source.now)) number))) }
+        ensures { IfOk result (λ _. Prints page.old page.new
+            (print_number (option_map (bare_at (S.bytes self.now.source.now)) number))) }
     {
         match number {
             Some(number) => self.print_bare_text(number, page),
@@ -97,7 +100,8 @@ impl<'a, S: Source> Printer<'a, S> {
         page: &mut Page,
     ) -> Result<(), AllocError>
         ensures { IfOk result (λ _. Prints page.old page.new
-            (print_operator self.now.layout operator (shape_of_word (S.bytes self.now.source.now) (view_word word.now)))) }
+            (print_operator self.now.layout operator
+            (shape_of_word (S.bytes self.now.source.now) (view_word word.now)))) }
     {
         page.put(redirect_text(operator))?;
         let spaced = self.layout.space_redirects && !duplicates(operator);
@@ -109,7 +113,8 @@ impl<'a, S: Source> Printer<'a, S> {
 
     fn print_item(&self, item: &Item, page: &mut Page) -> Result<(), AllocError>
         ensures { IfOk result (λ _. Prints page.old page.new
-            (print_item self.now.layout (shape_of_item (S.bytes self.now.source.now) (view_item item.now)))) }
+            (print_item self.now.layout
+            (shape_of_item (S.bytes self.now.source.now) (view_item item.now)))) }
     {
         match &item.what {
             ItemContent::Assign(word) | ItemContent::Word(word) => self.print_word(word, page),
@@ -119,7 +124,9 @@ impl<'a, S: Source> Printer<'a, S> {
 
     fn print_redirection(&self, redirect: &Redirection, page: &mut Page) -> Result<(), AllocError>
         ensures { IfOk result (λ _. Prints page.old page.new
-            (print_item self.now.layout (shape_of_item (S.bytes self.now.source.now) (item false (view_redirection redirect.now))))) }
+            (print_item self.now.layout
+            (shape_of_item (S.bytes self.now.source.now)
+            (item false (view_redirection redirect.now))))) }
     {
         self.print_number(redirect.number, page)?;
         self.print_operator(redirect.operator, &redirect.word, page)?;
@@ -138,7 +145,8 @@ impl<'a, S: Source> Printer<'a, S> {
         page: &mut Page,
     ) -> Result<(), AllocError>
         ensures { IfOk result (λ _. Prints page.old page.new
-            (print_here (shape_of_word (S.bytes self.now.source.now) (view_word word.now)) (Some (shape_of_here (S.bytes self.now.source.now) (view_here here))))) }
+            (print_here (shape_of_word (S.bytes self.now.source.now) (view_word word.now))
+            (Some (shape_of_here (S.bytes self.now.source.now) (view_here here))))) }
     {
         self.copy(here.body, &mut page.held)?;
         self.copy_delimiter(word.span, &mut page.held)
@@ -148,7 +156,9 @@ impl<'a, S: Source> Printer<'a, S> {
     /// source. Most often it does.
     #[tactic(auto, using(crate::proofs::Copying::run_enough))]
     fn delimiter_here(&self, word: Span) -> Option<&[u8]>
-        ensures { IfSome result (λ text. text.now ++ 10 ∷ [] ≡ delimiter_line (delimiter_of (text_at (S.bytes self.now.source.now) word))) }
+        ensures { IfSome result
+            (λ text. text.now ++ 10 ∷ []
+            ≡ delimiter_line (delimiter_of (text_at (S.bytes self.now.source.now) word))) }
     {
         let length = word.end.checked_sub(word.start)?;
         let run = self.source.run(word.start);
@@ -160,7 +170,8 @@ impl<'a, S: Source> Printer<'a, S> {
 
     /// The line of the delimiter that the word at this span is.
     fn copy_delimiter(&self, word: Span, text: &mut Vec<u8>) -> Result<(), AllocError>
-        ensures { IfOk result (λ _. text.new.items ≡ text.old.items ++ delimiter_line (delimiter_of (text_at (S.bytes self.now.source.now) word))) }
+        ensures { IfOk result (λ _. text.new.items ≡ text.old.items
+            ++ delimiter_line (delimiter_of (text_at (S.bytes self.now.source.now) word))) }
     {
         let Some(delimiter) = self.delimiter_here(word) else {
             return self.copy_unquoted(word, text);
@@ -173,7 +184,8 @@ impl<'a, S: Source> Printer<'a, S> {
     /// The same, by a look at each byte of the word.
     #[cold]
     fn copy_unquoted(&self, word: Span, text: &mut Vec<u8>) -> Result<(), AllocError>
-        ensures { IfOk result (λ _. text.new.items ≡ text.old.items ++ delimiter_line (delimiter_of (text_at (S.bytes self.now.source.now) word))) }
+        ensures { IfOk result (λ _. text.new.items ≡ text.old.items
+            ++ delimiter_line (delimiter_of (text_at (S.bytes self.now.source.now) word))) }
     {
         let mut bytes = Vec::new(self.alloc);
         self.copy(word, &mut bytes)?;
@@ -189,7 +201,8 @@ impl<'a, S: Source> Printer<'a, S> {
     #[tactic(auto, using(crate::proofs::Writing::written_append, crate::proofs::Writing::written_cons, crate::proofs::Writing::written_none, crate::proofs::Rows::from_end, crate::proofs::Rows::items_are))]
     pub(crate) fn print_items(&self, items: &[Item], page: &mut Page) -> Result<(), AllocError>
         ensures { IfOk result (λ _. Prints page.old page.new
-            (print_items self.now.layout page.old.margin.items (shape_of_items (S.bytes self.now.source.now) (items_of (map view_item items.now))))) }
+            (print_items self.now.layout page.old.margin.items
+            (shape_of_items (S.bytes self.now.source.now) (items_of (map view_item items.now))))) }
     {
         for item in items {
             self.print_gap(item.broken, page)?;
@@ -201,7 +214,8 @@ impl<'a, S: Source> Printer<'a, S> {
     /// The items of a simple command.
     pub(crate) fn print_simple(&self, items: &[Item], page: &mut Page) -> Result<(), AllocError>
         ensures { IfOk result (λ _. Prints page.old page.new
-            (print_simple self.now.layout page.old.margin.items (shape_of_items (S.bytes self.now.source.now) (items_of (map view_item items.now))))) }
+            (print_simple self.now.layout page.old.margin.items
+            (shape_of_items (S.bytes self.now.source.now) (items_of (map view_item items.now))))) }
     {
         let Some((first, rest)) = items.split_first() else {
             return Ok(());
@@ -223,7 +237,8 @@ impl<'a, S: Source> Printer<'a, S> {
     #[tactic(auto, using(crate::proofs::Writing::written_append, crate::proofs::Writing::written_cons, crate::proofs::Writing::written_none, crate::proofs::Rows::from_end, crate::proofs::Rows::patterns_are))]
     fn print_patterns(&self, patterns: &[Word], page: &mut Page) -> Result<(), AllocError>
         ensures { IfOk result (λ _. Prints page.old page.new
-            (print_patterns (shape_of_patterns (S.bytes self.now.source.now) (patterns_of (map view_word patterns.now))))) }
+            (print_patterns (shape_of_patterns (S.bytes self.now.source.now)
+            (patterns_of (map view_word patterns.now))))) }
     {
         for pattern in patterns {
             page.put(b" | ")?;
@@ -239,7 +254,8 @@ impl<'a, S: Source> Printer<'a, S> {
         page: &mut Page,
     ) -> Result<(), AllocError>
         ensures { IfOk result (λ _. Prints page.old page.new
-            (print_first_pattern (shape_of_patterns (S.bytes self.now.source.now) (patterns_of (map view_word patterns.now))))) }
+            (print_first_pattern (shape_of_patterns (S.bytes self.now.source.now)
+            (patterns_of (map view_word patterns.now))))) }
     {
         let Some((first, rest)) = patterns.split_first() else {
             return Ok(());

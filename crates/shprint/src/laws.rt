@@ -14,7 +14,8 @@ ghost use Rattle.shprint.specs.declared.layout.Layout.{Layout};
 pub fn read_back()
     ensures { (edition : Edition) (layout : Layout) (bytes : List ℕ) (script : AScript) →
         Outcome edition bytes script →
-        ReadsBack edition (printed layout (shape_of bytes script.entries)) (shape_of bytes script.entries) }
+        ReadsBack edition (printed layout (shape_of bytes script.entries))
+        (shape_of bytes script.entries) }
 {}
 
 /// What is printed for a printed text is that text, where both are read by the same edition.
@@ -22,5 +23,6 @@ pub fn printed_again()
     ensures { (edition : Edition) (layout : Layout) (bytes : List ℕ) (script again : AScript) →
         Outcome edition bytes script →
         Outcome edition (printed layout (shape_of bytes script.entries)) again →
-        printed layout (shape_of (printed layout (shape_of bytes script.entries)) again.entries) ≡ printed layout (shape_of bytes script.entries) }
+        printed layout (shape_of (printed layout (shape_of bytes script.entries)) again.entries)
+        ≡ printed layout (shape_of bytes script.entries) }
 {}

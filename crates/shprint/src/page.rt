@@ -63,7 +63,8 @@ impl Page {
 
     /// Ends a line and begins the next one.
     pub(crate) fn next_line(&mut self) -> Result<(), AllocError>
-        ensures { IfOk result (λ _. Prints self.old self.new (line_end ∷ text self.old.margin.items ∷ [])) }
+        ensures { IfOk result (λ _. Prints self.old self.new
+            (line_end ∷ text self.old.margin.items ∷ [])) }
     {
         self.end_line()?;
         self.begin_line()

@@ -35,7 +35,8 @@ impl<'a, S: Source> Printer<'a, S> {
     /// what prints a short text in place stays small.
     #[inline(never)]
     pub(crate) fn copy(&self, span: Span, text: &mut Vec<u8>) -> Result<(), AllocError>
-        ensures { IfOk result (λ _. text.new.items ≡ text.old.items ++ text_at (S.bytes self.now.source.now) span) }
+        ensures { IfOk result (λ _. text.new.items ≡ text.old.items
+            ++ text_at (S.bytes self.now.source.now) span) }
     {
         let mut at = span.start;
         'runs: while at < span.end {
@@ -59,7 +60,8 @@ impl<'a, S: Source> Printer<'a, S> {
     /// known beforehand is some moves in place, and no call that asks for their number.
     #[inline(always)]
     pub(crate) fn print_text(&self, span: Span, page: &mut Page) -> Result<(), AllocError>
-        ensures { IfOk result (λ _. Prints page.old page.new (text (text_at (S.bytes self.now.source.now) span) ∷ [])) }
+        ensures { IfOk result (λ _. Prints page.old page.new
+            (text (text_at (S.bytes self.now.source.now) span) ∷ [])) }
     {
         let wanted = span.end.saturating_sub(span.start);
         match self.source.run(span.start).first_chunk::<ROW>() {
@@ -75,7 +77,8 @@ impl<'a, S: Source> Printer<'a, S> {
 
     /// Prints the bytes of a span without its continuations.
     pub(crate) fn print_bare_text(&self, span: Span, page: &mut Page) -> Result<(), AllocError>
-        ensures { IfOk result (λ _. Prints page.old page.new (text (bare_at (S.bytes self.now.source.now) span) ∷ [])) }
+        ensures { IfOk result (λ _. Prints page.old page.new
+            (text (bare_at (S.bytes self.now.source.now) span) ∷ [])) }
     {
         add_bare(&mut page.text, self.source, span)
     }
@@ -101,7 +104,8 @@ pub fn print<S: Source>(
     // and no other.
     ensures reads_back { IfOk result (λ text. (edition : Edition) →
         Outcome edition (S.bytes source.now) (view_script script.now) →
-        ReadsBack edition text.items (shape_of (S.bytes source.now) (view_script script.now).entries)) }
+        ReadsBack edition text.items
+        (shape_of (S.bytes source.now) (view_script script.now).entries)) }
 {
     let printer = Printer {
         alloc,

@@ -34,7 +34,9 @@ impl<'a, S: Source> Printer<'a, S> {
     /// Where an item ends that is a word one blank behind this offset, and stands on the same line.
     fn word_behind(&self, end: usize, item: &Item) -> Option<usize>
         ensures { IfSome result (λ next. (end ≤ next) × ((y : Layout) (margin : Text) (s : Sheet) →
-            written s (item_behind y margin (shape_of_item (S.bytes self.now.source.now) (view_item item.now))) ≡ written s (one (stretch (S.bytes self.now.source.now) end next)))) }
+            written s (item_behind y margin
+            (shape_of_item (S.bytes self.now.source.now) (view_item item.now)))
+            ≡ written s (one (stretch (S.bytes self.now.source.now) end next)))) }
     {
         let span = word_span(item)?;
         if item.broken || span.start.checked_sub(1) != Some(end) {
@@ -51,9 +53,12 @@ impl<'a, S: Source> Printer<'a, S> {
     pub(crate) fn words_behind<'b>(&self, start: usize, items: &'b [Item]) -> (usize, &'b [Item])
         ensures onward { start ≤ result.0 }
         ensures words { (y : Layout) (margin : Text) (s : Sheet) →
-            written s (print_items y margin (shape_of_items (S.bytes self.now.source.now) (items_of (map view_item items.now))))
+            written s (print_items y margin
+            (shape_of_items (S.bytes self.now.source.now) (items_of (map view_item items.now))))
             ≡ written s (text (stretch (S.bytes self.now.source.now) start result.0)
-            ∷ print_items y margin (shape_of_items (S.bytes self.now.source.now) (items_of (map view_item result.1.now)))) }
+            ∷ print_items y margin
+            (shape_of_items (S.bytes self.now.source.now)
+            (items_of (map view_item result.1.now)))) }
     {
         let mut end = start;
         let mut rest = items;

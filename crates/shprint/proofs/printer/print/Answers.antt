@@ -14,6 +14,13 @@ pub returns : goal.returns
 returns g c =
     let bytes = g.S.Source.bytes c.args.source.now in
     let shape = shape_of bytes (view_script c.args.script.now).entries in
-    let all : sheet c.print_entries.new.page ≡ sheet_of (printed c.args.layout.now shape) (held_behind [] (print_script c.args.layout.now shape)) = grind (arith, written_first, list_seen) in
+    let all : sheet c.print_entries.new.page
+    ≡ sheet_of (printed c.args.layout.now shape) (held_behind [] (print_script c.args.layout.now shape)) =
+    grind (arith, written_first, list_seen) in
     let is : c.print_entries.new.page.text.items ≡ printed c.args.layout.now shape = ap (λ s. s.so_far) all in
-    record { printed = is; reads_back = λ edition outcome. subst (λ t. ReadsBack edition t shape) (sym is) (reads_back edition c.args.layout.now bytes (view_script c.args.script.now) outcome) }
+    record {
+      printed = is;
+      reads_back =
+          λ edition outcome. subst (λ t. ReadsBack edition t shape) (sym is)
+          (reads_back edition c.args.layout.now bytes (view_script c.args.script.now) outcome);
+    }

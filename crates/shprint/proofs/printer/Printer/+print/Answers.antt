@@ -19,12 +19,16 @@ print_and_or-returns g t c =
 
 pub print_and_or_parts-loop-part-preserved : goal.print_and_or_parts-loop-part-preserved
 print_and_or_parts-loop-part-preserved g t c =
-    let more = parts_more (g.S.Source.bytes c.args.self.now.source.now) c.args.self.now.layout c.args.page.now.margin.items c.loop-part.broken c.args.parts.now c.loop-part.part-index c.part-item.result c.loop-part-test.true in
+    let more = parts_more (g.S.Source.bytes c.args.self.now.source.now) c.args.self.now.layout
+    c.args.page.now.margin.items c.loop-part.broken c.args.parts.now c.loop-part.part-index c.part-item.result
+    c.loop-part-test.true in
     grind (arith, written_append, written_cons, more, and_or_part_seen)
 
 pub print_and_or_parts-returns-then-is_empty : goal.print_and_or_parts-returns-then-is_empty
 print_and_or_parts-returns-then-is_empty g t c =
-    let none = parts_end (g.S.Source.bytes c.args.self.now.source.now) c.args.self.now.layout c.args.page.now.margin.items false c.args.parts.now 0 (grind (arith, nat_tests, c.is_empty.ensures, c.if-is_empty.true)) in
+    let none = parts_end (g.S.Source.bytes c.args.self.now.source.now) c.args.self.now.layout
+    c.args.page.now.margin.items false c.args.parts.now 0
+    (grind (arith, nat_tests, c.is_empty.ensures, c.if-is_empty.true)) in
     grind (arith, written_none, none)
 
 pub print_and_or_parts-returns : goal.print_and_or_parts-returns
@@ -33,12 +37,16 @@ print_and_or_parts-returns g t c =
 
 pub print_pipes-loop-part-preserved : goal.print_pipes-loop-part-preserved
 print_pipes-loop-part-preserved g t c =
-    let more = pipes_more (g.S.Source.bytes c.args.self.now.source.now) c.args.self.now.layout c.args.page.now.margin.items c.loop-part.broken c.args.parts.now c.loop-part.part-index c.part-item.result c.loop-part-test.true in
+    let more = pipes_more (g.S.Source.bytes c.args.self.now.source.now) c.args.self.now.layout
+    c.args.page.now.margin.items c.loop-part.broken c.args.parts.now c.loop-part.part-index c.part-item.result
+    c.loop-part-test.true in
     grind (arith, written_append, written_cons, more, pipeline_part_seen)
 
 pub print_pipes-returns-then-is_empty : goal.print_pipes-returns-then-is_empty
 print_pipes-returns-then-is_empty g t c =
-    let none = pipes_end (g.S.Source.bytes c.args.self.now.source.now) c.args.self.now.layout c.args.page.now.margin.items false c.args.parts.now 0 (grind (arith, nat_tests, c.is_empty.ensures, c.if-is_empty.true)) in
+    let none = pipes_end (g.S.Source.bytes c.args.self.now.source.now) c.args.self.now.layout
+    c.args.page.now.margin.items false c.args.parts.now 0
+    (grind (arith, nat_tests, c.is_empty.ensures, c.if-is_empty.true)) in
     grind (arith, written_none, none)
 
 pub print_pipes-returns : goal.print_pipes-returns
@@ -55,15 +63,33 @@ print_branch-returns g t c =
 
 pub print_branches-loop-branch-preserved : goal.print_branches-loop-branch-preserved
 print_branches-loop-branch-preserved g t c =
-    grind (arith, written_append, written_cons, from_more (branch_marks (g.S.Source.bytes c.args.self.now.source.now) c.args.self.now.layout c.args.page.now.margin.items) view_branch c.args.branches.now c.loop-branch.branch-index c.branch-item.result)
+    grind (
+      arith,
+      written_append,
+      written_cons,
+      from_more (branch_marks (g.S.Source.bytes c.args.self.now.source.now) c.args.self.now.layout
+          c.args.page.now.margin.items) view_branch c.args.branches.now c.loop-branch.branch-index c.branch-item.result,
+    )
 
 pub print_cases-loop-item-preserved : goal.print_cases-loop-item-preserved
 print_cases-loop-item-preserved g t c =
-    grind (arith, written_append, written_cons, from_more (case_marks (g.S.Source.bytes c.args.self.now.source.now) c.args.self.now.layout c.args.page.now.margin.items) view_case_item c.args.items.now c.loop-item.item-index c.item-item.result)
+    grind (
+      arith,
+      written_append,
+      written_cons,
+      from_more (case_marks (g.S.Source.bytes c.args.self.now.source.now) c.args.self.now.layout
+          c.args.page.now.margin.items) view_case_item c.args.items.now c.loop-item.item-index c.item-item.result,
+    )
 
 pub print_entries-loop-entry-preserved : goal.print_entries-loop-entry-preserved
 print_entries-loop-entry-preserved g t c =
-    grind (arith, written_append, written_cons, from_more (entry_marks (g.S.Source.bytes c.args.self.now.source.now) c.args.self.now.layout c.args.page.now.margin.items) view_entry c.args.entries.now c.loop-entry.entry-index c.entry-item.result)
+    grind (
+      arith,
+      written_append,
+      written_cons,
+      from_more (entry_marks (g.S.Source.bytes c.args.self.now.source.now) c.args.self.now.layout
+          c.args.page.now.margin.items) view_entry c.args.entries.now c.loop-entry.entry-index c.entry-item.result,
+    )
 
 pub print_case-returns : goal.print_case-returns
 print_case-returns g t c =
@@ -93,17 +119,25 @@ print_entry-returns g t c =
 pub print_form-returns-in-Some : goal.print_form-returns-in-Some
 print_form-returns-in-Some g t c =
     let parts = written_parts (sheet c.args.page.now)
-    (print_branch c.args.self.now.layout c.args.page.now.margin.items (codes "if") (codes "then") (shape_of_branch (g.S.Source.bytes c.args.self.now.source.now) (view_branch c.in-If.first)))
-    (print_branches c.args.self.now.layout c.args.page.now.margin.items (shape_of_branches (g.S.Source.bytes c.args.self.now.source.now) (branches_of (map view_branch c.in-If.rest.items))))
-    (text (codes "else") ∷ lines_between c.args.page.now.margin.items (print_entries c.args.self.now.layout (deeper c.args.self.now.layout c.args.page.now.margin.items) (shape_of (g.S.Source.bytes c.args.self.now.source.now) (view_list c.in-Some.list))))
+    (print_branch c.args.self.now.layout c.args.page.now.margin.items (codes "if") (codes "then")
+    (shape_of_branch (g.S.Source.bytes c.args.self.now.source.now) (view_branch c.in-If.first)))
+    (print_branches c.args.self.now.layout c.args.page.now.margin.items
+    (shape_of_branches (g.S.Source.bytes c.args.self.now.source.now)
+    (branches_of (map view_branch c.in-If.rest.items))))
+    (text (codes "else") ∷ lines_between c.args.page.now.margin.items
+    (print_entries c.args.self.now.layout (deeper c.args.self.now.layout c.args.page.now.margin.items)
+    (shape_of (g.S.Source.bytes c.args.self.now.source.now) (view_list c.in-Some.list))))
     (one (codes "fi")) in
     grind (arith, parts, if_else_seen)
 
 pub print_form-returns-in-None : goal.print_form-returns-in-None
 print_form-returns-in-None g t c =
     let parts = written_parts (sheet c.args.page.now)
-    (print_branch c.args.self.now.layout c.args.page.now.margin.items (codes "if") (codes "then") (shape_of_branch (g.S.Source.bytes c.args.self.now.source.now) (view_branch c.in-If.first)))
-    (print_branches c.args.self.now.layout c.args.page.now.margin.items (shape_of_branches (g.S.Source.bytes c.args.self.now.source.now) (branches_of (map view_branch c.in-If.rest.items))))
+    (print_branch c.args.self.now.layout c.args.page.now.margin.items (codes "if") (codes "then")
+    (shape_of_branch (g.S.Source.bytes c.args.self.now.source.now) (view_branch c.in-If.first)))
+    (print_branches c.args.self.now.layout c.args.page.now.margin.items
+    (shape_of_branches (g.S.Source.bytes c.args.self.now.source.now)
+    (branches_of (map view_branch c.in-If.rest.items))))
     [] (one (codes "fi")) in
     grind (arith, parts, if_seen)
 

@@ -5,4 +5,10 @@ use Rattle.shprint.proofs.Rows.{comment_line, marks_from}
 use Rattle.shprint.proofs.printer.Printer.print_comment_lines.Given as goal
 
 abbrev pub invariant-loop-comment : goal.invariant-loop-comment
-invariant-loop-comment g l = (l.page.margin.items ≡ l.fn.page.margin.items) × (written (sheet l.page) (marks_from (comment_line (g.S.Source.bytes l.self.source.now) l.self.layout l.fn.page.margin.items) (map view_comment l.comments) l.comment-index) ≡ written (sheet l.fn.page) (marks_from (comment_line (g.S.Source.bytes l.self.source.now) l.self.layout l.fn.page.margin.items) (map view_comment l.comments) 0))
+invariant-loop-comment g l = (l.page.margin.items ≡ l.fn.page.margin.items)
+    × (written (sheet l.page) (marks_from
+    (comment_line (g.S.Source.bytes l.self.source.now) l.self.layout l.fn.page.margin.items)
+    (map view_comment l.comments) l.comment-index)
+    ≡ written (sheet l.fn.page) (marks_from
+    (comment_line (g.S.Source.bytes l.self.source.now) l.self.layout l.fn.page.margin.items)
+    (map view_comment l.comments) 0))

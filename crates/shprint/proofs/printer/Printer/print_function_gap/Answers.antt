@@ -15,6 +15,7 @@ returns-then-is_brace g c =
 pub returns-else-self : goal.returns-else-self
 returns-else-self g c =
     elim c.else-self.branch [
-      | else-self-via-then-self+else-is_brace w ↦ let brace = w.is_brace.ensures (g.S.Source.bytes c.args.self.now.source.now) in grind (arith, gap_none, brace)
+      | else-self-via-then-self+else-is_brace w ↦ let brace =
+          w.is_brace.ensures (g.S.Source.bytes c.args.self.now.source.now) in grind (arith, gap_none, brace)
       | else-self-via-else-self w ↦ grind (arith, gap_none)
     ]

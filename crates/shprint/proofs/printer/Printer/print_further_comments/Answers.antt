@@ -8,4 +8,10 @@ use Rattle.shprint.proofs.printer.Printer.print_further_comments.Goals as goal
 pub loop-comment-preserved : goal.loop-comment-preserved
 loop-comment-preserved g c =
     let nothing : Comment = record { span = record { start = 0; «end» = 0 } } in
-    grind (arith, written_append, written_cons, from_more (further_comment (g.S.Source.bytes c.args.self.now.source.now) c.args.self.now.layout c.args.page.now.margin.items) view_comment c.args.comments.now c.loop-comment.comment-index nothing)
+    grind (
+      arith,
+      written_append,
+      written_cons,
+      from_more (further_comment (g.S.Source.bytes c.args.self.now.source.now) c.args.self.now.layout
+          c.args.page.now.margin.items) view_comment c.args.comments.now c.loop-comment.comment-index nothing,
+    )

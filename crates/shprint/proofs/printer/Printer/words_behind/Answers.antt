@@ -3,14 +3,19 @@ use Rattle.shprint.proofs.Spaced.{none_passed, one_passed}
 use Rattle.shprint.proofs.printer.Printer.words_behind.Goals as goal
 
 pub words-init : goal.words-init
-words-init g c = (omega arith, λ y m t. none_passed (g.S.Source.bytes c.args.self.now.source.now) y m c.args.start c.args.items.now t)
+words-init g c = (
+  omega arith,
+  λ y m t. none_passed (g.S.Source.bytes c.args.self.now.source.now) y m c.args.start c.args.items.now t,
+)
 
 pub words-preserved : goal.words-preserved
 words-preserved g c =
     let bytes = g.S.Source.bytes c.args.self.now.source.now in
     let inv = c.words.invariant in
     let word = c.in-Some-word_behind.ensures in
-    let split : c.words.rest.now ≡ c.in-Some.item.now ∷ c.in-Some.behind.now = grind (arith, c.in-Some.ensures, c.split_first.ensures, c.in-Some.item-is, c.in-Some.behind-is) in (
+    let split : c.words.rest.now ≡ c.in-Some.item.now ∷ c.in-Some.behind.now =
+    grind (arith, c.in-Some.ensures, c.split_first.ensures, c.in-Some.item-is, c.in-Some.behind-is) in (
       omega (arith, inv.0, word.0),
-      λ y m t. one_passed bytes y m c.args.start c.words.end c.in-Some-word_behind.next _ c.in-Some.item.now c.in-Some.behind.now inv.0 word.0 (λ t. rw split at (inv.1 y m t)) (word.1 y m) t,
+      λ y m t. one_passed bytes y m c.args.start c.words.end c.in-Some-word_behind.next _ c.in-Some.item.now
+          c.in-Some.behind.now inv.0 word.0 (λ t. rw split at (inv.1 y m t)) (word.1 y m) t,
     )

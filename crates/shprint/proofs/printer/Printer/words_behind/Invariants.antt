@@ -13,7 +13,8 @@ invariant-words g l =
     let bytes = g.S.Source.bytes l.self.source.now in
     (l.start ≤ l.«end») × ((y : Layout) (margin : Text) (s : Sheet) →
     written s (print_items y margin (shape_of_items bytes (items_of (map view_item l.fn.items))))
-    ≡ written s (text (stretch bytes l.start l.«end») ∷ print_items y margin (shape_of_items bytes (items_of (map view_item l.rest)))))
+    ≡ written s (text (stretch bytes l.start l.«end»)
+    ∷ print_items y margin (shape_of_items bytes (items_of (map view_item l.rest)))))
 
 abbrev pub decreases-words : goal.decreases-words
 decreases-words g l = length l.rest
