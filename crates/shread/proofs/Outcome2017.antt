@@ -33,25 +33,32 @@ Each {X = X} r q = (s : State) (y : Read X) (k : Row Spelled) → r s y k → q 
 each_just : {X : Type 0} {x z : X} {s : State} → x ≡ z → (y : Read X) (k : Row Spelled) → Just x s y k → Just z s y k
 each_just {s = s} same y k part = subst (λ z. Just z s y k) same part
 
-each_then : {X Y : Type 0} {r r2 : Comes X} {q q2 : X → Comes Y} → Each r r2 → ((x : X) → Each (q x) (q2 x)) → Each (Then r q) (Then r2 q2)
-each_then one two s y k (and_then {x = x} {t = t} {k = k1} {l = l} p rest) = and_then (one s (Ok (x, t)) k1 p) (two x t y l rest)
+each_then : {X Y : Type 0} {r r2 : Comes X} {q q2 : X → Comes Y} → Each r r2 → ((x : X) → Each (q x) (q2 x)) →
+    Each (Then r q) (Then r2 q2)
+each_then one two s y k (and_then {x = x} {t = t} {k = k1} {l = l} p rest) =
+    and_then (one s (Ok (x, t)) k1 p) (two x t y l rest)
 each_then one two s y k (or_stops {f = f} p) = or_stops (one s (Err f) k p)
 
-each_either : {X : Type 0} {r r2 q q2 : Comes X} {b c : Bool} → b ≡ c → Each r r2 → Each q q2 → (s : State) (y : Read X) (k : Row Spelled) → Either b r q s y k → Either c r2 q2 s y k
+each_either : {X : Type 0} {r r2 q q2 : Comes X} {b c : Bool} → b ≡ c → Each r r2 → Each q q2 →
+    (s : State) (y : Read X) (k : Row Spelled) → Either b r q s y k → Either c r2 q2 s y k
 each_either same one two s y k (holds is p) = holds (sym same ∙ is) (one s y k p)
 each_either same one two s y k (fails is p) = fails (sym same ∙ is) (two s y k p)
 
-each_token : {X : Type 0} (told : Told) (g : Given) {r r2 : Comes X} → Each r r2 → Each (OneToken told g r) (OneToken told g r2)
+each_token : {X : Type 0} (told : Told) (g : Given) {r r2 : Comes X} → Each r r2 →
+    Each (OneToken told g r) (OneToken told g r2)
 each_token told g one s y k (whole {x = x} {t = t} {k = k1} p) = whole (one s (Ok (x, t)) k1 p)
 each_token told g one s y k (broken_off {f = f} p) = broken_off (one s (Err f) k p)
 
-each_turns : {A : Type 0} (g : Given) {turn turn2 : A → Comes (Step A)} → ((a : A) → Each (turn a) (turn2 a)) → (a : A) (s : State) (y : Read A) (k : Row Spelled) → Turns g turn a s y k → Turns g turn2 a s y k
+each_turns : {A : Type 0} (g : Given) {turn turn2 : A → Comes (Step A)} → ((a : A) → Each (turn a) (turn2 a)) →
+    (a : A) (s : State) (y : Read A) (k : Row Spelled) → Turns g turn a s y k → Turns g turn2 a s y k
 each_turns g one a s y k (last p) = last (one a s _ k p)
 each_turns g one a s y k (rests p still) = rests (one a s _ k p) still
-each_turns g one a s y k (more {b = b} {t = t} {k = k1} {l = l} p on next) = more (one a s _ k1 p) on (each_turns g one b t y l next)
+each_turns g one a s y k (more {b = b} {t = t} {k = k1} {l = l} p on next) =
+    more (one a s _ k1 p) on (each_turns g one b t y l next)
 each_turns g one a s y k (halts p) = halts (one a s _ k p)
 
-each_ending : {X : Type 0} (kind : FaultKind) (at : ℕ) {r r2 : Comes X} → Each r r2 → Each (Ending kind at r) (Ending kind at r2)
+each_ending : {X : Type 0} (kind : FaultKind) (at : ℕ) {r r2 : Comes X} → Each r r2 →
+    Each (Ending kind at r) (Ending kind at r2)
 each_ending kind at one s y k (goes_through p) = goes_through (one s _ k p)
 each_ending kind at one s y k (stops_inside p) = stops_inside (one s _ k p)
 
@@ -100,15 +107,25 @@ module _ (g : Given) (by : g.edition ≡ Y2017) where
 
 -- ---- scripts
 
-lines_to : (B : List ℕ) (so : SoFar) (p : ℕ) (s : AScript) (k : Row Spelled) → Lines Y2017 B so p s k → Lines_2017 B so p s k
-lines_to B so p s k (line_ended {l = l} es t k1 read rest) = line_ended_2017 es t k1 (to_2017 (given Y2017 (drop p B) p) refl (the_line (is_blank_line so)) _ _ k1 read) (lines_to B _ _ s l rest)
-lines_to B so p s k (last_line es t k1 read) = last_line_2017 es t k1 (to_2017 (given Y2017 (drop p B) p) refl (the_line (is_blank_line so)) _ _ k1 read)
-lines_to B so p s k (faulty f k1 read) = faulty_2017 f k1 (to_2017 (given Y2017 (drop p B) p) refl (the_line (is_blank_line so)) _ _ k1 read)
+lines_to : (B : List ℕ) (so : SoFar) (p : ℕ) (s : AScript) (k : Row Spelled) → Lines Y2017 B so p s k →
+    Lines_2017 B so p s k
+lines_to B so p s k (line_ended {l = l} es t k1 read rest) =
+    line_ended_2017 es t k1 (to_2017 (given Y2017 (drop p B) p) refl (the_line (is_blank_line so)) _ _ k1 read)
+    (lines_to B _ _ s l rest)
+lines_to B so p s k (last_line es t k1 read) =
+    last_line_2017 es t k1 (to_2017 (given Y2017 (drop p B) p) refl (the_line (is_blank_line so)) _ _ k1 read)
+lines_to B so p s k (faulty f k1 read) =
+    faulty_2017 f k1 (to_2017 (given Y2017 (drop p B) p) refl (the_line (is_blank_line so)) _ _ k1 read)
 
-lines_from : (B : List ℕ) (so : SoFar) (p : ℕ) (s : AScript) (k : Row Spelled) → Lines_2017 B so p s k → Lines Y2017 B so p s k
-lines_from B so p s k (line_ended_2017 {l = l} es t k1 read rest) = line_ended es t k1 (from_2017 (given Y2017 (drop p B) p) refl (the_line (is_blank_line so)) _ _ k1 read) (lines_from B _ _ s l rest)
-lines_from B so p s k (last_line_2017 es t k1 read) = last_line es t k1 (from_2017 (given Y2017 (drop p B) p) refl (the_line (is_blank_line so)) _ _ k1 read)
-lines_from B so p s k (faulty_2017 f k1 read) = faulty f k1 (from_2017 (given Y2017 (drop p B) p) refl (the_line (is_blank_line so)) _ _ k1 read)
+lines_from : (B : List ℕ) (so : SoFar) (p : ℕ) (s : AScript) (k : Row Spelled) → Lines_2017 B so p s k →
+    Lines Y2017 B so p s k
+lines_from B so p s k (line_ended_2017 {l = l} es t k1 read rest) =
+    line_ended es t k1 (from_2017 (given Y2017 (drop p B) p) refl (the_line (is_blank_line so)) _ _ k1 read)
+    (lines_from B _ _ s l rest)
+lines_from B so p s k (last_line_2017 es t k1 read) =
+    last_line es t k1 (from_2017 (given Y2017 (drop p B) p) refl (the_line (is_blank_line so)) _ _ k1 read)
+lines_from B so p s k (faulty_2017 f k1 read) =
+    faulty f k1 (from_2017 (given Y2017 (drop p B) p) refl (the_line (is_blank_line so)) _ _ k1 read)
 
 pub outcome_to : (B : List ℕ) (s : AScript) → Outcome Y2017 B s → Outcome_2017 B s
 outcome_to B s (k, read) = (k, lines_to B _ 0 s k read)

@@ -15,13 +15,18 @@ use Rattle.shline.specs.Limits.{limits}
 use Rattle.shline.proofs.Wanted.{seen_behind}
 use Rattle.shread.specs.Answers.{NoFaultBefore, Tells}
 
-no_fault_before : (edition : Edition) (B : List ℕ) (p n : ℕ) (es : List AnEntry) (newline : Bool) → line_from edition B Nothing false p ≡ Ok ((es, newline), standing n) → Onward 0 n newline → p + n ≤ length B → NoFaultBefore edition B p (p + n) newline
-no_fault_before edition B p n es true read some within = (beyond edition B p (standing n) es read, omega (arith, some), within)
+no_fault_before : (edition : Edition) (B : List ℕ) (p n : ℕ) (es : List AnEntry) (newline : Bool) →
+    line_from edition B Nothing false p ≡ Ok ((es, newline), standing n) → Onward 0 n newline → p + n ≤ length B →
+    NoFaultBefore edition B p (p + n) newline
+no_fault_before edition B p n es true read some within =
+    (beyond edition B p (standing n) es read, omega (arith, some), within)
 no_fault_before edition B p n es false read some within = nowhere edition B p (standing n) es read
 
 pub tells : (edition : Edition) (B : List ℕ) (p : ℕ) (r : Result ParsedLine Stop) → p ≤ length B
-    → Gives (limits 0 p (drop p B)) view_told r (line_from edition B Nothing false p) → IfOk r (λ x. Onward 0 x.len x.newline)
+    → Gives (limits 0 p (drop p B)) view_told r (line_from edition B Nothing false p) →
+    IfOk r (λ x. Onward 0 x.len x.newline)
     → IfOk r (λ x. p + x.len ≤ length B) → Tells edition B p r
-tells edition B p (Ok told) low read some within = no_fault_before edition B p told.len (map view_entry told.entries.items) told.newline read some within
+tells edition B p (Ok told) low read some within =
+    no_fault_before edition B p told.len (map view_entry told.entries.items) told.newline read some within
 tells edition B p (Err (Wrong f)) low fails some within = here_within edition B p f low fails.0 fails.1
 tells edition B p (Err Memory) low wants some within = seen_behind B p wants

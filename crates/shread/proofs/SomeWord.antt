@@ -18,5 +18,6 @@ unfolding ends_word
 some_read room p n g is no_end =
     let within = byte_within g.text (past_continuations g.text p) (byte_at g.text p) refl no_end in
     let low = place_low g.text p in
-    let longer = word_longer g.text p (p + n) (omega arith) no_end (word_ends room g p n is (omega (arith, within, low))).1 in
+    let longer = word_longer g.text p (p + n) (omega arith) no_end
+    (word_ends room g p n is (omega (arith, within, low))).1 in
     omega (arith, longer)

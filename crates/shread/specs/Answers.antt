@@ -33,12 +33,14 @@ meter_of reader = reader.meter
 -- No fault stands in the line from p to q: the first one from p on is that from q on. Where no newline ended
 -- the line, there is none.
 abbrev pub NoFaultBefore : Edition → List ℕ → ℕ → ℕ → Bool → Type 0
-NoFaultBefore edition bytes p q true = (first_fault_from edition bytes p ≡ first_fault_from edition bytes q) × (p < q) × (q ≤ length bytes)
+NoFaultBefore edition bytes p q true = (first_fault_from edition bytes p ≡ first_fault_from edition bytes q) × (p < q)
+    × (q ≤ length bytes)
 NoFaultBefore edition bytes p q false = first_fault_from edition bytes p ≡ None
 
--- What was told of the line at an offset is true of the first fault from there on. Memory ran out only where a
--- reading that keeps nothing may want some.
+-- What was told of the line at an offset is true of the first fault from there on. Memory ran out only where
+-- a reading that keeps nothing may want some.
 abbrev pub Tells : Edition → List ℕ → ℕ → Result ParsedLine Stop → Type 0
 Tells edition bytes at (Ok told) = NoFaultBefore edition bytes at (at + told.len) told.newline
-Tells edition bytes at (Err (Wrong fault)) = (first_fault_from edition bytes at ≡ Some fault) × (fault.at ≤ length bytes)
+Tells edition bytes at (Err (Wrong fault)) = (first_fault_from edition bytes at ≡ Some fault)
+    × (fault.at ≤ length bytes)
 Tells edition bytes at (Err Memory) = wants_memory 0 bytes ≡ true

@@ -38,10 +38,13 @@ may_2017 (in_substitution r) g s = may_2017 r g s
 -- the lines from p on, and the tokens passed
 pub data Lines_2017 (B : List ℕ) : SoFar → ℕ → AScript → Row Spelled → Type 0 where
   line_ended : {so : SoFar} {p : ℕ} {s : AScript} {l : Row Spelled} (es : Row AnEntry) (t : State) (k : Row Spelled)
-      → may_2017 (the_line (is_blank_line so)) (given Y2017 (drop p B) p) (standing 0) (Ok ((es, true), t)) k → Lines_2017 B (with_line so es) (p + t.at) s l → Lines_2017 B so p s (k ++ l)
-  last_line : {so : SoFar} {p : ℕ} (es : Row AnEntry) (t : State) (k : Row Spelled) → may_2017 (the_line (is_blank_line so)) (given Y2017 (drop p B) p) (standing 0) (Ok ((es, false), t)) k
+      → may_2017 (the_line (is_blank_line so)) (given Y2017 (drop p B) p) (standing 0) (Ok ((es, true), t)) k →
+      Lines_2017 B (with_line so es) (p + t.at) s l → Lines_2017 B so p s (k ++ l)
+  last_line : {so : SoFar} {p : ℕ} (es : Row AnEntry) (t : State) (k : Row Spelled) →
+      may_2017 (the_line (is_blank_line so)) (given Y2017 (drop p B) p) (standing 0) (Ok ((es, false), t)) k
       → Lines_2017 B so p (record { entries = entries_of (so.entries ++ es); wrong = None }) k
-  faulty : {so : SoFar} {p : ℕ} (f : Fault) (k : Row Spelled) → may_2017 (the_line (is_blank_line so)) (given Y2017 (drop p B) p) (standing 0) (Err f) k
+  faulty : {so : SoFar} {p : ℕ} (f : Fault) (k : Row Spelled) →
+      may_2017 (the_line (is_blank_line so)) (given Y2017 (drop p B) p) (standing 0) (Err f) k
       → Lines_2017 B so p (record { entries = entries_of so.entries; wrong = Some f }) k
 
 -- what a script is

@@ -18,9 +18,12 @@ pub(crate) fn script_from<S: Source>(
     edition: Edition,
     source: &S,
 ) -> Result<Script, ReadError>
-    ensures value { IfOk result (λ script. view_script script ≡ script_at edition (S.bytes source.now)) }
-    ensures spans { IfOk result (λ script. AreWithin (length (S.bytes source.now)) (view_script script).entries) }
-    ensures fault { IfOk result (λ script. IfSome script.fault (λ f. f.at ≤ length (S.bytes source.now))) }
+    ensures value { IfOk result
+        (λ script. view_script script ≡ script_at edition (S.bytes source.now)) }
+    ensures spans { IfOk result
+        (λ script. AreWithin (length (S.bytes source.now)) (view_script script).entries) }
+    ensures fault { IfOk result
+        (λ script. IfSome script.fault (λ f. f.at ≤ length (S.bytes source.now))) }
     ensures empty { length (S.bytes source.now) ≡ 0 → IsOk result }
 {
     let mut entries = Vec::new(alloc);

@@ -12,7 +12,12 @@ use std::alloc::Global;
 use std::mem;
 
 /// The line at an offset, of which nothing is kept.
-fn see_line<S: Source>(alloc: Global, edition: Edition, source: &S, at: usize) -> Result<ParsedLine, Stop>
+fn see_line<S: Source>(
+    alloc: Global,
+    edition: Edition,
+    source: &S,
+    at: usize,
+) -> Result<ParsedLine, Stop>
     requires { at ≤ length (S.bytes source.now) }
     ensures value { Tells edition (S.bytes source.now) at result }
     ensures fits { IfOk result (λ told. at + told.len < 2 ^ 64) }

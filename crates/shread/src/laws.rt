@@ -19,9 +19,11 @@ ghost use Rattle.shgrammar.specs.Levels.{ReadsWord, level};
 
 /// By each edition, each byte list has one outcome as a script, and one line with which it begins.
 pub fn one_outcome()
-    ensures script { (e : Edition) (bytes : List ℕ) (a b : AScript) → Outcome e bytes a → Outcome e bytes b → a ≡ b }
+    ensures script { (e : Edition) (bytes : List ℕ) (a b : AScript) → Outcome e bytes a →
+        Outcome e bytes b → a ≡ b }
     ensures some_script { (e : Edition) (bytes : List ℕ) → (a : AScript) × Outcome e bytes a }
-    ensures line { (e : Edition) (bytes : List ℕ) (a b : ALine) → IsLine e bytes a → IsLine e bytes b → a ≡ b }
+    ensures line { (e : Edition) (bytes : List ℕ) (a b : ALine) → IsLine e bytes a →
+        IsLine e bytes b → a ≡ b }
     ensures some_line { (e : Edition) (bytes : List ℕ) → (a : ALine) × IsLine e bytes a }
 {}
 
@@ -44,9 +46,11 @@ pub fn word_anywhere()
         take n (drop q h.text) ≡ take n (drop p g.text) →
         ends_word h.text (q + n) ≡ true → stands h.text (q + n) 40 ≡ false →
         g.text ≡ drop g.offset B → h.text ≡ drop h.offset C →
-        (v : AWord) × (may (a_word (level room)) h (standing q) (Ok (v, standing (q + n))) (raw h.text q (q + n) ∷ []) ×
+        (v : AWord) × (may (a_word (level room)) h (standing q) (Ok (v, standing (q + n)))
+        (raw h.text q (q + n) ∷ []) ×
         (shape_of_word C v ≡ shape_of_word B w)) }
-    ensures only { (room p m n : ℕ) (g : Given) → ReadsWord room g p m → ReadsWord room g p n → m ≡ n }
+    ensures only { (room p m n : ℕ) (g : Given) → ReadsWord room g p m → ReadsWord room g p n →
+        m ≡ n }
 {}
 
 /// The outcome of a script by POSIX.1-2017 is, for all bytes, the one where the rows of the grammar see what

@@ -39,10 +39,13 @@ pub(crate) fn line_from<S: Source>(
     at: usize,
 ) -> Result<Line, ReadError>
     requires { at ≤ length (S.bytes source.now) }
-    ensures value { IfOk result (λ line. view_line at line ≡ line_of_text edition (drop at (S.bytes source.now))) }
-    ensures next { IfOk result (λ line. (at ≤ line.next) × (line.next ≤ length (S.bytes source.now))) }
+    ensures value { IfOk result
+        (λ line. view_line at line ≡ line_of_text edition (drop at (S.bytes source.now))) }
+    ensures next { IfOk result
+        (λ line. (at ≤ line.next) × (line.next ≤ length (S.bytes source.now))) }
     ensures onward { IfOk result (λ line. line.ended ≡ true → at < line.next) }
-    ensures whole { IfOk result (λ line. line.ended ≡ false → line.next ≡ length (S.bytes source.now)) }
+    ensures whole { IfOk result
+        (λ line. line.ended ≡ false → line.next ≡ length (S.bytes source.now)) }
     ensures fault { IfOk result (λ line. FaultWithin (line.next - at) (view_kind line.kind)) }
     ensures end { at ≡ length (S.bytes source.now) → IsOk result }
 {

@@ -90,24 +90,36 @@ impl Reader {
     pub fn read_line<S: Source>(&mut self, source: &S, at: usize) -> Result<Line, ReadError>
         requires { at ≤ length (S.bytes source.now) }
         // The answer is the line that the grammar has for the bytes from `at` on, and it has no other.
-        ensures line { IfOk result (λ line. IsLine (edition_of self.old) (drop at (S.bytes source.now)) (view_line at line)) }
-        ensures only { IfOk result (λ line. (a : ALine) → IsLine (edition_of self.old) (drop at (S.bytes source.now)) a → a ≡ view_line at line) }
+        ensures line { IfOk result
+            (λ line. IsLine (edition_of self.old) (drop at (S.bytes source.now))
+            (view_line at line)) }
+        ensures only { IfOk result
+            (λ line. (a : ALine) → IsLine (edition_of self.old) (drop at (S.bytes source.now)) a →
+            a ≡ view_line at line) }
         // The same bytes have the same line wherever they stand, and a line that a
         // newline ended looks no further.
-        ensures same_bytes { IfOk result (λ line. SameBytes (edition_of self.old) (drop at (S.bytes source.now)) (view_line at line)) }
+        ensures same_bytes { IfOk result
+            (λ line. SameBytes (edition_of self.old) (drop at (S.bytes source.now))
+            (view_line at line)) }
         ensures no_further { IfOk result (λ line. line.ended ≡ true →
             NoFurther (edition_of self.old) (drop at (S.bytes source.now)) (view_line at line)) }
-        ensures next { IfOk result (λ line. (at ≤ line.next) × (line.next ≤ length (S.bytes source.now))) }
+        ensures next { IfOk result
+            (λ line. (at ≤ line.next) × (line.next ≤ length (S.bytes source.now))) }
         ensures onward { IfOk result (λ line. line.ended ≡ true → at < line.next) }
-        ensures whole { IfOk result (λ line. line.ended ≡ false → line.next ≡ length (S.bytes source.now)) }
+        ensures whole { IfOk result
+            (λ line. line.ended ≡ false → line.next ≡ length (S.bytes source.now)) }
         // No node of its entries names an offset above the line's length.
-        ensures within { IfOk result (λ line. EntriesWithin (line.next - at) (view_kind line.kind)) }
+        ensures within { IfOk result
+            (λ line. EntriesWithin (line.next - at) (view_kind line.kind)) }
         // Nor does any span of theirs, and each simple command has an item.
-        ensures everywhere { IfOk result (λ line. (limit : ℕ) → line.next - at ≤ limit → EntriesEverywhere limit (view_kind line.kind)) }
+        ensures everywhere { IfOk result
+            (λ line. (limit : ℕ) → line.next - at ≤ limit →
+            EntriesEverywhere limit (view_kind line.kind)) }
         // Its fault lies within it.
         ensures fault { IfOk result (λ line. FaultWithin (line.next - at) (view_kind line.kind)) }
         ensures edition { edition_of self.new ≡ edition_of self.old }
-        ensures meter { IfOk result (λ line. meter_of self.new ≡ raised (meter_of self.old) (line.next - at)) }
+        ensures meter { IfOk result
+            (λ line. meter_of self.new ≡ raised (meter_of self.old) (line.next - at)) }
         ensures err { IfErr result (λ e. meter_of self.new ≡ meter_of self.old) }
         ensures end { at ≡ length (S.bytes source.now) → IsOk result }
     {
@@ -123,17 +135,25 @@ impl Reader {
     #[tactic(auto, using(shgrammar::proofs::Answered::script_answered, shgrammar::proofs::Spelling::script_spelled))]
     pub fn read_script<S: Source>(&mut self, source: &S) -> Result<Script, ReadError>
         // The answer is what the grammar has for the bytes, and it has nothing else.
-        ensures outcome { IfOk result (λ script. Outcome (edition_of self.old) (S.bytes source.now) (view_script script)) }
-        ensures only { IfOk result (λ script. (a : AScript) → Outcome (edition_of self.old) (S.bytes source.now) a → a ≡ view_script script) }
+        ensures outcome { IfOk result
+            (λ script. Outcome (edition_of self.old) (S.bytes source.now) (view_script script)) }
+        ensures only { IfOk result
+            (λ script. (a : AScript) → Outcome (edition_of self.old) (S.bytes source.now) a →
+            a ≡ view_script script) }
         ensures normal { IfOk result (λ script. is_normal (view_script script).entries ≡ true) }
         // The tokens passed in a script without a fault are those that the shape of its tree spells.
         ensures spelling { IfOk result (λ script. script.fault ≡ None → (k : Row Spelled) →
-            Passes (edition_of self.old) (S.bytes source.now) (view_script script) k → k ≡ spelling (shape_of (S.bytes source.now) (view_script script).entries)) }
+            Passes (edition_of self.old) (S.bytes source.now) (view_script script) k →
+            k ≡ spelling (shape_of (S.bytes source.now) (view_script script).entries)) }
         // No node of the list names an offset above the length.
-        ensures within { IfOk result (λ script. AreWithin (length (S.bytes source.now)) (view_script script).entries) }
-        ensures fault { IfOk result (λ script. IfSome script.fault (λ f. f.at ≤ length (S.bytes source.now))) }
+        ensures within { IfOk result
+            (λ script. AreWithin (length (S.bytes source.now)) (view_script script).entries) }
+        ensures fault { IfOk result
+            (λ script. IfSome script.fault (λ f. f.at ≤ length (S.bytes source.now))) }
         ensures edition { edition_of self.new ≡ edition_of self.old }
-        ensures meter { IfOk result (λ script. meter_of self.new ≡ raised (meter_of self.old) (length (S.bytes source.now))) }
+        ensures meter { IfOk result
+            (λ script. meter_of self.new
+            ≡ raised (meter_of self.old) (length (S.bytes source.now))) }
         ensures err { IfErr result (λ e. meter_of self.new ≡ meter_of self.old) }
         ensures empty { length (S.bytes source.now) ≡ 0 → IsOk result }
     {
@@ -150,11 +170,17 @@ impl Reader {
     #[tactic(auto, using(shgrammar::proofs::Answered::fault_answered))]
     pub fn first_fault<S: Source>(&mut self, source: &S) -> Result<Option<Fault>, ReadError>
         // The answer is the first fault in what the grammar gives for the bytes, and it gives no other.
-        ensures fault { IfOk result (λ fault. FirstFault (edition_of self.old) (S.bytes source.now) fault) }
-        ensures only { IfOk result (λ fault. (a : AScript) → Outcome (edition_of self.old) (S.bytes source.now) a → a.wrong ≡ fault) }
-        ensures within { IfOk result (λ fault. IfSome fault (λ f. f.at ≤ length (S.bytes source.now))) }
+        ensures fault { IfOk result
+            (λ fault. FirstFault (edition_of self.old) (S.bytes source.now) fault) }
+        ensures only { IfOk result
+            (λ fault. (a : AScript) → Outcome (edition_of self.old) (S.bytes source.now) a →
+            a.wrong ≡ fault) }
+        ensures within { IfOk result
+            (λ fault. IfSome fault (λ f. f.at ≤ length (S.bytes source.now))) }
         ensures edition { edition_of self.new ≡ edition_of self.old }
-        ensures meter { IfOk result (λ fault. meter_of self.new ≡ raised (meter_of self.old) (length (S.bytes source.now))) }
+        ensures meter { IfOk result
+            (λ fault. meter_of self.new
+            ≡ raised (meter_of self.old) (length (S.bytes source.now))) }
         ensures err { IfErr result (λ e. meter_of self.new ≡ meter_of self.old) }
         ensures empty { length (S.bytes source.now) ≡ 0 → IsOk result }
         // Where no `<` stands, it succeeds, whatever memory is left.
@@ -167,7 +193,8 @@ impl Reader {
 
     /// Counts bytes that were read.
     fn count(&mut self, bytes: usize)
-        ensures { (edition_of self.new ≡ edition_of self.old) × (meter_of self.new ≡ raised (meter_of self.old) bytes) }
+        ensures { (edition_of self.new ≡ edition_of self.old)
+            × (meter_of self.new ≡ raised (meter_of self.old) bytes) }
     {
         self.meter = self.meter.saturating_add(bytes as u64);
     }
