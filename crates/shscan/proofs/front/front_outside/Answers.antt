@@ -4,7 +4,8 @@ use Rattle.shscan.proofs.Rows.{found, goes_on, within}
 use Rattle.shscan.proofs.front.front_outside.Goals as goal
 
 pub returns-then-count-lt-ROW : goal.returns-then-count-lt-ROW
-returns-then-count-lt-ROW c = found (is_outside c.args.low c.args.high) c.args.run.now c.rows.at c.outside_in_row-count.result
+returns-then-count-lt-ROW c = found
+    (is_outside c.args.low c.args.high) c.args.run.now c.rows.at c.outside_in_row-count.result
     (omega arith) c.rows.invariant.1 c.outside_in_row-count.ensures (omega arith)
 
 pub rows-preserved : goal.rows-preserved
@@ -16,5 +17,6 @@ rows-preserved c = (
 
 pub overflow_add-result-2 : goal.overflow_add-result-2
 overflow_add-result-2 c =
-    let low = within (is_outside c.args.low c.args.high) c.args.run.now c.rows.at (length c.args.run.now - c.rows.at) (omega arith) in
+    let low = within (is_outside c.args.low c.args.high) c.args.run.now c.rows.at (length c.args.run.now - c.rows.at)
+    (omega arith) in
     record { fits = omega (arith, low, c.few_outside.ensures) }

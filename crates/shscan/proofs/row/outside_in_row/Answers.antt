@@ -3,7 +3,8 @@ use Rattle.std.proofs.Common.{ℕ, ◌+◌, ◌≤◌, List, Fits, take, drop, l
 use Rattle.std.proofs.lemmas.Simd.{length-chunk, chunk-fits}
 use Rattle.shscan.proofs.row.outside_in_row.Goals as goal
 
-row : (at : ℕ) (run : List ℕ) → at + 16 ≤ length run → ((k : ℕ) → Fits w8 (get_or run k 0)) → IsRow (take 16 (drop at run))
+row : (at : ℕ) (run : List ℕ) → at + 16 ≤ length run → ((k : ℕ) → Fits w8 (get_or run k 0)) →
+    IsRow (take 16 (drop at run))
 row at run long fits = (length-chunk at 16 run long, chunk-fits w8 at 16 run fits)
 
 pub swizzle-by_low : goal.swizzle-by_low
