@@ -12,8 +12,10 @@ use std::alloc::{AllocError, Global};
 /// Appends the entries of a line that begins at an offset. After want of memory the list is as it was.
 pub fn append_line(alloc: Global, line: &Line, at: usize, list: &mut List) -> Result<(), AllocError>
     requires place { (at ≤ line.now.next) × (line.now.next < 2 ^ 64) }
-    requires spans { (limit : ℕ) → line.now.next - at ≤ limit → EntriesEverywhere limit (view_kind line.now.kind) }
-    ensures ok { OnOk result (view_list list.new ≡ with_line_at at (view_list list.old) (view_kind line.now.kind)) }
+    requires spans { (limit : ℕ) → line.now.next - at ≤ limit →
+        EntriesEverywhere limit (view_kind line.now.kind) }
+    ensures ok { OnOk result
+        (view_list list.new ≡ with_line_at at (view_list list.old) (view_kind line.now.kind)) }
     ensures err { OnErr result (view_list list.new ≡ view_list list.old) }
 {
     match &line.kind {

@@ -6,4 +6,5 @@ use Rattle.shtests.proofs.joined_lines.append_line.Goals as goal
 pub append_at-requires : goal.append_at-requires
 append_at-requires c =
     let limit = 2 ^ 64 - 1 - c.args.at in
-    (subst (λ kind. EntriesEverywhere limit (view_kind kind)) c.in-Entries.is (c.requires.spans limit (omega (arith, c.requires.place)))).0
+    (subst (λ kind. EntriesEverywhere limit (view_kind kind)) c.in-Entries.is
+    (c.requires.spans limit (omega (arith, c.requires.place)))).0
