@@ -24,19 +24,24 @@ module _ (ks : Row (List ℕ)) (from to a b : ℕ) (order : a ≤ b) (holds : Ho
   pub tail_length : length (tail ks to b) ≡ length (joined (take to ks)) - b
   tail_length =
       let rest = length-drop b (joined ks) in
-      length-take-le (length (joined (take to ks)) - b) (drop b (joined ks)) (omega (arith, rest, holds.high, joined_low to ks))
+      length-take-le (length (joined (take to ks)) - b) (drop b (joined ks))
+      (omega (arith, rest, holds.high, joined_low to ks))
 
   -- they are copied behind nothing
-  pub around_made : (none seam around : List ℕ) → length none ≡ 0 → seam ≡ none ++ (head ks from a ++ tail ks to b) → around ≡ seam → around ≡ head ks from a ++ tail ks to b
-  around_made none seam around empty copied same = same ∙ copied ∙ ap (λ l. l ++ (head ks from a ++ tail ks to b)) (nil_from_length none empty)
+  pub around_made : (none seam around : List ℕ) → length none ≡ 0 → seam ≡ none ++ (head ks from a ++ tail ks to b) →
+      around ≡ seam → around ≡ head ks from a ++ tail ks to b
+  around_made none seam around empty copied same = same ∙ copied
+      ∙ ap (λ l. l ++ (head ks from a ++ tail ks to b)) (nil_from_length none empty)
 
   -- what comes, cut at the bytes before the edit
-  pub around_is : (around text new F : List ℕ) (n : ℕ) → around ≡ head ks from a ++ tail ks to b → n ≡ length (joined (take from ks)) → F ≡ take (a - n) around ++ (text ++ drop (a - n) around) → text ≡ new
+  pub around_is : (around text new F : List ℕ) (n : ℕ) → around ≡ head ks from a ++ tail ks to b →
+      n ≡ length (joined (take from ks)) → F ≡ take (a - n) around ++ (text ++ drop (a - n) around) → text ≡ new
       → F ≡ head ks from a ++ (new ++ tail ks to b)
   around_is around text new F n made cut is same =
       let long : length (head ks from a) ≡ a - n = head_length ∙ ap (λ m. a - m) (sym cut) in
       is ∙ ap (λ l. take (a - n) l ++ (text ++ drop (a - n) l)) made
-      ∙ ap (λ l. l ++ (text ++ drop (a - n) (head ks from a ++ tail ks to b))) (take_at (head ks from a) (tail ks to b) (a - n) long)
+      ∙ ap (λ l. l ++ (text ++ drop (a - n) (head ks from a ++ tail ks to b)))
+      (take_at (head ks from a) (tail ks to b) (a - n) long)
       ∙ ap (λ l. head ks from a ++ (text ++ l)) (drop_at (head ks from a) (tail ks to b) (a - n) long)
       ∙ ap (λ l. head ks from a ++ (l ++ tail ks to b)) same
 
@@ -51,7 +56,8 @@ module _ (ks : Row (List ℕ)) (from to a b : ℕ) (order : a ≤ b) (holds : Ho
 
     -- the text that they make
     pub around_edited : put_between ks from to F ≡ spliced (joined ks) a b new
-    around_edited = ap (λ l. joined (take from ks) ++ (l ++ joined (drop to ks))) is ∙ joined_edited ks from to a b new holds
+    around_edited = ap (λ l. joined (take from ks) ++ (l ++ joined (drop to ks))) is
+        ∙ joined_edited ks from to a b new holds
 
     -- the chunks that give way, and as many as the growth needs, are enough
     pub around_needed : EachHas 1 ks → needed (length F) ≤ (to - from) + needed (length new - (b - a))
@@ -61,11 +67,13 @@ module _ (ks : Row (List ℕ)) (from to a b : ℕ) (order : a ≤ b) (holds : Ho
         let few = holds_few 1 ks from (to - from) each (omega (arith, there, holds.within)) in
         let up = ap (λ m. length (joined (take m ks))) there in
         let more = joined_mono from to ks first in
-        needed_more (length (joined (take to ks)) - length (joined (take from ks))) (to - from) (length F) (length new - (b - a))
+        needed_more (length (joined (take to ks)) - length (joined (take from ks))) (to - from) (length F)
+        (length new - (b - a))
         (omega (arith, few, up)) (omega (arith, around_length, more, holds.low, holds.high, order))
 
 -- around an edit of a text without chunks there is nothing
-pub none_around : (ks : Row (List ℕ)) (from to a b : ℕ) → a ≤ b → b ≤ length (joined ks) → length ks ≡ 0 → around_count ks from to a b ≡ 0
+pub none_around : (ks : Row (List ℕ)) (from to a b : ℕ) → a ≤ b → b ≤ length (joined ks) → length ks ≡ 0 →
+    around_count ks from to a b ≡ 0
 none_around [] from to a b order within none =
     let empty : length (joined {X = ℕ} []) ≡ 0 = ap length joined_nil in
     let high = joined_low {X = ℕ} to [] in

@@ -19,11 +19,14 @@ undone bytes new a b order within =
     let made : List ℕ = spliced bytes a b new in
     let old : List ℕ = take (b - a) (drop a bytes) in
     let long : length (take a bytes) ≡ a = length-take-le a bytes (omega (arith, order, within)) in
-    let front : take a made ≡ take a bytes = ap (λ m. take m made) (sym long) ∙ take-append_seam (take a bytes) (new ++ drop b bytes) in
+    let front : take a made ≡ take a bytes = ap (λ m. take m made) (sym long)
+    ∙ take-append_seam (take a bytes) (new ++ drop b bytes) in
     let back : drop (a + length new) made ≡ drop b bytes
-    = ap (λ m. drop (m + length new) made) (sym long) ∙ drop-append-add (take a bytes) (new ++ drop b bytes) (length new) ∙ drop-append_seam new (drop b bytes) in
+    = ap (λ m. drop (m + length new) made) (sym long)
+    ∙ drop-append-add (take a bytes) (new ++ drop b bytes) (length new) ∙ drop-append_seam new (drop b bytes) in
     let there : b ≡ a + (b - a) = omega (arith, order) in
-    let rest : drop b bytes ≡ drop (b - a) (drop a bytes) = ap (λ m. drop m bytes) there ∙ sym (drop-drop (b - a) a bytes) in
+    let rest : drop b bytes ≡ drop (b - a) (drop a bytes) = ap (λ m. drop m bytes) there
+    ∙ sym (drop-drop (b - a) a bytes) in
     ap (λ l. l ++ (old ++ drop (a + length new) made)) front
     ∙ ap (λ l. take a bytes ++ (old ++ l)) (back ∙ rest)
     ∙ ap (λ l. take a bytes ++ l) (take-append-drop (b - a) (drop a bytes))

@@ -27,7 +27,8 @@ each_append P js ks front back n low =
     let long = length-append js ks in
     ⊎_elim
     (λ (lt : n < length js). subst P (sym (get_or_append_left js ks [] n lt)) (front n lt))
-    (λ (ge : length js ≤ n). subst P (sym (get_or-append_right js ks (length js) n [] refl ge)) (back (n - length js) (omega (arith, low, long, ge))))
+    (λ (ge : length js ≤ n). subst P (sym (get_or-append_right js ks (length js) n [] refl ge))
+    (back (n - length js) (omega (arith, low, long, ge))))
     (cases_lt n (length js))
 
 pub each_take : (P : List ℕ → Type 0) (ks : Row (List ℕ)) (f : ℕ) → Each P ks → Each P (take f ks)
@@ -41,8 +42,11 @@ each_drop P ks t all n low =
     subst P (sym (get_or-drop t ks n [])) (all (t + n) (omega (arith, low, long)))
 
 -- some that give way
-pub each_between : (P : List ℕ → Type 0) (ks ns : Row (List ℕ)) (f t : ℕ) → Each P ks → Each P ns → Each P (take f ks ++ (ns ++ drop t ks))
-each_between P ks ns f t all new = each_append P (take f ks) (ns ++ drop t ks) (each_take P ks f all) (each_append P ns (drop t ks) new (each_drop P ks t all))
+pub each_between : (P : List ℕ → Type 0) (ks ns : Row (List ℕ)) (f t : ℕ) → Each P ks → Each P ns →
+    Each P (take f ks ++ (ns ++ drop t ks))
+each_between P ks ns f t all new =
+    each_append P (take f ks) (ns ++ drop t ks) (each_take P ks f all)
+    (each_append P ns (drop t ks) new (each_drop P ks t all))
 
 -- one more, which may be small
 pub full_end : (ks : Row (List ℕ)) (k : List ℕ) → Each NotSmall ks → AreFull (ks ++ k ∷ [])
@@ -52,7 +56,8 @@ full_end ks k all n low =
     subst NotSmall (sym (get_or_append_left ks (k ∷ []) [] n lt)) (all n lt)
 
 -- some that give way
-pub full_between : (ks ns : Row (List ℕ)) (f t : ℕ) → f ≤ t → t ≤ length ks → f < length ks ⊎ (length ks ≡ 0) → AreFull ks
+pub full_between : (ks ns : Row (List ℕ)) (f t : ℕ) → f ≤ t → t ≤ length ks → f < length ks ⊎ (length ks ≡ 0) →
+    AreFull ks
     → (t < length ks → Each NotSmall ns) → AreFull ns → AreFull (take f ks ++ (ns ++ drop t ks))
 full_between ks ns f t order within some all inner ends n low =
     let one = length-append (take f ks) (ns ++ drop t ks) in
@@ -61,8 +66,11 @@ full_between ks ns f t order within some all inner ends n low =
     let four = length-drop t ks in
     ⊎_elim
     (λ (lt : n < f).
-    let few : n + 1 < length ks = ⊎_elim (λ (x : f < length ks). omega (arith, x, lt)) (λ (x : length ks ≡ 0). absurd (omega (arith, x, lt, order, within))) some in
-    subst NotSmall (sym (get_or_append_left (take f ks) (ns ++ drop t ks) [] n (omega (arith, lt, three)) ∙ get_or-take f ks n [] lt)) (all n few))
+    let few : n + 1 < length ks =
+    ⊎_elim (λ (x : f < length ks). omega (arith, x, lt))
+    (λ (x : length ks ≡ 0). absurd (omega (arith, x, lt, order, within))) some in
+    subst NotSmall (sym (get_or_append_left (take f ks) (ns ++ drop t ks) [] n (omega (arith, lt, three))
+    ∙ get_or-take f ks n [] lt)) (all n few))
     (λ (ge : f ≤ n).
     let m : ℕ = n - f in
     let right = get_or-append_right (take f ks) (ns ++ drop t ks) f n [] three ge in
@@ -71,11 +79,13 @@ full_between ks ns f t order within some all inner ends n low =
     let here = get_or_append_left ns (drop t ks) [] m lt in
     ⊎_elim
     (λ (next : m + 1 < length ns). subst NotSmall (sym (right ∙ here)) (ends m next))
-    (λ (last : length ns ≤ m + 1). subst NotSmall (sym (right ∙ here)) (inner (omega (arith, low, one, two, three, four, last, ge)) m lt))
+    (λ (last : length ns ≤ m + 1). subst NotSmall (sym (right ∙ here))
+    (inner (omega (arith, low, one, two, three, four, last, ge)) m lt))
     (cases_lt (m + 1) (length ns)))
     (λ (past : length ns ≤ m).
     let there = get_or-append_right ns (drop t ks) (length ns) m [] refl past ∙ get_or-drop t ks (m - length ns) [] in
-    subst NotSmall (sym (right ∙ there)) (all (t + (m - length ns)) (omega (arith, low, one, two, three, four, past, ge))))
+    subst NotSmall (sym (right ∙ there))
+    (all (t + (m - length ns)) (omega (arith, low, one, two, three, four, past, ge))))
     (cases_lt m (length ns)))
     (cases_lt n f)
 
@@ -94,8 +104,10 @@ full_filled ns len all count n low =
     not_small ns len all enough n (omega (arith, low))
 
 -- what chunks hold
-pub holds_few : (least : ℕ) (ks : Row (List ℕ)) (from d : ℕ) → EachHas least ks → from + d ≤ length ks → length (joined (take (from + d) ks)) ≤ length (joined (take from ks)) + d * most
-holds_few least ks from zero all within = let same : from + 0 ≡ from = omega arith in let here = ap (λ m. length (joined (take m ks))) same in omega (arith, here)
+pub holds_few : (least : ℕ) (ks : Row (List ℕ)) (from d : ℕ) → EachHas least ks → from + d ≤ length ks →
+    length (joined (take (from + d) ks)) ≤ length (joined (take from ks)) + d * most
+holds_few least ks from zero all within = let same : from + 0 ≡ from = omega arith in
+    let here = ap (λ m. length (joined (take m ks))) same in omega (arith, here)
 holds_few least ks from (suc d) all within =
     let n : ℕ = from + d in
     let k : List ℕ = chunk_at ks n in
@@ -103,16 +115,19 @@ holds_few least ks from (suc d) all within =
     let less = holds_few least ks from d all (omega (arith, within)) in
     let more = ap length (joined_more n ks k low (get_or_default ks n [] k low)) in
     let long = length-append (joined (take n ks)) k in
-    let up : length (joined (take (from + suc d) ks)) ≡ length (joined (take (n + 1) ks)) = let next : from + suc d ≡ n + 1 = omega arith in ap (λ m. length (joined (take m ks))) next in
+    let up : length (joined (take (from + suc d) ks)) ≡ length (joined (take (n + 1) ks)) = let next : from + suc d
+    ≡ n + 1 = omega arith in ap (λ m. length (joined (take m ks))) next in
     let few : length k ≤ most = (all n low).1 in
     omega (arith, less, more, long, up, few)
 
 -- what one holds
-pub next_few : (least : ℕ) (ks : Row (List ℕ)) (n : ℕ) → EachHas least ks → n < length ks → length (joined (take (n + 1) ks)) ≤ length (joined (take n ks)) + most
+pub next_few : (least : ℕ) (ks : Row (List ℕ)) (n : ℕ) → EachHas least ks → n < length ks →
+    length (joined (take (n + 1) ks)) ≤ length (joined (take n ks)) + most
 next_few least ks n all low = let few = holds_few least ks n 1 all (omega (arith, low)) in omega (arith, few)
 
 -- what the last one holds
-pub last_few : (least : ℕ) (ks : Row (List ℕ)) (n : ℕ) → EachHas least ks → n ≡ length ks - 1 → length (joined ks) ≤ length (joined (take n ks)) + most
+pub last_few : (least : ℕ) (ks : Row (List ℕ)) (n : ℕ) → EachHas least ks → n ≡ length ks - 1 →
+    length (joined ks) ≤ length (joined (take n ks)) + most
 last_few least ks n all last =
     ⊎_elim
     (λ (lt : n < length ks).
@@ -129,7 +144,8 @@ pub needed_more : (held count len more : ℕ) → held ≤ count * most → len 
 needed_more held count len more few all = omega (arith, few, all)
 
 -- two facts of a value
-pub both : {X E : Type 0} {P Q R : X → Type 0} (r : Result X E) → IfOk r P → IfOk r Q → ((x : X) → P x → Q x → R x) → IfOk r R
+pub both : {X E : Type 0} {P Q R : X → Type 0} (r : Result X E) → IfOk r P → IfOk r Q → ((x : X) → P x → Q x → R x) →
+    IfOk r R
 both (Ok x) p q f = f x p q
 both (Err e) p q f = p
 
@@ -143,7 +159,8 @@ full_sum ks (suc n) low all =
     let more = ap length (joined_more n ks k within (get_or_default ks n [] k within)) in
     let long = length-append (joined (take n ks)) k in
     let some = all n (omega (arith, low)) in
-    let up : length (joined (take (suc n) ks)) ≡ length (joined (take (n + 1) ks)) = let next : suc n ≡ n + 1 = omega arith in ap (λ m. length (joined (take m ks))) next in
+    let up : length (joined (take (suc n) ks)) ≡ length (joined (take (n + 1) ks)) = let next : suc n ≡ n + 1 =
+    omega arith in ap (λ m. length (joined (take m ks))) next in
     omega (arith, less, more, long, some, up)
 
 pub full_count : (ks : Row (List ℕ)) → AreFull ks → length ks * fewest ≤ length (joined ks) + fewest

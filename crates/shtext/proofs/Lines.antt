@@ -5,7 +5,8 @@ use Rattle.shtext.specs.Text.{IsLineStart, is_newline, line_of, column_of, since
 use Rattle.shtext.proofs.Newlines.{ends, stays, grows}
 
 -- behind a place, the line or the column has moved
-apart : (bytes : List ℕ) (p k : ℕ) → p ≤ k → k < length bytes → line_of bytes p ≡ line_of bytes (k + 1) → column_of bytes (k + 1) ≡ 1
+apart : (bytes : List ℕ) (p k : ℕ) → p ≤ k → k < length bytes → line_of bytes p ≡ line_of bytes (k + 1) →
+    column_of bytes (k + 1) ≡ 1
     → (x : Bool) → is_newline (get_or bytes k 0) ≡ x → ⊥
 apart bytes p k low within line column true is =
     let end : line_of bytes (k + 1) ≡ line_of bytes k + 1 = (ends bytes k within is).0 in
@@ -18,12 +19,14 @@ apart bytes p k low within line column false is =
     omega (arith, column, step)
 
 -- no place before the begin of a line is in it
-same_start : (bytes : List ℕ) (p q : ℕ) → p ≤ q → q ≤ length bytes → line_of bytes p ≡ line_of bytes q → column_of bytes q ≡ 1 → p ≡ q
+same_start : (bytes : List ℕ) (p q : ℕ) → p ≤ q → q ≤ length bytes → line_of bytes p ≡ line_of bytes q →
+    column_of bytes q ≡ 1 → p ≡ q
 same_start bytes p q low within line column =
     ⊎_elim
     (λ (lt : p < q).
     let up : q ≡ q - 1 + 1 = omega (arith, lt) in
-    absurd (apart bytes p (q - 1) (omega (arith, lt)) (omega (arith, lt, within)) (line ∙ ap (line_of bytes) up) (ap (column_of bytes) (sym up) ∙ column)
+    absurd (apart bytes p (q - 1) (omega (arith, lt)) (omega (arith, lt, within)) (line ∙ ap (line_of bytes) up)
+    (ap (column_of bytes) (sym up) ∙ column)
     (is_newline (get_or bytes (q - 1) 0)) refl))
     (λ (ge : q ≤ p). omega (arith, low, ge))
     (cases_lt p q)
@@ -43,25 +46,32 @@ only bytes n (Some x) (Some y) p q =
 pub some : (bytes : List ℕ) (n at : ℕ) → IsLineStart bytes n (Some at) → (1 ≤ n) × (n ≤ line_of bytes (length bytes))
 some bytes n at is =
     let there : at + (length bytes - at) ≡ length bytes = omega (arith, is.0) in
-    let up : line_of bytes at ≤ line_of bytes (at + (length bytes - at)) = grows bytes at (length bytes - at) (omega (arith, there)) in
+    let up : line_of bytes at ≤ line_of bytes (at + (length bytes - at)) =
+    grows bytes at (length bytes - at) (omega (arith, there)) in
     let end : line_of bytes (at + (length bytes - at)) ≡ line_of bytes (length bytes) = ap (line_of bytes) there in
     (omega (arith, is.1), omega (arith, is.1, up, end))
 
 -- a byte ends a line at most
-one_line : (bytes : List ℕ) (at : ℕ) → at < length bytes → (x : Bool) → is_newline (get_or bytes at 0) ≡ x → line_of bytes (at + 1) ≤ line_of bytes at + 1
-one_line bytes at within true is = let end : line_of bytes (at + 1) ≡ line_of bytes at + 1 = (ends bytes at within is).0 in omega (arith, end)
-one_line bytes at within false is = let end : line_of bytes (at + 1) ≡ line_of bytes at = (stays bytes at within is).0 in omega (arith, end)
+one_line : (bytes : List ℕ) (at : ℕ) → at < length bytes → (x : Bool) → is_newline (get_or bytes at 0) ≡ x →
+    line_of bytes (at + 1) ≤ line_of bytes at + 1
+one_line bytes at within true is = let end : line_of bytes (at + 1) ≡ line_of bytes at + 1 =
+    (ends bytes at within is).0 in omega (arith, end)
+one_line bytes at within false is = let end : line_of bytes (at + 1) ≡ line_of bytes at =
+    (stays bytes at within is).0 in omega (arith, end)
 
 -- each line up to that of a place has a place
-reached : (bytes : List ℕ) (n at : ℕ) → at ≤ length bytes → 1 ≤ n → n ≤ line_of bytes at → (p : ℕ) × (p ≤ at) × (line_of bytes p ≡ n)
+reached : (bytes : List ℕ) (n at : ℕ) → at ≤ length bytes → 1 ≤ n → n ≤ line_of bytes at → (p : ℕ) × (p ≤ at)
+    × (line_of bytes p ≡ n)
 reached bytes n zero within low high = (0, omega arith, omega (arith, low, high))
 reached bytes n (suc at) within low high =
     let next : suc at ≡ at + 1 = omega arith in
     let up : line_of bytes (suc at) ≡ line_of bytes (at + 1) = ap (line_of bytes) next in
-    let one : line_of bytes (at + 1) ≤ line_of bytes at + 1 = one_line bytes at (omega (arith, within)) (is_newline (get_or bytes at 0)) refl in
+    let one : line_of bytes (at + 1) ≤ line_of bytes at + 1 =
+    one_line bytes at (omega (arith, within)) (is_newline (get_or bytes at 0)) refl in
     ⊎_elim
     (λ (lt : line_of bytes at < n). (suc at, omega arith, omega (arith, up, one, lt, high)))
-    (λ (ge : n ≤ line_of bytes at). let r = reached bytes n at (omega (arith, within)) low ge in (r.0, omega (arith, r.1), r.2))
+    (λ (ge : n ≤ line_of bytes at). let r = reached bytes n at (omega (arith, within)) low ge in
+    (r.0, omega (arith, r.1), r.2))
     (cases_lt (line_of bytes at) n)
 
 pub none : (bytes : List ℕ) (n : ℕ) → IsLineStart bytes n None → (n ≡ 0) ⊎ (line_of bytes (length bytes) < n)

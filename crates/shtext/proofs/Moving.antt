@@ -17,10 +17,12 @@ measured : (measure : List ℕ → ℕ) → Adds measure → (ks : Row (List ℕ
 measured measure adds ks n m low =
     let there : n + (m - n) ≡ m = omega (arith, low) in
     ap (λ k. measure (joined (take k ks))) (sym there) ∙ ap (λ l. measure (joined l)) (take-add n (m - n) ks)
-    ∙ ap measure (joined_append (take n ks) (take (m - n) (drop n ks))) ∙ adds (joined (take n ks)) (joined (take (m - n) (drop n ks)))
+    ∙ ap measure (joined_append (take n ks) (take (m - n) (drop n ks)))
+    ∙ adds (joined (take n ks)) (joined (take (m - n) (drop n ks)))
 
 -- sums go on from each place
-pub sums_on : (measure : List ℕ → ℕ) → Adds measure → (ks : Row (List ℕ)) (sums : List ℕ) (n : ℕ) → n ≤ length ks → HasSums measure ks (length ks) sums
+pub sums_on : (measure : List ℕ → ℕ) → Adds measure → (ks : Row (List ℕ)) (sums : List ℕ) (n : ℕ) → n ≤ length ks →
+    HasSums measure ks (length ks) sums
     → SumsOn measure (drop n ks) (before sums n) (drop n sums)
 sums_on measure adds ks sums n within is m low =
     let rest = length-drop n ks in
@@ -32,21 +34,27 @@ sums_on measure adds ks sums n within is m low =
     get_or-drop n sums m 0 ∙ omega (arith, one, two, three, four)
 
 -- and so they do where other chunks came before it
-pub sums_stay : (measure : List ℕ → ℕ) → Adds measure → (ks js row : Row (List ℕ)) (from to n : ℕ) (bytes sums : List ℕ) → Refilled ks js from to bytes → from ≤ to → to ≤ length ks
-    → HasSums measure ks (length ks) sums → row ≡ js → n ≡ needed (length bytes) → SumsOn measure (drop (from + n) row) (before sums to) (drop to sums)
+pub sums_stay : (measure : List ℕ → ℕ) → Adds measure → (ks js row : Row (List ℕ)) (from to n : ℕ) (bytes sums : List ℕ)
+    → Refilled ks js from to bytes → from ≤ to → to ≤ length ks
+    → HasSums measure ks (length ks) sums → row ≡ js → n ≡ needed (length bytes) →
+    SumsOn measure (drop (from + n) row) (before sums to) (drop to sums)
 sums_stay measure adds ks js row from to n bytes sums is order within all same count =
     subst (λ l. SumsOn measure l (before sums to) (drop to sums))
-    (sym (ap (λ l. drop (from + n) l) same ∙ ap (λ m. drop (from + m) js) count ∙ refilled_behind ks js from to bytes is order within))
+    (sym (ap (λ l. drop (from + n) l) same ∙ ap (λ m. drop (from + m) js) count
+    ∙ refilled_behind ks js from to bytes is order within))
     (sums_on measure adds ks sums to within all)
 
 -- behind all chunks there are none
-pub sums_on_none : (measure : List ℕ → ℕ) (ks : Row (List ℕ)) (base : ℕ) (sums : List ℕ) (n : ℕ) → length ks ≤ n → SumsOn measure (drop n ks) base sums
+pub sums_on_none : (measure : List ℕ → ℕ) (ks : Row (List ℕ)) (base : ℕ) (sums : List ℕ) (n : ℕ) → length ks ≤ n →
+    SumsOn measure (drop n ks) base sums
 sums_on_none measure ks base sums n past m low = let rest = length-drop n ks in absurd (omega (arith, low, rest, past))
 
-module _ (measure : List ℕ → ℕ) (ks : Row (List ℕ)) (old mid : List ℕ) (to went : ℕ) (within : to ≤ length ks) (count : length mid ≡ length ks) (same : drop to mid ≡ old)
+module _ (measure : List ℕ → ℕ) (ks : Row (List ℕ)) (old mid : List ℕ) (to went : ℕ) (within : to ≤ length ks)
+    (count : length mid ≡ length ks) (same : drop to mid ≡ old)
     (on : SumsOn measure (drop to ks) went old) where
   -- a sum behind the place
-  pub sum_behind : (n : ℕ) → n < length (drop to mid) → get_or (drop to mid) n 0 ≡ went + measure (joined (take (n + 1) (drop to ks)))
+  pub sum_behind : (n : ℕ) → n < length (drop to mid) →
+      get_or (drop to mid) n 0 ≡ went + measure (joined (take (n + 1) (drop to ks)))
   sum_behind n low =
       let rest = length-drop to mid in
       let left = length-drop to ks in
@@ -58,7 +66,8 @@ module _ (measure : List ℕ → ℕ) (ks : Row (List ℕ)) (old mid : List ℕ)
 
   module _ (adds : Adds measure) (sums : HasSums measure ks to mid) (came : ℕ) (is_came : came ≡ before mid to) where
     -- once it has moved it is the sum
-    pub sum_moved : (n : ℕ) → n < length (drop to mid) → get_or (drop to mid) n 0 - went + came ≡ measure (joined (take (to + (n + 1)) ks))
+    pub sum_moved : (n : ℕ) → n < length (drop to mid) →
+        get_or (drop to mid) n 0 - went + came ≡ measure (joined (take (to + (n + 1)) ks))
     sum_moved n low =
         let here = sum_behind n low in
         let all = measured measure adds ks to (to + (n + 1)) (omega arith) in
@@ -68,17 +77,21 @@ module _ (measure : List ℕ → ℕ) (ks : Row (List ℕ)) (old mid : List ℕ)
         omega (arith, here, all, rest, begin, is_came)
 
     -- all sums, once those behind have moved
-    pub sums_moved : (new moved : List ℕ) → new ≡ take to mid ++ moved → ((n : ℕ) → n < length (drop to mid) → get_or moved n 0 ≡ get_or (drop to mid) n 0 - went + came)
+    pub sums_moved : (new moved : List ℕ) → new ≡ take to mid ++ moved →
+        ((n : ℕ) → n < length (drop to mid) → get_or moved n 0 ≡ get_or (drop to mid) n 0 - went + came)
         → HasSums measure ks (length ks) new
     sums_moved new moved made is zero low = sums zero (omega arith)
     sums_moved new moved made is (suc m) low =
         let front : length (take to mid) ≡ to = length-take-le to mid (omega (arith, within, count)) in
         let rest = length-drop to mid in
         ⊎_elim
-        (λ (lt : m < to). ap (λ l. get_or l m 0) made ∙ get_or_append_left (take to mid) moved 0 m (omega (arith, lt, front)) ∙ get_or-take to mid m 0 lt ∙ sums (suc m) (omega (arith, lt)))
+        (λ (lt : m < to). ap (λ l. get_or l m 0) made
+        ∙ get_or_append_left (take to mid) moved 0 m (omega (arith, lt, front)) ∙ get_or-take to mid m 0 lt
+        ∙ sums (suc m) (omega (arith, lt)))
         (λ (ge : to ≤ m).
         let n : ℕ = m - to in
         let less : n < length (drop to mid) = omega (arith, low, rest, count, ge) in
         let there : to + (n + 1) ≡ suc m = omega (arith, ge) in
-        ap (λ l. get_or l m 0) made ∙ get_or-append_right (take to mid) moved to m 0 front ge ∙ is n less ∙ sum_moved n less ∙ ap (λ k. measure (joined (take k ks))) there)
+        ap (λ l. get_or l m 0) made ∙ get_or-append_right (take to mid) moved to m 0 front ge ∙ is n less
+        ∙ sum_moved n less ∙ ap (λ k. measure (joined (take k ks))) there)
         (cases_lt m to)

@@ -3,7 +3,8 @@ use Rattle.std.proofs.Common.{◌≡◌, ℕ, zero, suc, ◌+◌, ◌<◌, ◌�
 use Rattle.std.proofs.lemmas.List.Sums.{fold_more, count_by_more_no, count_by_more_yes}
 use Rattle.shtext.specs.Text.{is_newline, line_of, since_newline}
 
-since-more : (bytes : List ℕ) (i : ℕ) → i < length bytes → since_newline (take (i + 1) bytes) ≡ cond (get_or bytes i 0 == 10) 0 (since_newline (take i bytes) + 1)
+since-more : (bytes : List ℕ) (i : ℕ) → i < length bytes →
+    since_newline (take (i + 1) bytes) ≡ cond (get_or bytes i 0 == 10) 0 (since_newline (take i bytes) + 1)
 unfolding since_newline
 since-more bytes i lt = fold_more (λ n b. cond (b == 10) 0 (n + 1)) 0 bytes i 0 lt
 
@@ -21,7 +22,8 @@ ends bytes at lt here = (
 
 -- any other byte stays in the line
 pub stays : (bytes : List ℕ) (at : ℕ) → at < length bytes → is_newline (get_or bytes at 0) ≡ false
-    → (line_of bytes (at + 1) ≡ line_of bytes at) × (since_newline (take (at + 1) bytes) ≡ since_newline (take at bytes) + 1)
+    → (line_of bytes (at + 1) ≡ line_of bytes at)
+    × (since_newline (take (at + 1) bytes) ≡ since_newline (take at bytes) + 1)
 stays bytes at lt other = (
   ap (λ m. 1 + m) (count_by_more_no is_newline bytes at 0 lt other),
   since-more bytes at lt ∙ ap (λ t. cond t 0 (since_newline (take at bytes) + 1)) other,
@@ -34,7 +36,8 @@ no_pass false never = refl
 
 one_more : (bytes : List ℕ) (at n : ℕ) → at < length bytes → n ≤ line_of bytes at → n ≤ line_of bytes (at + 1)
 one_more bytes at n lt low = elim_bool bytes at n lt low (is_newline (get_or bytes at 0)) refl where
-  elim_bool : (bytes : List ℕ) (at n : ℕ) → at < length bytes → n ≤ line_of bytes at → (x : Bool) → is_newline (get_or bytes at 0) ≡ x → n ≤ line_of bytes (at + 1)
+  elim_bool : (bytes : List ℕ) (at n : ℕ) → at < length bytes → n ≤ line_of bytes at → (x : Bool) →
+      is_newline (get_or bytes at 0) ≡ x → n ≤ line_of bytes (at + 1)
   elim_bool bytes at n lt low true is = let end = (ends bytes at lt is).0 in omega (arith, low, end)
   elim_bool bytes at n lt low false is = let end = (stays bytes at lt is).0 in omega (arith, low, end)
 

@@ -23,7 +23,8 @@ module _ {X : Type 0} (R N now : List X) (at count : ℕ) (within : at ≤ lengt
   pub brought_back : drop (at + count) now ≡ drop at R
   brought_back =
       ap (drop (at + count)) brought ∙ sym (drop-drop count at (take at R ++ (N ++ drop at R)))
-      ∙ ap (drop count) (drop_at (take at R) (N ++ drop at R) at (length-take-le at R within)) ∙ drop_at N (drop at R) count many
+      ∙ ap (drop count) (drop_at (take at R) (N ++ drop at R) at (length-take-le at R within))
+      ∙ drop_at N (drop at R) count many
 
 -- the same of the items before one before it
 pub fewer_same : {X : Type 0} (js ks : List X) (n m : ℕ) → n ≤ m → take m js ≡ take m ks → take n js ≡ take n ks

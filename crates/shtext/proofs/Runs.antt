@@ -4,7 +4,8 @@ use Rattle.std.proofs.lemmas.List.{get_or-append_right, get_or_append_left, get_
 use Rattle.shtext.specs.Text.{IsRun}
 
 -- a stretch of a chunk
-pub run_within : (B X k Y : List ℕ) (at : ℕ) → B ≡ X ++ (k ++ Y) → length X ≤ at → at < length X + length k → IsRun B at (drop (at - length X) k)
+pub run_within : (B X k Y : List ℕ) (at : ℕ) → B ≡ X ++ (k ++ Y) → length X ≤ at → at < length X + length k →
+    IsRun B at (drop (at - length X) k)
 run_within B X k Y at is low high =
     let front : List ℕ = drop (at - length X) k in
     let long : length front ≡ length k - (at - length X) = length-drop (at - length X) k in

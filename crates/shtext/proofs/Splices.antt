@@ -33,7 +33,8 @@ made_more from (t ∷ ts) s = let on = made_more t.b ts s in omega (arith, on)
 
 -- ---- where they end
 
-pub last_behind : (len from : ℕ) (ss : Row ASplice) → AreInRange len ss → RiseFrom from ss → from ≤ last_end_from from ss
+pub last_behind : (len from : ℕ) (ss : Row ASplice) → AreInRange len ss → RiseFrom from ss →
+    from ≤ last_end_from from ss
 last_behind len from [] range rising = omega arith
 last_behind len from (s ∷ ss) range rising =
     let on = last_behind len s.b ss range.2 rising.1 in omega (arith, on, range.0, rising.0)
@@ -43,54 +44,67 @@ last_within len from [] low range = low
 last_within len from (s ∷ ss) low range = last_within len s.b ss range.1 range.2
 
 -- up to the end of the last, they are in range
-pub in_last : (len from : ℕ) (ss : Row ASplice) → AreInRange len ss → RiseFrom from ss → AreInRange (last_end_from from ss) ss
+pub in_last : (len from : ℕ) (ss : Row ASplice) → AreInRange len ss → RiseFrom from ss →
+    AreInRange (last_end_from from ss) ss
 in_last len from [] range rising = tt
-in_last len from (s ∷ ss) range rising = (range.0, last_behind len s.b ss range.2 rising.1, in_last len s.b ss range.2 rising.1)
+in_last len from (s ∷ ss) range rising =
+    (range.0, last_behind len s.b ss range.2 rising.1, in_last len s.b ss range.2 rising.1)
 
 -- ---- what they make
 
 -- of a text: the bytes before them, and what they make of the rest
-pub edited_with : (bytes : List ℕ) (from : ℕ) (ss : Row ASplice) → from ≤ length bytes → AreInRange (length bytes) ss → RiseFrom from ss
+pub edited_with : (bytes : List ℕ) (from : ℕ) (ss : Row ASplice) → from ≤ length bytes → AreInRange (length bytes) ss →
+    RiseFrom from ss
     → edited bytes ss ≡ take from bytes ++ with_splices from (drop from bytes) ss
 edited_with bytes from [] low range rising = sym (take-append-drop from bytes)
 edited_with bytes from (s ∷ ss) low range rising =
     let made : List ℕ = edited bytes ss in
-    let is : made ≡ take s.b bytes ++ with_splices s.b (drop s.b bytes) ss = edited_with bytes s.b ss range.1 range.2 rising.1 in
+    let is : made ≡ take s.b bytes ++ with_splices s.b (drop s.b bytes) ss =
+    edited_with bytes s.b ss range.1 range.2 rising.1 in
     let long : length (take s.b bytes) ≡ s.b = length-take-le s.b bytes range.1 in
     let rest : List ℕ = with_splices s.b (drop s.b bytes) ss in
-    let front : take s.a made ≡ take s.a bytes = ap (take s.a) is ∙ take-append-le s.a (take s.b bytes) rest (omega (arith, long, range.0)) ∙ take-take s.a s.b bytes range.0 in
+    let front : take s.a made ≡ take s.a bytes = ap (take s.a) is
+    ∙ take-append-le s.a (take s.b bytes) rest (omega (arith, long, range.0)) ∙ take-take s.a s.b bytes range.0 in
     let back : drop s.b made ≡ rest = ap (drop s.b) is ∙ drop_at (take s.b bytes) rest s.b long in
     let there : from + (s.a - from) ≡ s.a = omega (arith, rising.0) in
-    let split : take s.a bytes ≡ take from bytes ++ take (s.a - from) (drop from bytes) = ap (λ m. take m bytes) (sym there) ∙ take-add from (s.a - from) bytes in
+    let split : take s.a bytes ≡ take from bytes ++ take (s.a - from) (drop from bytes) =
+    ap (λ m. take m bytes) (sym there) ∙ take-add from (s.a - from) bytes in
     let far : from + (s.b - from) ≡ s.b = omega (arith, rising.0, range.0) in
-    let on : drop s.b bytes ≡ drop (s.b - from) (drop from bytes) = ap (λ m. drop m bytes) (sym far) ∙ sym (drop-drop (s.b - from) from bytes) in
+    let on : drop s.b bytes ≡ drop (s.b - from) (drop from bytes) = ap (λ m. drop m bytes) (sym far)
+    ∙ sym (drop-drop (s.b - from) from bytes) in
     ap (λ l. l ++ (s.bytes ++ drop s.b made)) (front ∙ split)
-    ∙ ap (λ l. (take from bytes ++ take (s.a - from) (drop from bytes)) ++ (s.bytes ++ l)) (back ∙ ap (λ l. with_splices s.b l ss) on)
+    ∙ ap (λ l. (take from bytes ++ take (s.a - from) (drop from bytes)) ++ (s.bytes ++ l))
+    (back ∙ ap (λ l. with_splices s.b l ss) on)
     ∙ append_assoc (take from bytes) (take (s.a - from) (drop from bytes)) _
 
 -- what stands behind the last of them stays
-pub with_behind : (from : ℕ) (bytes behind : List ℕ) (ss : Row ASplice) → AreInRange (from + length bytes) ss → RiseFrom from ss
+pub with_behind : (from : ℕ) (bytes behind : List ℕ) (ss : Row ASplice) → AreInRange (from + length bytes) ss →
+    RiseFrom from ss
     → with_splices from (bytes ++ behind) ss ≡ with_splices from bytes ss ++ behind
 with_behind from bytes behind [] range rising = refl
 with_behind from bytes behind (s ∷ ss) range rising =
     let short : s.b - from ≤ length bytes = omega (arith, range.1) in
     let count = length-drop (s.b - from) bytes in
-    let same : s.b + length (drop (s.b - from) bytes) ≡ from + length bytes = omega (arith, count, range.0, range.1, rising.0) in
+    let same : s.b + length (drop (s.b - from) bytes) ≡ from + length bytes =
+    omega (arith, count, range.0, range.1, rising.0) in
     let front = take-append-le (s.a - from) bytes behind (omega (arith, short, range.0)) in
     let back = drop-append-le (s.b - from) bytes behind short in
-    let on = with_behind s.b (drop (s.b - from) bytes) behind ss (subst (λ n. AreInRange n ss) (sym same) range.2) rising.1 in
+    let on = with_behind s.b (drop (s.b - from) bytes) behind ss
+    (subst (λ n. AreInRange n ss) (sym same) range.2) rising.1 in
     ap (λ l. l ++ (s.bytes ++ with_splices s.b (drop (s.b - from) (bytes ++ behind)) ss)) front
     ∙ ap (λ l. take (s.a - from) bytes ++ (s.bytes ++ l)) (ap (λ l. with_splices s.b l ss) back ∙ on)
     ∙ ap (λ l. take (s.a - from) bytes ++ l) (sym (append_assoc s.bytes _ behind))
     ∙ sym (append_assoc (take (s.a - from) bytes) _ behind)
 
 -- how many bytes that are
-pub with_length : (from : ℕ) (bytes : List ℕ) (ss : Row ASplice) → AreInRange (from + length bytes) ss → RiseFrom from ss
+pub with_length : (from : ℕ) (bytes : List ℕ) (ss : Row ASplice) → AreInRange (from + length bytes) ss →
+    RiseFrom from ss
     → length (with_splices from bytes ss) ≡ made_from from ss + (from + length bytes - last_end_from from ss)
 with_length from bytes [] range rising = omega arith
 with_length from bytes (s ∷ ss) range rising =
     let count = length-drop (s.b - from) bytes in
-    let same : s.b + length (drop (s.b - from) bytes) ≡ from + length bytes = omega (arith, count, range.0, range.1, rising.0) in
+    let same : s.b + length (drop (s.b - from) bytes) ≡ from + length bytes =
+    omega (arith, count, range.0, range.1, rising.0) in
     let on = with_length s.b (drop (s.b - from) bytes) ss (subst (λ n. AreInRange n ss) (sym same) range.2) rising.1 in
     let front = length-take-le (s.a - from) bytes (omega (arith, range.0, range.1)) in
     let all = length-append (take (s.a - from) bytes) (s.bytes ++ with_splices s.b (drop (s.b - from) bytes) ss) in
@@ -110,10 +124,12 @@ edited_long bytes ss range rising =
 abbrev pub held_between : List ℕ → Row ASplice → List ℕ
 held_between bytes ss = take (last_end ss - first_begin ss) (drop (first_begin ss) bytes)
 
-module _ (bytes : List ℕ) (ss : Row ASplice) (some : 0 < length ss) (range : AreInRange (length bytes) ss) (rising : RiseFrom 0 ss) where
+module _ (bytes : List ℕ) (ss : Row ASplice) (some : 0 < length ss) (range : AreInRange (length bytes) ss)
+    (rising : RiseFrom 0 ss) where
   pub ends_rise : first_begin ss ≤ last_end ss
   ends_rise = rise ss some range rising where
-    rise : (ts : Row ASplice) → 0 < length ts → AreInRange (length bytes) ts → RiseFrom 0 ts → first_begin ts ≤ last_end ts
+    rise : (ts : Row ASplice) → 0 < length ts → AreInRange (length bytes) ts → RiseFrom 0 ts →
+        first_begin ts ≤ last_end ts
     rise [] none is on = absurd (omega (arith, none))
     rise (t ∷ ts) more is on = omega (arith, is.0, last_behind (length bytes) t.b ts is.2 on.1)
 
@@ -127,7 +143,8 @@ module _ (bytes : List ℕ) (ss : Row ASplice) (some : 0 < length ss) (range : A
     rise (t ∷ ts) on = (omega arith, on.1)
 
   held_count : length (held_between bytes ss) ≡ last_end ss - first_begin ss
-  held_count = length-take-le (last_end ss - first_begin ss) (drop (first_begin ss) bytes) (omega (arith, length-drop (first_begin ss) bytes, ends_within))
+  held_count = length-take-le (last_end ss - first_begin ss) (drop (first_begin ss) bytes)
+      (omega (arith, length-drop (first_begin ss) bytes, ends_within))
 
   held_end : last_end ss ≡ first_begin ss + length (held_between bytes ss)
   held_end = omega (arith, held_count, ends_rise)
@@ -145,8 +162,10 @@ module _ (bytes : List ℕ) (ss : Row ASplice) (some : 0 < length ss) (range : A
       let last : ℕ = last_end ss in
       let old : List ℕ = held_between bytes ss in
       let far : first + (last - first) ≡ last = omega (arith, ends_rise) in
-      let behind : drop (last - first) (drop first bytes) ≡ drop last bytes = drop-drop (last - first) first bytes ∙ ap (λ m. drop m bytes) far in
-      let split : drop first bytes ≡ old ++ drop last bytes = sym (take-append-drop (last - first) (drop first bytes)) ∙ ap (λ l. old ++ l) behind in
+      let behind : drop (last - first) (drop first bytes) ≡ drop last bytes = drop-drop (last - first) first bytes
+      ∙ ap (λ m. drop m bytes) far in
+      let split : drop first bytes ≡ old ++ drop last bytes = sym (take-append-drop (last - first) (drop first bytes))
+      ∙ ap (λ l. old ++ l) behind in
       sym
       (edited_with bytes first ss (omega (arith, ends_rise, ends_within)) range rise_first
       ∙ ap (λ l. take first bytes ++ with_splices first l ss) split
@@ -160,15 +179,19 @@ module _ (bytes : List ℕ) (ss : Row ASplice) (some : 0 < length ss) (range : A
       omega (arith, count, held_end, there.0, there.1)
     where
       from_first : (ts : Row ASplice) → 0 < length ts
-          → (first_begin ts + made_from (first_begin ts) ts ≡ made_from 0 ts) × (last_end_from (first_begin ts) ts ≡ last_end ts)
+          → (first_begin ts + made_from (first_begin ts) ts ≡ made_from 0 ts)
+          × (last_end_from (first_begin ts) ts ≡ last_end ts)
       from_first [] none = absurd (omega (arith, none))
       from_first (t ∷ ts) more = (omega arith, refl)
 
-module _ (bytes : List ℕ) (ss : Row ASplice) (some : 0 < length ss) (range : AreInRange (length bytes) ss) (rising : RiseFrom 0 ss)
-    (start end : ℕ) (starts : start ≡ first_begin ss) (ends : end ≡ last_end ss) (old : List ℕ) (is : old ≡ slice_range bytes start end) where
+module _ (bytes : List ℕ) (ss : Row ASplice) (some : 0 < length ss) (range : AreInRange (length bytes) ss)
+    (rising : RiseFrom 0 ss)
+    (start end : ℕ) (starts : start ≡ first_begin ss) (ends : end ≡ last_end ss) (old : List ℕ)
+    (is : old ≡ slice_range bytes start end) where
   -- the bytes between two places are those between the first and the last of them
   pub old_is : old ≡ held_between bytes ss
-  old_is = is ∙ ap (λ m. take (end - m) (drop m bytes)) starts ∙ ap (λ m. take (m - first_begin ss) (drop (first_begin ss) bytes)) ends
+  old_is = is ∙ ap (λ m. take (end - m) (drop m bytes)) starts
+      ∙ ap (λ m. take (m - first_begin ss) (drop (first_begin ss) bytes)) ends
 
   pub in_old : AreInRange (start + length old) ss
   in_old = subst (λ n. AreInRange n ss) (omega (arith, starts, ap length old_is)) (in_held bytes ss some range rising)

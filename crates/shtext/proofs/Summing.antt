@@ -8,7 +8,8 @@ use Rattle.shtext.proofs.Joined.{joined_nil}
 use Rattle.std.proofs.lemmas.List.Sums.{sum_by-append}
 
 -- one more sum
-pub sums_push : (F : ℕ → ℕ) (sums : List ℕ) (n x : ℕ) → length sums ≡ n → ((m : ℕ) → m ≤ n → before sums m ≡ F m) → x ≡ F (n + 1)
+pub sums_push : (F : ℕ → ℕ) (sums : List ℕ) (n x : ℕ) → length sums ≡ n → ((m : ℕ) → m ≤ n → before sums m ≡ F m) →
+    x ≡ F (n + 1)
     → (m : ℕ) → m ≤ n + 1 → before (sums ++ x ∷ []) m ≡ F m
 sums_push F sums n x long all is zero low = all zero (omega arith)
 sums_push F sums n x long all is (suc m) low =
@@ -20,12 +21,14 @@ sums_push F sums n x long all is (suc m) low =
     (cases_lt m n)
 
 -- one that is another than it was
-pub sums_set : (F : ℕ → ℕ) (sums : List ℕ) (n x : ℕ) → n < length sums → ((m : ℕ) → m ≤ n → before sums m ≡ F m) → x ≡ F (n + 1)
+pub sums_set : (F : ℕ → ℕ) (sums : List ℕ) (n x : ℕ) → n < length sums → ((m : ℕ) → m ≤ n → before sums m ≡ F m) →
+    x ≡ F (n + 1)
     → (m : ℕ) → m ≤ n + 1 → before (set sums n x) m ≡ F m
 sums_set F sums n x within all is zero low = all zero (omega arith)
 sums_set F sums n x within all is (suc m) low =
     ⊎_elim
-    (λ (lt : m < n). let other : m ≢ n = omega (arith, lt) in get_or-set_other sums n m x 0 other ∙ all (suc m) (omega (arith, lt)))
+    (λ (lt : m < n). let other : m ≢ n = omega (arith, lt) in
+    get_or-set_other sums n m x 0 other ∙ all (suc m) (omega (arith, lt)))
     (λ (ge : n ≤ m).
     let same : m ≡ n = omega (arith, ge, low) in
     let next : n + 1 ≡ suc m = omega (arith, same) in
@@ -33,12 +36,15 @@ sums_set F sums n x within all is (suc m) low =
     (cases_lt m n)
 
 -- none
-pub sums_none : (measure : List ℕ → ℕ) → measure [] ≡ 0 → (ks : Row (List ℕ)) (sums : List ℕ) → HasSums measure ks 0 sums
+pub sums_none : (measure : List ℕ → ℕ) → measure [] ≡ 0 → (ks : Row (List ℕ)) (sums : List ℕ) →
+    HasSums measure ks 0 sums
 sums_none measure none ks sums zero low = sym (ap measure joined_nil ∙ none)
 sums_none measure none ks sums (suc m) low = absurd (omega (arith, low))
 
 pub lines_append : (xs ys : List ℕ) → count_by is_newline (xs ++ ys) ≡ count_by is_newline xs + count_by is_newline ys
 lines_append xs ys = sum_by-append _ xs ys
 
-pub sums_empty : (measure : List ℕ → ℕ) → measure [] ≡ 0 → (ks : Row (List ℕ)) (sums : List ℕ) → ks ≡ [] → HasSums measure ks (length ks) sums
-sums_empty measure none ks sums is = subst (λ n. HasSums measure ks n sums) (sym (ap length is)) (sums_none measure none ks sums)
+pub sums_empty : (measure : List ℕ → ℕ) → measure [] ≡ 0 → (ks : Row (List ℕ)) (sums : List ℕ) → ks ≡ [] →
+    HasSums measure ks (length ks) sums
+sums_empty measure none ks sums is =
+    subst (λ n. HasSums measure ks n sums) (sym (ap length is)) (sums_none measure none ks sums)

@@ -7,4 +7,5 @@ use Rattle.shtext.specs.Text.{since_newline}
 abbrev pub BeginsLine : ℕ → ℕ → List ℕ → ℕ → Type 0
 BeginsLine from start run begin = (bytes : List ℕ) → from + length run ≤ length bytes
     → ((k : ℕ) → k < length run → slice_index bytes (from + k) ≡ slice_index run k)
-    → start + since_newline (take from bytes) ≡ from → begin + since_newline (take (from + length run) bytes) ≡ from + length run
+    → start + since_newline (take from bytes) ≡ from →
+    begin + since_newline (take (from + length run) bytes) ≡ from + length run

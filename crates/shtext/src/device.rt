@@ -36,9 +36,11 @@ impl<R: Read> Input<R> {
     /// failed one. After `Failed` the reader has lost no byte.
     pub fn read(&mut self, piece: &mut [u8]) -> Result<usize, Failed>
         ensures bound { ReadsAtMost result piece.new }
-        ensures bytes { ReadConsumes (left_of R.remaining self.old) (left_of R.remaining self.new) result piece.new }
+        ensures bytes { ReadConsumes (left_of R.remaining self.old)
+            (left_of R.remaining self.new) result piece.new }
         ensures failed { input_failed self.new ≡ (input_failed self.old || not (is_ok result)) }
-        ensures ended { input_ended self.new ≡ (input_ended self.old || meets_end result (length piece.new)) }
+        ensures ended { input_ended self.new
+            ≡ (input_ended self.old || meets_end result (length piece.new)) }
     {
         match self.reader.read(piece) {
             Ok(count) => {
@@ -93,7 +95,8 @@ impl<W: Write> Output<W> {
     pub fn write(&mut self, piece: &[u8]) -> Result<usize, Failed>
         ensures bound { IfOk result (λ n. n ≤ length piece.now) }
         ensures some { IfOk result (λ n. 0 < length piece.now → 0 < n) }
-        ensures bytes { WriteAppends (held_of W.contents self.old) (held_of W.contents self.new) result piece.now }
+        ensures bytes { WriteAppends (held_of W.contents self.old)
+            (held_of W.contents self.new) result piece.now }
         ensures failed { output_failed self.new ≡ (output_failed self.old || not (is_ok result)) }
     {
         match self.writer.write(piece) {
@@ -128,7 +131,8 @@ impl<W: Write> Output<W> {
 
     /// Writes the whole piece, or where the writer fails the beginning that it took.
     pub fn write_whole(&mut self, piece: &[u8]) -> Result<(), Failed>
-        ensures bytes { Writes (held_of W.contents self.old) (held_of W.contents self.new) (not (is_ok result)) piece.now }
+        ensures bytes { Writes (held_of W.contents self.old) (held_of W.contents self.new)
+            (not (is_ok result)) piece.now }
         ensures failed { output_failed self.new ≡ (output_failed self.old || not (is_ok result)) }
     {
         let mut at = 0;

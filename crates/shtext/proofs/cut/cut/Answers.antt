@@ -23,14 +23,30 @@ chunks-preserved c =
     let front = c.split_at.result.0.now in
     let behind = c.split_at.result.1.now in
     let ks = c.chunks.chunks.items in
-    let made = ap joined c.in_ok-push.ensures.items ∙ joined_push ks c.in_ok-chunk.chunk ∙ ap (λ k. joined ks ++ k) c.in_ok-chunk.ensures in
-    let both : front ++ behind ≡ rest = ap (λ l. l ++ behind) c.split_at.ensures.front ∙ ap (λ l. take c.min.result rest ++ l) c.split_at.ensures.back ∙ take-append-drop c.min.result rest in
+    let made = ap joined c.in_ok-push.ensures.items ∙ joined_push ks c.in_ok-chunk.chunk
+    ∙ ap (λ k. joined ks ++ k) c.in_ok-chunk.ensures in
+    let both : front ++ behind ≡ rest = ap (λ l. l ++ behind) c.split_at.ensures.front
+    ∙ ap (λ l. take c.min.result rest ++ l) c.split_at.ensures.back ∙ take-append-drop c.min.result rest in
     let some : 1 ≤ length rest = grind (arith, c.is_empty.ensures, c.chunks-test.true) in
     let long = ap length c.in_ok-chunk.ensures in
     let all : Each NotSmall ks = inv.some some in
     record {
-      bytes = ap (λ l. l ++ behind) made ∙ append_assoc (joined ks) front behind ∙ ap (λ l. joined ks ++ l) both ∙ inv.bytes;
-      each = subst (EachHas 1) (sym c.in_ok-push.ensures.items) (each_push (λ (k : List ℕ). (1 ≤ length k) × (length k ≤ most)) ks c.in_ok-chunk.chunk inv.each (omega (arith, long, c.split_at.ensures.front_len, c.min.ensures, some), omega (arith, long, c.split_at.ensures.front_len, c.min.ensures)));
-      some = λ more. subst (Each NotSmall) (sym c.in_ok-push.ensures.items) (each_push NotSmall ks c.in_ok-chunk.chunk all (omega (arith, ap length c.in_ok-chunk.ensures, c.split_at.ensures.front_len, c.split_at.ensures.back_len, more, c.min.ensures)));
+      bytes = ap (λ l. l ++ behind) made ∙ append_assoc (joined ks) front behind ∙ ap (λ l. joined ks ++ l) both
+          ∙ inv.bytes;
+      each = subst (EachHas 1) (sym c.in_ok-push.ensures.items)
+          (each_push (λ (k : List ℕ). (1 ≤ length k) × (length k ≤ most)) ks c.in_ok-chunk.chunk inv.each (
+            omega (arith, long, c.split_at.ensures.front_len, c.min.ensures, some),
+            omega (arith, long, c.split_at.ensures.front_len, c.min.ensures),
+          ));
+      some = λ more. subst (Each NotSmall) (sym c.in_ok-push.ensures.items)
+          (each_push NotSmall ks c.in_ok-chunk.chunk all
+          (omega (
+            arith,
+            ap length c.in_ok-chunk.ensures,
+            c.split_at.ensures.front_len,
+            c.split_at.ensures.back_len,
+            more,
+            c.min.ensures,
+          )));
       full = subst AreFull (sym c.in_ok-push.ensures.items) (full_end ks c.in_ok-chunk.chunk all);
     }

@@ -32,7 +32,8 @@ chunks-preserved g c =
     let left : len - at - n ≡ len - (at + n) = omega arith in
     let is : k ≡ take n (drop at B) = c.fill.ensures ∙ ap (λ m. take m (drop at B)) next in
     let rest = length-drop at B in
-    let long : length k ≡ n = ap length is ∙ length-take-le n (drop at B) (omega (arith, rest, front.within, inv.len)) in
+    let long : length k ≡ n = ap length is
+    ∙ length-take-le n (drop at B) (omega (arith, rest, front.within, inv.len)) in
     let left_over : min fewest len ≤ len - at = inv.rest (omega (arith, some)) in
     let least : min fewest len ≤ n = omega (arith, front.some, left_over) in
     record {
@@ -41,5 +42,6 @@ chunks-preserved g c =
       count = omega (arith, inv.count, count, left, length-set ks i k);
       rest = λ more. let back = front.rest (omega (arith, more)) in omega (arith, back);
       bytes = filled_bytes ks i k low B at n inv.bytes is;
-      each = filled_each ks i k low (λ (x : List ℕ). (min fewest len ≤ length x) × (length x ≤ most)) inv.each (omega (arith, long, least), omega (arith, long, front.few));
+      each = filled_each ks i k low (λ (x : List ℕ). (min fewest len ≤ length x) × (length x ≤ most)) inv.each
+          (omega (arith, long, least), omega (arith, long, front.few));
     }

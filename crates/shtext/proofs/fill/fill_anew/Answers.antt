@@ -12,8 +12,11 @@ returns g c =
     let js : Row (List ℕ) = c.fill_between.new.chunks in
     let end : ℕ = c.args.from + c.chunks_for-count.result in
     let ok = c.make_place.new.row.ok in
-    let long : length js ≡ c.make_place.new.row.len = c.fill_between.auto.chunks ∙ ap length c.deref_mut.ensures.value ∙ sym ok.0 in
+    let long : length js ≡ c.make_place.new.row.len = c.fill_between.auto.chunks ∙ ap length c.deref_mut.ensures.value
+    ∙ sym ok.0 in
     let all = take_at js (drop (length js) ms) c.make_place.new.row.len long in
-    let is : Refilled ms js c.args.from end bytes = subst (λ (l : Row (List ℕ)). Refilled l js c.args.from end bytes) c.deref_mut.ensures.value c.fill_between.ensures in
+    let is : Refilled ms js c.args.from end bytes =
+    subst (λ (l : Row (List ℕ)). Refilled l js c.args.from end bytes) c.deref_mut.ensures.value
+    c.fill_between.ensures in
     subst (λ (l : Row (List ℕ)). Refilled ks l c.args.from c.args.to bytes) (sym all)
     (refilled_anew ks ms js c.args.from c.args.to end bytes c.make_place.ensures.front c.make_place.ensures.back is)

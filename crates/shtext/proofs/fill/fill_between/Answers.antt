@@ -13,7 +13,8 @@ returns g c =
     let long = length-take-le (to - from) (drop from ks) (omega (arith, rest, c.requires.within)) in
     record {
       filled = new;
-      row = ap (λ l. take from ks ++ (new ++ l)) (drop-drop (to - from) from ks) ∙ ap (λ m. take from ks ++ (new ++ drop m ks)) there;
+      row = ap (λ l. take from ks ++ (new ++ l)) (drop-drop (to - from) from ks)
+          ∙ ap (λ m. take from ks ++ (new ++ drop m ks)) there;
       count = omega (arith, c.fill.auto.chunks, long, c.requires.count);
       all = c.fill.ensures.bytes;
       each = c.fill.ensures.each;

@@ -19,5 +19,6 @@ returns-in-Some c = λ bytes fits same before.
 pub returns-in-None : goal.returns-in-None
 returns-in-None c = λ bytes fits same before.
     let run = c.args.run.now in
-    let after = still bytes c.args.from (length run) fits (λ k lt. ap is_newline (same k lt) ∙ no_pass _ (c.in-None.ensures k (omega arith) lt)) in
+    let after = still bytes c.args.from (length run) fits
+    (λ k lt. ap is_newline (same k lt) ∙ no_pass _ (c.in-None.ensures k (omega arith) lt)) in
     omega (arith, after, before)

@@ -27,12 +27,14 @@ runs-preserved g c =
     let is = c.run-run.ensures in
     let short : c.min.result ≤ length whole = omega (arith, c.min.ensures) in
     let count : length run ≡ c.min.result = length-take-le c.min.result whole short in
-    let fits : c.runs.from + length run ≤ length bytes = omega (arith, count, c.min.ensures, inv.within, c.requires.within) in
+    let fits : c.runs.from + length run ≤ length bytes =
+    omega (arith, count, c.min.ensures, inv.within, c.requires.within) in
     let same = λ (k : ℕ) (lt : k < length run).
     is.same k (omega (arith, lt, count, short)) ∙ sym (get_or-take c.min.result whole k 0 (omega (arith, lt, count))) in
     let since = c.line_begin-start.ensures bytes fits same inv.since in
     let line : line_of bytes (c.runs.from + length run) ≡ line_of bytes c.runs.from + count_by is_newline run
-    = lines bytes run c.runs.from same (length run) fits (omega arith) ∙ ap (λ l. line_of bytes c.runs.from + count_by is_newline l) (take-length run) in
+    = lines bytes run c.runs.from same (length run) fits (omega arith)
+    ∙ ap (λ l. line_of bytes c.runs.from + count_by is_newline l) (take-length run) in
     let few : count_by is_newline run ≤ length run = count_by-le-length is_newline run in
     record {
       order = omega (arith, since);

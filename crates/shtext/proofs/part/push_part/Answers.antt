@@ -12,7 +12,8 @@ runs-preserved g c =
     let is = c.run-run.ensures in
     let short : n ≤ length whole = omega (arith, c.min.ensures) in
     let count : length (take n whole) ≡ n = length-take-le n whole short in
-    let part : take n (drop c.runs.at bytes) ≡ take n whole = run_part bytes whole c.runs.at n (omega (arith, c.min.ensures, inv.high, c.requires.within)) short is.same in
+    let part : take n (drop c.runs.at bytes) ≡ take n whole =
+    run_part bytes whole c.runs.at n (omega (arith, c.min.ensures, inv.high, c.requires.within)) short is.same in
     let more = part_more bytes c.args.from c.runs.at n inv.low in
     record {
       low = omega (arith, inv.low);
@@ -20,7 +21,16 @@ runs-preserved g c =
       bytes = c.push_all.ensures.items ∙ ap (λ l. l ++ take n whole) inv.bytes
           ∙ append_assoc c.args.into.now.items (take (c.runs.at - c.args.from) (drop c.args.from bytes)) (take n whole)
           ∙ ap (λ l. c.args.into.now.items ++ (take (c.runs.at - c.args.from) (drop c.args.from bytes) ++ l)) (sym part)
-          ∙ ap (λ l. c.args.into.now.items ++ l) (more ∙ ap (λ m. take (c.runs.at + m - c.args.from) (drop c.args.from bytes)) (sym count));
-      room = omega (arith, count, c.min.ensures, inv.room, inv.high, c.push_all.ensures.len, c.push_all.ensures.capacity);
+          ∙ ap (λ l. c.args.into.now.items ++ l)
+          (more ∙ ap (λ m. take (c.runs.at + m - c.args.from) (drop c.args.from bytes)) (sym count));
+      room = omega (
+        arith,
+        count,
+        c.min.ensures,
+        inv.room,
+        inv.high,
+        c.push_all.ensures.len,
+        c.push_all.ensures.capacity,
+      );
       capacity = omega (arith, inv.capacity, c.push_all.ensures.capacity);
     }

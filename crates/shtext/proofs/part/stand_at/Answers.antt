@@ -15,13 +15,18 @@ returns-then-not-is_same g c =
     let behind : List ℕ = c.split_at.result.1.now in
     let inv = c.runs.invariant in
     let is : rest ≡ front ++ behind
-    = sym (take-append-drop c.min.result rest) ∙ ap (λ l. l ++ drop c.min.result rest) (sym c.split_at.ensures.front) ∙ ap (λ l. front ++ l) (sym c.split_at.ensures.back) in
+    = sym (take-append-drop c.min.result rest) ∙ ap (λ l. l ++ drop c.min.result rest) (sym c.split_at.ensures.front)
+    ∙ ap (λ l. front ++ l) (sym c.split_at.ensures.back) in
     let long = ap length is ∙ length-append front behind in
     let part : take (length front) (drop at B) ≡ take (length front) run
-    = run_part B run at (length front) (omega (arith, long, inv.left, c.requires.within)) (omega (arith, c.split_at.ensures.front_len, c.min.ensures)) c.run-run.ensures.same in
-    let decided = slice_eq-Decides Decides-eqb (take (length front) run) front c.eq-is_same.result c.eq-is_same.ensures in (
+    = run_part B run at (length front) (omega (arith, long, inv.left, c.requires.within))
+    (omega (arith, c.split_at.ensures.front_len, c.min.ensures)) c.run-run.ensures.same in
+    let decided = slice_eq-Decides Decides-eqb
+    (take (length front) run) front c.eq-is_same.result c.eq-is_same.ensures in (
       (λ (never : false ≡ true). cc),
-      (λ whole. absurd (stand_not B rest front behind at is (λ same. let never : false ≡ true = sym c.if-not-is_same.true ∙ decided.1 (sym part ∙ same) in cc) (inv.same.1 whole))),
+      (λ whole. absurd (stand_not B rest front behind at is
+          (λ same. let never : false ≡ true = sym c.if-not-is_same.true ∙ decided.1 (sym part ∙ same) in cc)
+          (inv.same.1 whole))),
     )
 
 pub overflow_add-at : goal.overflow_add-at
@@ -37,11 +42,14 @@ runs-preserved g c =
     let behind : List ℕ = c.split_at.result.1.now in
     let inv = c.runs.invariant in
     let is : rest ≡ front ++ behind
-    = sym (take-append-drop c.min.result rest) ∙ ap (λ l. l ++ drop c.min.result rest) (sym c.split_at.ensures.front) ∙ ap (λ l. front ++ l) (sym c.split_at.ensures.back) in
+    = sym (take-append-drop c.min.result rest) ∙ ap (λ l. l ++ drop c.min.result rest) (sym c.split_at.ensures.front)
+    ∙ ap (λ l. front ++ l) (sym c.split_at.ensures.back) in
     let long = ap length is ∙ length-append front behind in
     let part : take (length front) (drop at B) ≡ take (length front) run
-    = run_part B run at (length front) (omega (arith, long, inv.left, c.requires.within)) (omega (arith, c.split_at.ensures.front_len, c.min.ensures)) c.run-run.ensures.same in
-    let decided = slice_eq-Decides Decides-eqb (take (length front) run) front c.eq-is_same.result c.eq-is_same.ensures in
+    = run_part B run at (length front) (omega (arith, long, inv.left, c.requires.within))
+    (omega (arith, c.split_at.ensures.front_len, c.min.ensures)) c.run-run.ensures.same in
+    let decided = slice_eq-Decides Decides-eqb
+    (take (length front) run) front c.eq-is_same.result c.eq-is_same.ensures in
     let here : take (length front) (drop at B) ≡ front = part ∙ decided.0 c.if-not-is_same.false in
     let step = stand_more B rest front behind at is here in
     record {

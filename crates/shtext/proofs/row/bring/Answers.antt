@@ -12,10 +12,13 @@ returns-clause-front g c =
     let ok_spare = c.args.spare.now.ok in
     let ok_new = c.pour.new.into.ok in
     let many : length N ≡ c.args.count
-    = length-reverse (drop (c.len.result - c.args.count) c.args.spare.now.items) ∙ length-drop (c.len.result - c.args.count) c.args.spare.now.items
+    = length-reverse (drop (c.len.result - c.args.count) c.args.spare.now.items)
+    ∙ length-drop (c.len.result - c.args.count) c.args.spare.now.items
     ∙ omega (arith, c.len.ensures, ok_spare.0, c.requires.spare) in
-    let long : vec_len c.pour.new.into ≡ length R + c.args.count = ok_new.0 ∙ ap length c.pour.ensures.into ∙ length-append R N ∙ omega (arith, many) in
-    let is = c.to_place.ensures.items ∙ ap (λ n. last_moved c.pour.new.into.items n c.args.at c.args.count) long ∙ ap (λ p. last_moved p (length R + c.args.count) c.args.at c.args.count) c.pour.ensures.into in
+    let long : vec_len c.pour.new.into ≡ length R + c.args.count = ok_new.0 ∙ ap length c.pour.ensures.into
+    ∙ length-append R N ∙ omega (arith, many) in
+    let is = c.to_place.ensures.items ∙ ap (λ n. last_moved c.pour.new.into.items n c.args.at c.args.count) long
+    ∙ ap (λ p. last_moved p (length R + c.args.count) c.args.at c.args.count) c.pour.ensures.into in
     brought_front R N c.to_place.new.row.items c.args.at c.args.count (omega (arith, c.requires.within, ok.0)) many is
 
 pub returns-clause-back : goal.returns-clause-back
@@ -26,8 +29,11 @@ returns-clause-back g c =
     let ok_spare = c.args.spare.now.ok in
     let ok_new = c.pour.new.into.ok in
     let many : length N ≡ c.args.count
-    = length-reverse (drop (c.len.result - c.args.count) c.args.spare.now.items) ∙ length-drop (c.len.result - c.args.count) c.args.spare.now.items
+    = length-reverse (drop (c.len.result - c.args.count) c.args.spare.now.items)
+    ∙ length-drop (c.len.result - c.args.count) c.args.spare.now.items
     ∙ omega (arith, c.len.ensures, ok_spare.0, c.requires.spare) in
-    let long : vec_len c.pour.new.into ≡ length R + c.args.count = ok_new.0 ∙ ap length c.pour.ensures.into ∙ length-append R N ∙ omega (arith, many) in
-    let is = c.to_place.ensures.items ∙ ap (λ n. last_moved c.pour.new.into.items n c.args.at c.args.count) long ∙ ap (λ p. last_moved p (length R + c.args.count) c.args.at c.args.count) c.pour.ensures.into in
+    let long : vec_len c.pour.new.into ≡ length R + c.args.count = ok_new.0 ∙ ap length c.pour.ensures.into
+    ∙ length-append R N ∙ omega (arith, many) in
+    let is = c.to_place.ensures.items ∙ ap (λ n. last_moved c.pour.new.into.items n c.args.at c.args.count) long
+    ∙ ap (λ p. last_moved p (length R + c.args.count) c.args.at c.args.count) c.pour.ensures.into in
     brought_back R N c.to_place.new.row.items c.args.at c.args.count (omega (arith, c.requires.within, ok.0)) many is

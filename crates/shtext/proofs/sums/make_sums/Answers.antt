@@ -12,9 +12,14 @@ returns-else-count-held-clause-back c =
     let ok = c.args.sums.now.ok in
     let ok_new = c.push_zeros.new.into.ok in
     let N : List ℕ = drop (vec_len c.args.sums.now) S in
-    let is : S ≡ R ++ N = sym (take-append-drop (vec_len c.args.sums.now) S) ∙ ap (λ l. l ++ N) c.push_zeros.ensures.front in
-    let many : length N ≡ more = length-drop (vec_len c.args.sums.now) S ∙ omega (arith, ok_new.0, c.push_zeros.ensures.count) in
+    let is : S ≡ R ++ N = sym (take-append-drop (vec_len c.args.sums.now) S)
+    ∙ ap (λ l. l ++ N) c.push_zeros.ensures.front in
+    let many : length N ≡ more = length-drop (vec_len c.args.sums.now) S
+    ∙ omega (arith, ok_new.0, c.push_zeros.ensures.count) in
     let long : vec_len c.push_zeros.new.into ≡ length R + more = omega (arith, ok.0, c.push_zeros.ensures.count) in
-    let there : c.args.from + c.args.count ≡ c.args.to + more = omega (arith, c.requires.order, c.if-count-held.false) in
-    let made = c.to_place.ensures.items ∙ ap (λ n. last_moved S n c.args.to more) long ∙ ap (λ p. last_moved p (length R + more) c.args.to more) is in
-    ap (λ n. drop n c.to_place.new.row.items) there ∙ brought_back R N c.to_place.new.row.items c.args.to more (omega (arith, c.requires.within, ok.0)) many made
+    let there : c.args.from + c.args.count ≡ c.args.to + more =
+    omega (arith, c.requires.order, c.if-count-held.false) in
+    let made = c.to_place.ensures.items ∙ ap (λ n. last_moved S n c.args.to more) long
+    ∙ ap (λ p. last_moved p (length R + more) c.args.to more) is in
+    ap (λ n. drop n c.to_place.new.row.items) there
+    ∙ brought_back R N c.to_place.new.row.items c.args.to more (omega (arith, c.requires.within, ok.0)) many made

@@ -26,7 +26,16 @@ overflow_add-line c =
     let more = ap (count_by is_newline) (joined_more n ks k within c.index-chunks-index.is) in
     let long = lines_append (joined (take n ks)) k in
     let few = count_by-le-length is_newline (joined (take (n + 1) ks)) in
-    omega (arith, more, long, few, c.newlines-line.ensures, c.chunks.invariant.line, joined_low (n + 1) ks, c.requires.small)
+    omega (
+      arith,
+      more,
+      long,
+      few,
+      c.newlines-line.ensures,
+      c.chunks.invariant.line,
+      joined_low (n + 1) ks,
+      c.requires.small,
+    )
 
 pub chunks-preserved : goal.chunks-preserved
 chunks-preserved c =
@@ -38,8 +47,10 @@ chunks-preserved c =
     let is = joined_more n ks k within c.index-chunks-index.is in
     let ends = ap length is ∙ length-append (joined (take n ks)) k in
     let lines = ap (count_by is_newline) is ∙ lines_append (joined (take n ks)) k in
-    let now_end : c.chunks.«end» + c.len-end.result ≡ length (joined (take (n + 1) ks)) = omega (arith, ends, c.len-end.ensures.len, inv.«end») in
-    let now_line : c.chunks.line + c.newlines-line.result ≡ count_by is_newline (joined (take (n + 1) ks)) = omega (arith, lines, c.newlines-line.ensures, inv.line) in
+    let now_end : c.chunks.«end» + c.len-end.result ≡ length (joined (take (n + 1) ks)) =
+    omega (arith, ends, c.len-end.ensures.len, inv.«end») in
+    let now_line : c.chunks.line + c.newlines-line.result ≡ count_by is_newline (joined (take (n + 1) ks)) =
+    omega (arith, lines, c.newlines-line.ensures, inv.line) in
     let few_ends : n < length c.chunks.ends = omega (arith, within, c.chunks.auto.ends, c.requires.end_count) in
     let few_lines : n < length c.chunks.lines = omega (arith, within, c.chunks.auto.lines, c.requires.line_count) in
     record {
@@ -47,8 +58,12 @@ chunks-preserved c =
       high = omega (arith, c.chunks-test.true);
       «end» = now_end;
       line = now_line;
-      ends = sums_set (λ m. length (joined (take m ks))) c.chunks.ends n (c.chunks.«end» + c.len-end.result) few_ends inv.ends now_end;
-      lines = sums_set (λ m. count_by is_newline (joined (take m ks))) c.chunks.lines n (c.chunks.line + c.newlines-line.result) few_lines inv.lines now_line;
-      ends_behind = drop-set-lt c.args.to c.chunks.ends n (c.chunks.«end» + c.len-end.result) c.chunks-test.true ∙ inv.ends_behind;
-      lines_behind = drop-set-lt c.args.to c.chunks.lines n (c.chunks.line + c.newlines-line.result) c.chunks-test.true ∙ inv.lines_behind;
+      ends = sums_set (λ m. length (joined (take m ks))) c.chunks.ends n
+          (c.chunks.«end» + c.len-end.result) few_ends inv.ends now_end;
+      lines = sums_set (λ m. count_by is_newline (joined (take m ks))) c.chunks.lines n
+          (c.chunks.line + c.newlines-line.result) few_lines inv.lines now_line;
+      ends_behind = drop-set-lt c.args.to c.chunks.ends n (c.chunks.«end» + c.len-end.result) c.chunks-test.true
+          ∙ inv.ends_behind;
+      lines_behind = drop-set-lt c.args.to c.chunks.lines n (c.chunks.line + c.newlines-line.result) c.chunks-test.true
+          ∙ inv.lines_behind;
     }

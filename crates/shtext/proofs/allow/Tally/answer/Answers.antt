@@ -6,8 +6,20 @@ pub returns-then-saturating_add-gt-LIMIT-clause-err : goal.returns-then-saturati
 returns-then-saturating_add-gt-LIMIT-clause-err c bytes ss told =
     let range = told.in_range.0 c.if-not-self.false in
     let rising = told.rising.0 c.if-not-self-2.false in
-    let long = edited_long bytes ss range rising in
-    (range, rising, omega (arith, long, told.text, told.last, told.made, c.saturating_sub-behind.ensures, c.saturating_add.ensures, c.if-saturating_add-gt-LIMIT.true))
+    let long = edited_long bytes ss range rising in (
+      range,
+      rising,
+      omega (
+        arith,
+        long,
+        told.text,
+        told.last,
+        told.made,
+        c.saturating_sub-behind.ensures,
+        c.saturating_add.ensures,
+        c.if-saturating_add-gt-LIMIT.true,
+      ),
+    )
 
 pub returns-clause-ok : goal.returns-clause-ok
 returns-clause-ok c bytes ss told =
@@ -17,5 +29,14 @@ returns-clause-ok c bytes ss told =
     record {
       in_range = range;
       rising = rising;
-      small = omega (arith, long, told.text, told.last, told.made, c.saturating_sub-behind.ensures, c.saturating_add.ensures, c.if-saturating_add-gt-LIMIT.false);
+      small = omega (
+        arith,
+        long,
+        told.text,
+        told.last,
+        told.made,
+        c.saturating_sub-behind.ensures,
+        c.saturating_add.ensures,
+        c.if-saturating_add-gt-LIMIT.false,
+      );
     }

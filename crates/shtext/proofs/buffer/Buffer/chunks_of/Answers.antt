@@ -9,7 +9,8 @@ returns-clause-holds c =
     let first = c.first_of-from.ensures in
     let last = c.end_of-to.ensures in
     let wide = c.end_taken.ensures in
-    let order : c.first_of-from.result ≤ c.end_of-to.result = last.order c.first_of-from.result first.within (omega (arith, first.low, c.requires.order)) in
+    let order : c.first_of-from.result ≤ c.end_of-to.result =
+    last.order c.first_of-from.result first.within (omega (arith, first.low, c.requires.order)) in
     let more = joined_mono c.end_of-to.result c.end_taken.result ks wide.high in
     record {
       order = omega (arith, order, wide.high);
@@ -26,9 +27,19 @@ returns-clause-full c =
     let more = joined_mono c.end_of-to.result c.end_taken.result ks wide.high in
     record {
       first = c.first_of-from.ensures.some;
-      full = λ low. omega (arith, more, last.high, wide.full low, c.begin.ensures, c.begin-2.ensures, c.saturating_add.ensures, c.saturating_add-len.ensures);
+      full = λ low. omega (
+        arith,
+        more,
+        last.high,
+        wide.full low,
+        c.begin.ensures,
+        c.begin-2.ensures,
+        c.saturating_add.ensures,
+        c.saturating_add-len.ensures,
+      );
     }
 
 pub returns-clause-none : goal.returns-clause-none
 returns-clause-none c = λ none.
-    none_around c.args.self.now.chunks.items c.first_of-from.result c.end_taken.result c.args.a c.args.b c.requires.order c.requires.within none
+    none_around c.args.self.now.chunks.items c.first_of-from.result c.end_taken.result c.args.a c.args.b
+    c.requires.order c.requires.within none

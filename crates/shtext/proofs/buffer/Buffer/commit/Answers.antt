@@ -14,7 +14,8 @@ new-filling-requires-clause-within c =
     let order : a ≤ b = c.requires.allowed.in_range.0 in
     let holds = c.chunks_of-from.ensures.holds in
     let empty = ap (λ v. length v.items) c.replace-seam.ensures.value ∙ c.args.self.now.no_seam in
-    let made = around_made ks from to a b order holds c.replace-seam.result.items c.copy_around.new.seam.items c.deref.result.now empty c.copy_around.ensures c.deref.ensures.value in
+    let made = around_made ks from to a b order holds c.replace-seam.result.items c.copy_around.new.seam.items
+    c.deref.result.now empty c.copy_around.ensures c.deref.ensures.value in
     let all = ap length made in
     let one = length-append (head ks from a) (tail ks to b) in
     let front = head_length ks from to a b order holds in
@@ -30,13 +31,16 @@ new-filling-requires-clause-small c =
     let order : a ≤ b = c.requires.allowed.in_range.0 in
     let holds = c.chunks_of-from.ensures.holds in
     let empty = ap (λ v. length v.items) c.replace-seam.ensures.value ∙ c.args.self.now.no_seam in
-    let made = around_made ks from to a b order holds c.replace-seam.result.items c.copy_around.new.seam.items c.deref.result.now empty c.copy_around.ensures c.deref.ensures.value in
+    let made = around_made ks from to a b order holds c.replace-seam.result.items c.copy_around.new.seam.items
+    c.deref.result.now empty c.copy_around.ensures c.deref.ensures.value in
     let new : List ℕ = c.args.change.new.items in
     let all = ap length made in
     let one = length-append (head ks from a) (tail ks to b) in
     let two = ap length c.deref-2.ensures.value in
-    let whole = ap length (around_edited ks from to a b order holds new (head ks from a ++ (new ++ tail ks to b)) refl) in
-    let five = length-append (joined (take from ks)) ((head ks from a ++ (new ++ tail ks to b)) ++ joined (drop to ks)) in
+    let whole = ap length (around_edited ks from to a b order holds new
+    (head ks from a ++ (new ++ tail ks to b)) refl) in
+    let five = length-append (joined (take from ks))
+    ((head ks from a ++ (new ++ tail ks to b)) ++ joined (drop to ks)) in
     let six = length-append (head ks from a ++ (new ++ tail ks to b)) (joined (drop to ks)) in
     let three = length-append (head ks from a) (new ++ tail ks to b) in
     let four = length-append new (tail ks to b) in
@@ -52,12 +56,15 @@ refill-requires-clause-full c =
     let order : a ≤ b = c.requires.allowed.in_range.0 in
     let holds = c.chunks_of-from.ensures.holds in
     let empty = ap (λ v. length v.items) c.replace-seam.ensures.value ∙ c.args.self.now.no_seam in
-    let made = around_made ks from to a b order holds c.replace-seam.result.items c.copy_around.new.seam.items c.deref.result.now empty c.copy_around.ensures c.deref.ensures.value in
+    let made = around_made ks from to a b order holds c.replace-seam.result.items c.copy_around.new.seam.items
+    c.deref.result.now empty c.copy_around.ensures c.deref.ensures.value in
     let new : List ℕ = c.args.change.new.items in
     let F : List ℕ = filling_bytes c.new-filling.result in
-    let is = around_is ks from to a b order holds c.deref.result.now c.deref-2.result.now new F c.begin.result made c.begin.ensures c.new-filling.ensures c.deref-2.ensures.value in
+    let is = around_is ks from to a b order holds c.deref.result.now c.deref-2.result.now new F c.begin.result made
+    c.begin.ensures c.new-filling.ensures c.deref-2.ensures.value in
     let count : c.len.result + around_count ks from to a b ≡ length F
-    = ap (λ n. n + around_count ks from to a b) (c.len.ensures ∙ c.args.change.new.ok.0) ∙ sym (around_length ks from to a b order holds new F is) in
+    = ap (λ n. n + around_count ks from to a b) (c.len.ensures ∙ c.args.change.new.ok.0)
+    ∙ sym (around_length ks from to a b order holds new F is) in
     subst (LeavesFull ks from to) count c.chunks_of-from.ensures.full
 
 pub refill-requires-clause-small : goal.refill-requires-clause-small
@@ -70,10 +77,12 @@ refill-requires-clause-small c =
     let order : a ≤ b = c.requires.allowed.in_range.0 in
     let holds = c.chunks_of-from.ensures.holds in
     let empty = ap (λ v. length v.items) c.replace-seam.ensures.value ∙ c.args.self.now.no_seam in
-    let made = around_made ks from to a b order holds c.replace-seam.result.items c.copy_around.new.seam.items c.deref.result.now empty c.copy_around.ensures c.deref.ensures.value in
+    let made = around_made ks from to a b order holds c.replace-seam.result.items c.copy_around.new.seam.items
+    c.deref.result.now empty c.copy_around.ensures c.deref.ensures.value in
     let new : List ℕ = c.args.change.new.items in
     let F : List ℕ = filling_bytes c.new-filling.result in
-    let is = around_is ks from to a b order holds c.deref.result.now c.deref-2.result.now new F c.begin.result made c.begin.ensures c.new-filling.ensures c.deref-2.ensures.value in
+    let is = around_is ks from to a b order holds c.deref.result.now c.deref-2.result.now new F c.begin.result made
+    c.begin.ensures c.new-filling.ensures c.deref-2.ensures.value in
     let all = ap length (around_edited ks from to a b order holds new F is) in
     omega (arith, all, c.requires.allowed.small)
 
@@ -87,10 +96,12 @@ refill-requires-clause-room c =
     let order : a ≤ b = c.requires.allowed.in_range.0 in
     let holds = c.chunks_of-from.ensures.holds in
     let empty = ap (λ v. length v.items) c.replace-seam.ensures.value ∙ c.args.self.now.no_seam in
-    let made = around_made ks from to a b order holds c.replace-seam.result.items c.copy_around.new.seam.items c.deref.result.now empty c.copy_around.ensures c.deref.ensures.value in
+    let made = around_made ks from to a b order holds c.replace-seam.result.items c.copy_around.new.seam.items
+    c.deref.result.now empty c.copy_around.ensures c.deref.ensures.value in
     let new : List ℕ = c.args.change.new.items in
     let F : List ℕ = filling_bytes c.new-filling.result in
-    let is = around_is ks from to a b order holds c.deref.result.now c.deref-2.result.now new F c.begin.result made c.begin.ensures c.new-filling.ensures c.deref-2.ensures.value in
+    let is = around_is ks from to a b order holds c.deref.result.now c.deref-2.result.now new F c.begin.result made
+    c.begin.ensures c.new-filling.ensures c.deref-2.ensures.value in
     let enough = around_needed ks from to a b order holds new F is c.args.self.now.each in
     let room = c.requires.room.row in
     record {
@@ -110,8 +121,10 @@ returns c =
     let order : a ≤ b = c.requires.allowed.in_range.0 in
     let holds = c.chunks_of-from.ensures.holds in
     let empty = ap (λ v. length v.items) c.replace-seam.ensures.value ∙ c.args.self.now.no_seam in
-    let made = around_made ks from to a b order holds c.replace-seam.result.items c.copy_around.new.seam.items c.deref.result.now empty c.copy_around.ensures c.deref.ensures.value in
+    let made = around_made ks from to a b order holds c.replace-seam.result.items c.copy_around.new.seam.items
+    c.deref.result.now empty c.copy_around.ensures c.deref.ensures.value in
     let new : List ℕ = c.args.change.new.items in
     let F : List ℕ = filling_bytes c.new-filling.result in
-    let is = around_is ks from to a b order holds c.deref.result.now c.deref-2.result.now new F c.begin.result made c.begin.ensures c.new-filling.ensures c.deref-2.ensures.value in
+    let is = around_is ks from to a b order holds c.deref.result.now c.deref-2.result.now new F c.begin.result made
+    c.begin.ensures c.new-filling.ensures c.deref-2.ensures.value in
     c.refill.ensures ∙ around_edited ks from to a b order holds new F is

@@ -16,5 +16,6 @@ returns-then-a-len-clause-near c =
 pub returns-else-a-len-clause-near : goal.returns-else-a-len-clause-near
 returns-else-a-len-clause-near c =
     let ks : Row (List ℕ) = c.args.self.now.chunks.items in
-    let more = last_few 1 ks c.saturating_sub.result c.args.self.now.each (omega (arith, c.saturating_sub.ensures, c.len-else-a-len.ensures, c.args.self.now.chunks.ok.0)) in
+    let more = last_few 1 ks c.saturating_sub.result c.args.self.now.each
+    (omega (arith, c.saturating_sub.ensures, c.len-else-a-len.ensures, c.args.self.now.chunks.ok.0)) in
     omega (arith, more, c.requires)

@@ -20,10 +20,14 @@ pub add_up_anew-requires-clause-lines : goal.add_up_anew-requires-clause-lines
 add_up_anew-requires-clause-lines c = sums_none lines_of refl c.deref.result.now c.in_ok-lines.lines.items
 
 pub add_up_anew-requires-clause-ends_on : goal.add_up_anew-requires-clause-ends_on
-add_up_anew-requires-clause-ends_on c = sums_on_none ends_of c.deref.result.now 0 c.in_ok-ends.ends.items (0 + c.len-3.result) (omega (arith, c.len-3.ensures))
+add_up_anew-requires-clause-ends_on c =
+    sums_on_none ends_of c.deref.result.now 0 c.in_ok-ends.ends.items (0 + c.len-3.result)
+    (omega (arith, c.len-3.ensures))
 
 pub add_up_anew-requires-clause-lines_on : goal.add_up_anew-requires-clause-lines_on
-add_up_anew-requires-clause-lines_on c = sums_on_none lines_of c.deref.result.now 0 c.in_ok-lines.lines.items (0 + c.len-3.result) (omega (arith, c.len-3.ensures))
+add_up_anew-requires-clause-lines_on c =
+    sums_on_none lines_of c.deref.result.now 0 c.in_ok-lines.lines.items (0 + c.len-3.result)
+    (omega (arith, c.len-3.ensures))
 
 pub invariant_of-result : goal.invariant_of-result
 invariant_of-result c =
@@ -37,7 +41,9 @@ invariant_of-result c =
       small = omega (arith, small, ap length c.in_ok-chunks.ensures.bytes);
       end_count = omega (arith, count, c.add_up_anew.ensures.end_count);
       line_count = omega (arith, count, c.add_up_anew.ensures.line_count);
-      all_ends = subst (λ (ks : Row (List ℕ)). HasSums ends_of ks (length ks) c.add_up_anew.new.ends.items) value c.add_up_anew.ensures.ends;
+      all_ends = subst (λ (ks : Row (List ℕ)). HasSums ends_of ks (length ks) c.add_up_anew.new.ends.items) value
+          c.add_up_anew.ensures.ends;
       no_seam = ap length c.in_ok-seam.ensures.items;
-      all_lines = subst (λ (ks : Row (List ℕ)). HasSums lines_of ks (length ks) c.add_up_anew.new.lines.items) value c.add_up_anew.ensures.lines;
+      all_lines = subst (λ (ks : Row (List ℕ)). HasSums lines_of ks (length ks) c.add_up_anew.new.lines.items) value
+          c.add_up_anew.ensures.lines;
     }

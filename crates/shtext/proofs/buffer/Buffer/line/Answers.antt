@@ -25,9 +25,11 @@ returns c =
     let long = length-append X k in
     let within : o ≤ length k = omega (arith, more, long, c.find-index.ensures.high, c.begin-begin.ensures) in
     let there : length X + o ≡ c.args.at = omega (arith, c.begin-begin.ensures, c.find-index.ensures.low) in
-    let line = lines_before (joined ks) X k (joined (drop (i + 1) ks)) o (joined_around i ks k c.find-index.ensures.within c.index-chunk.ensures) within in
+    let line = lines_before (joined ks) X k (joined (drop (i + 1) ks)) o
+    (joined_around i ks k c.find-index.ensures.within c.index-chunk.ensures) within in
     let here = ap (line_of (joined ks)) there in
     let count = c.newlines_in-before.ensures ∙ ap (count_by is_newline) c.bytes_to.ensures in
-    let sum : c.sum_before-2.result ≡ count_by is_newline X = c.sum_before-2.ensures ∙ ap (λ l. before l i) c.deref-2.ensures.value
+    let sum : c.sum_before-2.result ≡ count_by is_newline X = c.sum_before-2.ensures
+    ∙ ap (λ l. before l i) c.deref-2.ensures.value
     ∙ c.args.self.now.all_lines i (omega (arith, c.find-index.ensures.within)) in
     omega (arith, line, here, count, sum)

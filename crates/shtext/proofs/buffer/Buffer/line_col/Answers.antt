@@ -11,4 +11,5 @@ overflow_sub-result c =
 pub returns-in-Some-clause-column : goal.returns-in-Some-clause-column
 returns-in-Some-clause-column c =
     let is = c.in-Some.ensures in
-    column_at (joined c.args.self.now.chunks.items) c.in-Some.start c.args.at c.requires is.2 (is.1 ∙ c.line-line.ensures) (overflow_sub-result c)
+    column_at (joined c.args.self.now.chunks.items) c.in-Some.start c.args.at c.requires is.2
+    (is.1 ∙ c.line-line.ensures) (overflow_sub-result c)

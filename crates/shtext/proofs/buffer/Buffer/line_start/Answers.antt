@@ -8,7 +8,11 @@ use Rattle.shtext.proofs.Summing.{lines_append}
 use Rattle.shtext.proofs.buffer.Buffer.line_start.Goals as goal
 
 pub returns-else-n-eq0 : goal.returns-else-n-eq0
-returns-else-n-eq0 c = (omega arith, omega (arith, c.if-n-lt2.true, c.if-n-eq0.false), ap (λ m. 1 + m) (since_start (joined c.args.self.now.chunks.items)))
+returns-else-n-eq0 c = (
+  omega arith,
+  omega (arith, c.if-n-lt2.true, c.if-n-eq0.false),
+  ap (λ m. 1 + m) (since_start (joined c.args.self.now.chunks.items)),
+)
 
 pub behind_newline-behind-requires : goal.behind_newline-behind-requires
 behind_newline-behind-requires c =
@@ -16,13 +20,18 @@ behind_newline-behind-requires c =
     let i : ℕ = c.place_of-index.result in
     let k : List ℕ = c.index-chunk.result.now in
     let X : List ℕ = joined (take i ks) in
-    let within : i < length ks = omega (arith, c.place_of-index.ensures.within, ap length c.deref-2.ensures.value, c.args.self.now.line_count) in
+    let within : i < length ks = omega
+    (arith, c.place_of-index.ensures.within, ap length c.deref-2.ensures.value, c.args.self.now.line_count) in
     let more = ap (count_by is_newline) (joined_more i ks k within c.index-chunk.ensures) in
     let long = lines_append X k in
-    let low : c.sum_before-2.result ≡ count_by is_newline X = c.sum_before-2.ensures ∙ ap (λ l. before l i) c.deref-3.ensures.value ∙ c.args.self.now.all_lines i (omega (arith, within)) in
-    let high : before c.deref-2.result.now (i + 1) ≡ count_by is_newline (joined (take (i + 1) ks)) = ap (λ l. before l (i + 1)) c.deref-2.ensures.value ∙ c.args.self.now.all_lines (i + 1) (omega (arith, within)) in
+    let low : c.sum_before-2.result ≡ count_by is_newline X = c.sum_before-2.ensures
+    ∙ ap (λ l. before l i) c.deref-3.ensures.value ∙ c.args.self.now.all_lines i (omega (arith, within)) in
+    let high : before c.deref-2.result.now (i + 1) ≡ count_by is_newline (joined (take (i + 1) ks)) =
+    ap (λ l. before l (i + 1)) c.deref-2.ensures.value
+    ∙ c.args.self.now.all_lines (i + 1) (omega (arith, within)) in
     let same = ap (count_by is_newline) c.bytes-bytes.ensures.bytes in
-    let less : before c.deref-2.result.now i ≡ count_by is_newline X = ap (λ l. before l i) c.deref-2.ensures.value ∙ c.args.self.now.all_lines i (omega (arith, within)) in
+    let less : before c.deref-2.result.now i ≡ count_by is_newline X = ap (λ l. before l i) c.deref-2.ensures.value
+    ∙ c.args.self.now.all_lines i (omega (arith, within)) in
     omega (arith, more, long, low, high, same, less, c.place_of-index.ensures.low, c.place_of-index.ensures.high)
 
 pub overflow_add-result : goal.overflow_add-result
@@ -43,14 +52,21 @@ returns c =
     let X : List ℕ = joined (take i ks) in
     let o : ℕ = c.behind_newline-behind.result in
     let n : ℕ = c.args.n in
-    let within : i < length ks = omega (arith, c.place_of-index.ensures.within, ap length c.deref-2.ensures.value, c.args.self.now.line_count) in
-    let low : c.sum_before-2.result ≡ count_by is_newline X = c.sum_before-2.ensures ∙ ap (λ l. before l i) c.deref-3.ensures.value ∙ c.args.self.now.all_lines i (omega (arith, within)) in
-    let less : before c.deref-2.result.now i ≡ count_by is_newline X = ap (λ l. before l i) c.deref-2.ensures.value ∙ c.args.self.now.all_lines i (omega (arith, within)) in
+    let within : i < length ks = omega
+    (arith, c.place_of-index.ensures.within, ap length c.deref-2.ensures.value, c.args.self.now.line_count) in
+    let low : c.sum_before-2.result ≡ count_by is_newline X = c.sum_before-2.ensures
+    ∙ ap (λ l. before l i) c.deref-3.ensures.value ∙ c.args.self.now.all_lines i (omega (arith, within)) in
+    let less : before c.deref-2.result.now i ≡ count_by is_newline X = ap (λ l. before l i) c.deref-2.ensures.value
+    ∙ c.args.self.now.all_lines i (omega (arith, within)) in
     let is = c.bytes-bytes.ensures.bytes in
     let same = ap length is in
-    let newline = ap (λ (l : List ℕ). is_newline (get_or l (o - 1) 0)) (sym is) ∙ c.behind_newline-behind.ensures.newline in
-    let passed : count_by is_newline (take o k) ≡ n - 2 - c.sum_before-2.result + 1 = ap (λ (l : List ℕ). count_by is_newline (take o l)) (sym is) ∙ c.behind_newline-behind.ensures.count in
+    let newline = ap (λ (l : List ℕ). is_newline (get_or l (o - 1) 0)) (sym is)
+    ∙ c.behind_newline-behind.ensures.newline in
+    let passed : count_by is_newline (take o k) ≡ n - 2 - c.sum_before-2.result + 1 =
+    ap (λ (l : List ℕ). count_by is_newline (take o l)) (sym is) ∙ c.behind_newline-behind.ensures.count in
     let begin : length X + o ≡ c.begin.result + o = omega (arith, c.begin.ensures) in
     subst (λ at. IsLineStart (joined ks) n (Some at)) begin
-    (start_behind (joined ks) X k (joined (drop (i + 1) ks)) o n (joined_around i ks k within c.index-chunk.ensures) c.behind_newline-behind.ensures.some
-    (omega (arith, same, c.behind_newline-behind.ensures.within)) newline (omega (arith, passed, low, less, c.place_of-index.ensures.low, c.if-n-lt2.false)))
+    (start_behind (joined ks) X k (joined (drop (i + 1) ks)) o n
+    (joined_around i ks k within c.index-chunk.ensures) c.behind_newline-behind.ensures.some
+    (omega (arith, same, c.behind_newline-behind.ensures.within)) newline
+    (omega (arith, passed, low, less, c.place_of-index.ensures.low, c.if-n-lt2.false)))

@@ -23,6 +23,8 @@ returns-clause-run c =
     let more = ap length (joined_more i ks k c.find-index.ensures.within c.index-chunk.ensures) in
     let long = length-append X k in
     let high : c.args.at < length X + length k = omega (arith, more, long, c.find-index.ensures.high) in
-    let run : c.bytes_from.result.now ≡ drop (c.args.at - length X) k = c.bytes_from.ensures.bytes ∙ ap (λ m. drop (c.args.at - m) k) c.begin-begin.ensures in
+    let run : c.bytes_from.result.now ≡ drop (c.args.at - length X) k = c.bytes_from.ensures.bytes
+    ∙ ap (λ m. drop (c.args.at - m) k) c.begin-begin.ensures in
     subst (IsRun (joined ks) c.args.at) (sym run)
-    (run_within (joined ks) X k (joined (drop (i + 1) ks)) c.args.at (joined_around i ks k c.find-index.ensures.within c.index-chunk.ensures) c.find-index.ensures.low high)
+    (run_within (joined ks) X k (joined (drop (i + 1) ks)) c.args.at
+    (joined_around i ks k c.find-index.ensures.within c.index-chunk.ensures) c.find-index.ensures.low high)

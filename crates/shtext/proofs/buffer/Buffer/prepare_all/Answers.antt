@@ -35,7 +35,8 @@ push_with-requires-clause-in_range c =
     let some : 0 < length ss = some_is c.args.splices.now c.requires in
     let first : c.first_begin-start.result ≡ first_begin ss = c.first_begin-start.ensures in
     let last : c.last_end-end.result ≡ last_end ss = c.last_end-end.ensures ∙ c.tally_of-tally.ensures.last in
-    let range = in_old bytes ss some is.in_range is.rising c.first_begin-start.result c.last_end-end.result first last c.in_ok-old.old.items c.in_ok-old.ensures in
+    let range = in_old bytes ss some is.in_range is.rising c.first_begin-start.result c.last_end-end.result first last
+    c.in_ok-old.old.items c.in_ok-old.ensures in
     rw (c.deref.ensures.value) range
 
 pub push_with-requires-clause-rising : goal.push_with-requires-clause-rising
@@ -46,7 +47,8 @@ push_with-requires-clause-rising c =
     let some : 0 < length ss = some_is c.args.splices.now c.requires in
     let first : c.first_begin-start.result ≡ first_begin ss = c.first_begin-start.ensures in
     let last : c.last_end-end.result ≡ last_end ss = c.last_end-end.ensures ∙ c.tally_of-tally.ensures.last in
-    rise_start bytes ss some is.in_range is.rising c.first_begin-start.result c.last_end-end.result first last c.in_ok-old.old.items c.in_ok-old.ensures
+    rise_start bytes ss some is.in_range is.rising c.first_begin-start.result c.last_end-end.result first last
+    c.in_ok-old.old.items c.in_ok-old.ensures
 
 pub overflow_sub-end : goal.overflow_sub-end
 overflow_sub-end c =
@@ -79,7 +81,8 @@ returns-clause-fits c =
     let text = text_is bytes ss some is.in_range is.rising start end first last old c.in_ok-old.ensures new made in
     let same = c.in_ok-make_room.ensures.bytes in
     let count : c.chunks_for.result ≡ needed (length new - (end - start)) =
-    c.chunks_for.ensures ∙ ap needed (c.saturating_sub-2.ensures ∙ ap (λ n. n - (end - start)) (c.len.ensures ∙ c.push_with.new.into.ok.0)) in
+    c.chunks_for.ensures ∙ ap needed
+    (c.saturating_sub-2.ensures ∙ ap (λ n. n - (end - start)) (c.len.ensures ∙ c.push_with.new.into.ok.0)) in
     record {
       allowed = record {
         in_range = (omega (arith, first, last, rise), omega (arith, last, within, ap length same), tt);

@@ -17,14 +17,20 @@ add_up_anew-requires-clause-small g c =
 pub add_up_anew-requires-clause-ends_on : goal.add_up_anew-requires-clause-ends_on
 add_up_anew-requires-clause-ends_on g c =
     let ok = c.args.self.now.chunks.ok in
-    sums_stay ends_of length-append c.args.self.now.chunks.items c.fill_anew.new.chunks.items c.deref.result.now c.args.from c.args.to c.chunks_for-count.result (g.S.Source.bytes c.args.source.now)
-    c.args.self.now.ends.items c.fill_anew.ensures c.requires.order (omega (arith, c.requires.within, ok.0)) c.args.self.now.all_ends c.deref.ensures.value (c.chunks_for-count.ensures ∙ ap needed c.len.ensures)
+    sums_stay ends_of length-append c.args.self.now.chunks.items c.fill_anew.new.chunks.items c.deref.result.now
+    c.args.from c.args.to c.chunks_for-count.result (g.S.Source.bytes c.args.source.now)
+    c.args.self.now.ends.items c.fill_anew.ensures c.requires.order
+    (omega (arith, c.requires.within, ok.0)) c.args.self.now.all_ends c.deref.ensures.value
+    (c.chunks_for-count.ensures ∙ ap needed c.len.ensures)
 
 pub add_up_anew-requires-clause-lines_on : goal.add_up_anew-requires-clause-lines_on
 add_up_anew-requires-clause-lines_on g c =
     let ok = c.args.self.now.chunks.ok in
-    sums_stay lines_of lines_append c.args.self.now.chunks.items c.fill_anew.new.chunks.items c.deref.result.now c.args.from c.args.to c.chunks_for-count.result (g.S.Source.bytes c.args.source.now)
-    c.args.self.now.lines.items c.fill_anew.ensures c.requires.order (omega (arith, c.requires.within, ok.0)) c.args.self.now.all_lines c.deref.ensures.value (c.chunks_for-count.ensures ∙ ap needed c.len.ensures)
+    sums_stay lines_of lines_append c.args.self.now.chunks.items c.fill_anew.new.chunks.items c.deref.result.now
+    c.args.from c.args.to c.chunks_for-count.result (g.S.Source.bytes c.args.source.now)
+    c.args.self.now.lines.items c.fill_anew.ensures c.requires.order
+    (omega (arith, c.requires.within, ok.0)) c.args.self.now.all_lines c.deref.ensures.value
+    (c.chunks_for-count.ensures ∙ ap needed c.len.ensures)
 
 pub invariant_of-self : goal.invariant_of-self
 invariant_of-self g c =
@@ -40,14 +46,18 @@ invariant_of-self g c =
     let ok_lines = c.add_up_anew.new.lines.ok in
     record {
       each = refilled_each ks js c.args.from c.args.to bytes is c.args.self.now.each;
-      full = refilled_full ks js c.args.from c.args.to bytes is c.requires.order within c.requires.full c.args.self.now.full;
+      full = refilled_full ks js c.args.from c.args.to bytes is c.requires.order within c.requires.full
+          c.args.self.now.full;
       small = omega (arith, all, c.requires.small);
       end_count = omega (arith, count, ok_ends.0, c.add_up_anew.ensures.end_count);
       line_count = omega (arith, count, ok_lines.0, c.add_up_anew.ensures.line_count);
-      all_ends = subst (λ (l : Row (List ℕ)). HasSums ends_of l (length l) c.add_up_anew.new.ends.items) value c.add_up_anew.ensures.ends;
+      all_ends = subst (λ (l : Row (List ℕ)). HasSums ends_of l (length l) c.add_up_anew.new.ends.items) value
+          c.add_up_anew.ensures.ends;
       no_seam = c.args.self.now.no_seam;
-      all_lines = subst (λ (l : Row (List ℕ)). HasSums lines_of l (length l) c.add_up_anew.new.lines.items) value c.add_up_anew.ensures.lines;
+      all_lines = subst (λ (l : Row (List ℕ)). HasSums lines_of l (length l) c.add_up_anew.new.lines.items) value
+          c.add_up_anew.ensures.lines;
     }
 
 pub returns : goal.returns
-returns g c = refilled_bytes c.args.self.now.chunks.items c.fill_anew.new.chunks.items c.args.from c.args.to (g.S.Source.bytes c.args.source.now) c.fill_anew.ensures
+returns g c = refilled_bytes c.args.self.now.chunks.items c.fill_anew.new.chunks.items c.args.from c.args.to
+    (g.S.Source.bytes c.args.source.now) c.fill_anew.ensures

@@ -4,7 +4,8 @@ use Rattle.shtext.proofs.device.Output.write_whole.Given as goal
 
 abbrev pub invariant-loop-at : goal.invariant-loop-at
 invariant-loop-at g l =
-    (l.at ≤ length l.piece) × Appends (g.W.Write.contents l.fn.self.writer) (g.W.Write.contents l.self.writer) (take l.at l.piece)
+    (l.at ≤ length l.piece) × Appends (g.W.Write.contents l.fn.self.writer) (g.W.Write.contents l.self.writer)
+    (take l.at l.piece)
     × (l.self.failed ≡ l.fn.self.failed)
 
 abbrev pub decreases-loop-at : goal.decreases-loop-at
