@@ -19,23 +19,27 @@ module _ {A : Type 0} (p : A → Bool) where
   any_from (x ∷ xs) (suc i) = any_from xs i
 
   module _ {X : Type 0} (v : X → A) where
-    all_suc : (xs : Row X) (i : ℕ) (d : X) → i < length xs → all_from (map v xs) i ≡ (p (v (get_or xs i d)) && all_from (map v xs) (suc i))
+    all_suc : (xs : Row X) (i : ℕ) (d : X) → i < length xs →
+        all_from (map v xs) i ≡ (p (v (get_or xs i d)) && all_from (map v xs) (suc i))
     unfolding all_from
     all_suc [] i d h = absurd (omega arith)
     all_suc (x ∷ xs) zero d h = refl
     all_suc (x ∷ xs) (suc i) d h = all_suc xs i d (omega arith)
 
-    any_suc : (xs : Row X) (i : ℕ) (d : X) → i < length xs → any_from (map v xs) i ≡ (p (v (get_or xs i d)) || any_from (map v xs) (suc i))
+    any_suc : (xs : Row X) (i : ℕ) (d : X) → i < length xs →
+        any_from (map v xs) i ≡ (p (v (get_or xs i d)) || any_from (map v xs) (suc i))
     unfolding any_from
     any_suc [] i d h = absurd (omega arith)
     any_suc (x ∷ xs) zero d h = refl
     any_suc (x ∷ xs) (suc i) d h = any_suc xs i d (omega arith)
 
     -- one node more
-    pub all_more : (xs : Row X) (i : ℕ) (d : X) → i < length xs → all_from (map v xs) i ≡ (p (v (get_or xs i d)) && all_from (map v xs) (i + 1))
+    pub all_more : (xs : Row X) (i : ℕ) (d : X) → i < length xs →
+        all_from (map v xs) i ≡ (p (v (get_or xs i d)) && all_from (map v xs) (i + 1))
     all_more xs i d h = rw add-one (all_suc xs i d h)
 
-    pub any_more : (xs : Row X) (i : ℕ) (d : X) → i < length xs → any_from (map v xs) i ≡ (p (v (get_or xs i d)) || any_from (map v xs) (i + 1))
+    pub any_more : (xs : Row X) (i : ℕ) (d : X) → i < length xs →
+        any_from (map v xs) i ≡ (p (v (get_or xs i d)) || any_from (map v xs) (i + 1))
     any_more xs i d h = rw add-one (any_suc xs i d h)
 
     -- past the last node nothing is left

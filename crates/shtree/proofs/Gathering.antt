@@ -14,20 +14,24 @@ unfolding gathered
 gathered_none wanted ns = append-nil ns
 
 -- one part and then another
-pub gathered_append : (wanted : NodeLine → Bool) (so_far ms ns : Row NodeLine) → gathered wanted (gathered wanted so_far ms) ns ≡ gathered wanted so_far (ms ++ ns)
+pub gathered_append : (wanted : NodeLine → Bool) (so_far ms ns : Row NodeLine) →
+    gathered wanted (gathered wanted so_far ms) ns ≡ gathered wanted so_far (ms ++ ns)
 unfolding gathered
 gathered_append wanted so_far ms ns = rw (filter-append wanted ms ns, append_assoc) refl
 
 -- a node and then what it holds
-pub gathered_cons : (wanted : NodeLine → Bool) (so_far ns : Row NodeLine) (n : NodeLine) → gathered wanted (gathered wanted so_far (n ∷ [])) ns ≡ gathered wanted so_far (n ∷ ns)
+pub gathered_cons : (wanted : NodeLine → Bool) (so_far ns : Row NodeLine) (n : NodeLine) →
+    gathered wanted (gathered wanted so_far (n ∷ [])) ns ≡ gathered wanted so_far (n ∷ ns)
 gathered_cons wanted so_far ns n = gathered_append wanted so_far (n ∷ []) ns
 
 -- one node
-pub gathered_wanted : (wanted : NodeLine → Bool) (so_far : Row NodeLine) (n : NodeLine) → wanted n ≡ true → gathered wanted so_far (n ∷ []) ≡ so_far ++ n ∷ []
+pub gathered_wanted : (wanted : NodeLine → Bool) (so_far : Row NodeLine) (n : NodeLine) → wanted n ≡ true →
+    gathered wanted so_far (n ∷ []) ≡ so_far ++ n ∷ []
 unfolding gathered
 gathered_wanted wanted so_far n is = rw is refl
 
-pub gathered_unwanted : (wanted : NodeLine → Bool) (so_far : Row NodeLine) (n : NodeLine) → wanted n ≡ false → gathered wanted so_far (n ∷ []) ≡ so_far
+pub gathered_unwanted : (wanted : NodeLine → Bool) (so_far : Row NodeLine) (n : NodeLine) → wanted n ≡ false →
+    gathered wanted so_far (n ∷ []) ≡ so_far
 unfolding gathered
 gathered_unwanted wanted so_far n is_not = rw is_not (append-nil so_far)
 
@@ -53,14 +57,16 @@ module _ {A : Type 0} (f : A → Row NodeLine) where
   nodes_from (x ∷ xs) (suc i) = nodes_from xs i
 
   module _ {X : Type 0} (v : X → A) where
-    from_suc : (xs : Row X) (i : ℕ) (d : X) → i < length xs → nodes_from (map v xs) i ≡ f (v (get_or xs i d)) ++ nodes_from (map v xs) (suc i)
+    from_suc : (xs : Row X) (i : ℕ) (d : X) → i < length xs →
+        nodes_from (map v xs) i ≡ f (v (get_or xs i d)) ++ nodes_from (map v xs) (suc i)
     unfolding nodes_from
     from_suc [] i d h = absurd (omega arith)
     from_suc (x ∷ xs) zero d h = refl
     from_suc (x ∷ xs) (suc i) d h = from_suc xs i d (omega arith)
 
     -- one part more
-    pub from_more : (xs : Row X) (i : ℕ) (d : X) → i < length xs → nodes_from (map v xs) i ≡ f (v (get_or xs i d)) ++ nodes_from (map v xs) (i + 1)
+    pub from_more : (xs : Row X) (i : ℕ) (d : X) → i < length xs →
+        nodes_from (map v xs) i ≡ f (v (get_or xs i d)) ++ nodes_from (map v xs) (i + 1)
     from_more xs i d h = rw add-one (from_suc xs i d h)
 
     -- past the last part nothing is left

@@ -50,7 +50,8 @@ neither false true h = absurd (cc)
 neither false false h = (refl, refl)
 
 both_tied : (x m n : NodeLine) → tied x m ≡ true → tied x n ≡ true → before m n ≡ false
-both_tied x m n h k = before_is_order.chain m x n (neither (before x m) (before m x) h).1 (neither (before x n) (before n x) k).0
+both_tied x m n h k = before_is_order.chain m x n (neither (before x m) (before m x) h).1
+    (neither (before x n) (before n x) k).0
 
 -- ---- nodes in order, by recursion
 
@@ -63,14 +64,18 @@ abbrev Up : Row NodeLine → Type 0
 Up [] = Unit {0}
 Up (n ∷ ns) = Above n ns × Up ns
 
-above_of : (n : NodeLine) (ms : Row NodeLine) → ((k : ℕ) → k < length ms → before (get_or ms k n) n ≡ false) → Above n ms
+above_of : (n : NodeLine) (ms : Row NodeLine) → ((k : ℕ) → k < length ms → before (get_or ms k n) n ≡ false) →
+    Above n ms
 above_of n [] h = tt
 above_of n (m ∷ ms) h = (h 0 (omega arith), above_of n ms (λ k p. h (suc k) (omega arith)))
 
-up_of : (ns : Row NodeLine) → ((i j : ℕ) (d : NodeLine) → i ≤ j → j < length ns → before (get_or ns j d) (get_or ns i d) ≡ false) → Up ns
+up_of : (ns : Row NodeLine) → ((i j : ℕ) (d : NodeLine) → i ≤ j → j < length ns →
+    before (get_or ns j d) (get_or ns i d) ≡ false) → Up ns
 up_of [] h = tt
-up_of (n ∷ ns) h =
-    (above_of n ns (λ k p. h 0 (suc k) n (omega arith) (omega arith)), up_of ns (λ i j d p q. h (suc i) (suc j) d (omega arith) (omega arith)))
+up_of (n ∷ ns) h = (
+  above_of n ns (λ k p. h 0 (suc k) n (omega arith) (omega arith)),
+  up_of ns (λ i j d p q. h (suc i) (suc j) d (omega arith) (omega arith)),
+)
 
 up_sorted : (ns : Row NodeLine) → IsSortedBy before ns → Up ns
 up_sorted ns h = up_of ns (λ i j d p q. sorted_far before before_is_order ns h i j d p q)
@@ -87,7 +92,8 @@ above_chain : (n m : NodeLine) (ms : Row NodeLine) → before m n ≡ false → 
 above_chain n m [] h a = tt
 above_chain n m (x ∷ xs) h a = (before_is_order.chain x m n a.0 h, above_chain n m xs h a.1)
 
-up_case : (n m : NodeLine) (ms : Row NodeLine) (b : Bool) → before m n ≡ b → Up (m ∷ ms) → Up (inserted n ms) → Up (cond b (m ∷ inserted n ms) (n ∷ m ∷ ms))
+up_case : (n m : NodeLine) (ms : Row NodeLine) (b : Bool) → before m n ≡ b → Up (m ∷ ms) → Up (inserted n ms) →
+    Up (cond b (m ∷ inserted n ms) (n ∷ m ∷ ms))
 up_case n m ms true e u v = (above_inserted m n ms (before_is_order.one_way m n e) u.0, v)
 up_case n m ms false e u v = ((e, above_chain n m ms e u.0), u)
 
@@ -124,10 +130,12 @@ two_tests true false m n ns h = refl
 two_tests false true m n ns h = refl
 two_tests false false m n ns h = refl
 
-tied_case : (x n m : NodeLine) (ms : Row NodeLine) (b : Bool) → before m n ≡ b → filter (tied x) (inserted n ms) ≡ filter (tied x) (n ∷ ms)
+tied_case : (x n m : NodeLine) (ms : Row NodeLine) (b : Bool) → before m n ≡ b →
+    filter (tied x) (inserted n ms) ≡ filter (tied x) (n ∷ ms)
     → filter (tied x) (cond b (m ∷ inserted n ms) (n ∷ m ∷ ms)) ≡ filter (tied x) (n ∷ m ∷ ms)
 tied_case x n m ms true e h =
-    let apart : tied x m ≡ true → tied x n ≡ true → ⊥ = λ p q. let no : before m n ≡ false = both_tied x m n p q in cc in
+    let apart : tied x m ≡ true → tied x n ≡ true → ⊥ = λ p q. let no : before m n ≡ false = both_tied x m n p q in
+    cc in
     ap (λ r. cond (tied x m) (m ∷ r) r) h ∙ two_tests (tied x m) (tied x n) m n (filter (tied x) ms) apart
 tied_case x n m ms false e h = refl
 
@@ -141,7 +149,8 @@ tied_in_order x (n ∷ ns) = tied_inserted x n (in_order ns) ∙ ap (λ r. cond 
 
 -- ---- one order
 
-found_above : (p : NodeLine → Bool) (n m : NodeLine) (ms rest : Row NodeLine) → Above n ms → filter p ms ≡ m ∷ rest → before m n ≡ false
+found_above : (p : NodeLine → Bool) (n m : NodeLine) (ms rest : Row NodeLine) → Above n ms → filter p ms ≡ m ∷ rest →
+    before m n ≡ false
 found_above p n m [] rest a e = absurd (cc)
 found_above p n m (x ∷ xs) rest a e =
     elim (p x) as (λ b. cond b (x ∷ filter p xs) (filter p xs) ≡ m ∷ rest → before m n ≡ false) [
@@ -170,7 +179,8 @@ first_tied false m n ms ns e u v h k =
     let b : before n m ≡ false = found_above (tied n) m n ms (filter (tied n) ns) u front in
     rw (a, b) refl
 
-pub one_order : (ms ns : Row NodeLine) → Up ms → Up ns → ((x : NodeLine) → filter (tied x) ms ≡ filter (tied x) ns) → ms ≡ ns
+pub one_order : (ms ns : Row NodeLine) → Up ms → Up ns → ((x : NodeLine) → filter (tied x) ms ≡ filter (tied x) ns) →
+    ms ≡ ns
 one_order [] [] u v h = refl
 one_order [] (n ∷ ns) u v h =
     let e : [] ≡ n ∷ filter (tied n) ns = rw tied_self at (h n) in
@@ -179,10 +189,12 @@ one_order (m ∷ ms) [] u v h =
     let e : m ∷ filter (tied m) ms ≡ [] = rw tied_self at (h m) in
     absurd (cc)
 one_order (m ∷ ms) (n ∷ ns) u v h =
-    let t : tied m n ≡ true = first_tied (tied m n) m n ms ns refl u.0 v.0 (rw tied_self at (h m)) (rw tied_self at (h n)) in
+    let t : tied m n ≡ true = first_tied (tied m n) m n ms ns refl u.0 v.0 (rw tied_self at (h m))
+    (rw tied_self at (h n)) in
     let fronts : m ∷ filter (tied m) ms ≡ n ∷ filter (tied m) ns = rw (tied_self m, t) at (h m) in
     let same : m ≡ n = cc in
-    let rest : ms ≡ ns = one_order ms ns u.1 v.1 (λ x. without (tied x m) m (filter (tied x) ms) (filter (tied x) ns) (rw (← same) at (h x))) in
+    let rest : ms ≡ ns = one_order ms ns u.1 v.1
+    (λ x. without (tied x m) m (filter (tied x) ms) (filter (tied x) ns) (rw (← same) at (h x))) in
     cc
 
 -- what a stable sort gives
@@ -190,13 +202,16 @@ pub in_order_is : (ms ns : Row NodeLine) → IsSortedBy before ns → IsStableBy
 in_order_is ms ns sorted stable =
     one_order ns (in_order ms) (up_sorted ns sorted) (up_in_order ms) (λ x. stable x ∙ sym (tied_in_order x ms))
 
-pub in_order_from_sort_by : {F : Type 0} {g : Mut F (Bor NodeLine × (Bor NodeLine × Unit {0})) Ordering} {f : F} (ms ns : Row NodeLine)
+pub in_order_from_sort_by : {F : Type 0} {g : Mut F (Bor NodeLine × (Bor NodeLine × Unit {0})) Ordering} {f : F}
+    (ms ns : Row NodeLine)
     → ((lt : NodeLine → NodeLine → Bool) → IsStrictWeakOrder lt → ComparesAs g lt f → IsSortedBy lt ns)
     → ((lt : NodeLine → NodeLine → Bool) → IsStrictWeakOrder lt → ComparesAs g lt f → IsStableBy lt ms ns)
-    → ((f : F) (a : Bor NodeLine × (Bor NodeLine × Unit {0})) (r : Ordering) (f' : F) → Called g f a r f' → r ≡ by_place a.0.now a.1.0.now)
+    → ((f : F) (a : Bor NodeLine × (Bor NodeLine × Unit {0})) (r : Ordering) (f' : F) → Called g f a r f' →
+    r ≡ by_place a.0.now a.1.0.now)
     → ns ≡ in_order ms
 in_order_from_sort_by {g = g} {f = f} ms ns sorted stable answers =
-    let compares : ComparesAs g before f = answers_always g (λ a r. is_lt r ≡ before a.0.now a.1.0.now) f (λ q a r q' k. ap is_lt (answers q a r q' k)) in
+    let compares : ComparesAs g before f =
+    answers_always g (λ a r. is_lt r ≡ before a.0.now a.1.0.now) f (λ q a r q' k. ap is_lt (answers q a r q' k)) in
     in_order_is ms ns (sorted before before_is_order compares) (stable before before_is_order compares)
 
 -- ---- the order, of nodes that pass a test and of nodes that move
@@ -214,5 +229,7 @@ tests_commute p q (n ∷ ns) = tests_case (p n) (q n) refl refl (tests_commute p
 
 pub filter-in_order : (p : NodeLine → Bool) (ns : Row NodeLine) → filter p (in_order ns) ≡ in_order (filter p ns)
 filter-in_order p ns =
-    one_order (filter p (in_order ns)) (in_order (filter p ns)) (up_filter p (in_order ns) (up_in_order ns)) (up_in_order (filter p ns))
-    (λ x. tests_commute (tied x) p (in_order ns) ∙ ap (filter p) (tied_in_order x ns) ∙ tests_commute p (tied x) ns ∙ sym (tied_in_order x (filter p ns)))
+    one_order (filter p (in_order ns)) (in_order (filter p ns)) (up_filter p (in_order ns) (up_in_order ns))
+    (up_in_order (filter p ns))
+    (λ x. tests_commute (tied x) p (in_order ns) ∙ ap (filter p) (tied_in_order x ns) ∙ tests_commute p (tied x) ns
+    ∙ sym (tied_in_order x (filter p ns)))

@@ -17,12 +17,15 @@ cmp_moved b s t = grind (arith, nat_tests)
 by_place_moved : (b : ℕ) (m n : NodeLine) → by_place (placed b m) (placed b n) ≡ by_place m n
 by_place_moved b m n = rw (cmp_moved b m.start n.start, cmp_moved b n.«end» m.«end») refl
 
-inserted_case : (b : ℕ) (n m : NodeLine) (ms : Row NodeLine) (c : Bool) → inserted (placed b n) (map (placed b) ms) ≡ map (placed b) (inserted n ms)
-    → cond c (placed b m ∷ inserted (placed b n) (map (placed b) ms)) (placed b n ∷ placed b m ∷ map (placed b) ms) ≡ map (placed b) (cond c (m ∷ inserted n ms) (n ∷ m ∷ ms))
+inserted_case : (b : ℕ) (n m : NodeLine) (ms : Row NodeLine) (c : Bool) →
+    inserted (placed b n) (map (placed b) ms) ≡ map (placed b) (inserted n ms)
+    → cond c (placed b m ∷ inserted (placed b n) (map (placed b) ms)) (placed b n ∷ placed b m ∷ map (placed b) ms)
+    ≡ map (placed b) (cond c (m ∷ inserted n ms) (n ∷ m ∷ ms))
 inserted_case b n m ms true h = ap (λ r. placed b m ∷ r) h
 inserted_case b n m ms false h = refl
 
-inserted_moved : (b : ℕ) (n : NodeLine) (ms : Row NodeLine) → inserted (placed b n) (map (placed b) ms) ≡ map (placed b) (inserted n ms)
+inserted_moved : (b : ℕ) (n : NodeLine) (ms : Row NodeLine) →
+    inserted (placed b n) (map (placed b) ms) ≡ map (placed b) (inserted n ms)
 inserted_moved b n [] = refl
 inserted_moved b n (m ∷ ms) =
     let same : before (placed b m) (placed b n) ≡ before m n = rw (by_place_moved b m n) refl in
@@ -32,11 +35,13 @@ in_order_moved : (b : ℕ) (ns : Row NodeLine) → in_order (map (placed b) ns) 
 in_order_moved b [] = refl
 in_order_moved b (n ∷ ns) = rw (in_order_moved b ns) (inserted_moved b n (in_order ns))
 
-filter_case : (f : NodeLine → NodeLine) (n : NodeLine) (ms : Row NodeLine) (c : Bool) → cond c (f n ∷ map f ms) (map f ms) ≡ map f (cond c (n ∷ ms) ms)
+filter_case : (f : NodeLine → NodeLine) (n : NodeLine) (ms : Row NodeLine) (c : Bool) →
+    cond c (f n ∷ map f ms) (map f ms) ≡ map f (cond c (n ∷ ms) ms)
 filter_case f n ms true = refl
 filter_case f n ms false = refl
 
-filter_moved : (p q : NodeLine → Bool) (f : NodeLine → NodeLine) → ((n : NodeLine) → p (f n) ≡ q n) → (ns : Row NodeLine) → filter p (map f ns) ≡ map f (filter q ns)
+filter_moved : (p q : NodeLine → Bool) (f : NodeLine → NodeLine) → ((n : NodeLine) → p (f n) ≡ q n) →
+    (ns : Row NodeLine) → filter p (map f ns) ≡ map f (filter q ns)
 filter_moved p q f h [] = refl
 filter_moved p q f h (n ∷ ns) = rw (h n, filter_moved p q f h ns) (filter_case f n (filter q ns) (q n))
 
@@ -44,16 +49,21 @@ filter_moved p q f h (n ∷ ns) = rw (h n, filter_moved p q f h ns) (filter_case
 asked : (p q : NodeLine → Bool) (b : ℕ) → ((n : NodeLine) → p (placed b n) ≡ q n) → (ns : Row NodeLine)
     → map (placed b) (in_order (filter q ns)) ≡ filter p (in_order (map (placed b) ns))
 asked p q b h ns =
-    sym (in_order_moved b (filter q ns)) ∙ ap in_order (sym (filter_moved p q (placed b) h ns)) ∙ sym (filter-in_order p (map (placed b) ns))
+    sym (in_order_moved b (filter q ns)) ∙ ap in_order (sym (filter_moved p q (placed b) h ns))
+    ∙ sym (filter-in_order p (map (placed b) ns))
 
-pub outline_is : (base : ℕ) (es : Entries) → map (placed base) (in_order (filter in_outline (entries_nodes es))) ≡ outline base es
+pub outline_is : (base : ℕ) (es : Entries) →
+    map (placed base) (in_order (filter in_outline (entries_nodes es))) ≡ outline base es
 outline_is base es = asked in_outline in_outline base (λ n. refl) (entries_nodes es)
 
-within_moved : (b at s e : ℕ) → b ≤ at → (nat_le (b + s) at && nat_lt at (b + e)) ≡ (nat_le s (at - b) && nat_lt (at - b) e)
+within_moved : (b at s e : ℕ) → b ≤ at →
+    (nat_le (b + s) at && nat_lt at (b + e)) ≡ (nat_le s (at - b) && nat_lt (at - b) e)
 within_moved b at s e h = grind (arith, nat_tests)
 
-pub nodes_at_is : (base at : ℕ) (es : Entries) → base ≤ at → map (placed base) (in_order (filter (holds (at - base)) (entries_nodes es))) ≡ nodes_at base at es
-nodes_at_is base at es h = asked (holds at) (holds (at - base)) base (λ n. within_moved base at n.start n.«end» h) (entries_nodes es)
+pub nodes_at_is : (base at : ℕ) (es : Entries) → base ≤ at →
+    map (placed base) (in_order (filter (holds (at - base)) (entries_nodes es))) ≡ nodes_at base at es
+nodes_at_is base at es h = asked (holds at) (holds (at - base)) base (λ n. within_moved base at n.start n.«end» h)
+    (entries_nodes es)
 
 -- no node stands before the base
 not_before : (b at s e : ℕ) → at < b → (nat_le (b + s) at && nat_lt at (b + e)) ≡ false
@@ -69,7 +79,8 @@ all_passed b at (n ∷ ns) h = rw (not_before b at n.start n.«end» h) (all_pas
 
 pub nodes_at_none : (base at : ℕ) (es : Entries) → at < base → nodes_at base at es ≡ []
 nodes_at_none base at es h =
-    filter-in_order (holds at) (map (placed base) (entries_nodes es)) ∙ ap in_order (all_passed base at (entries_nodes es) h)
+    filter-in_order (holds at) (map (placed base) (entries_nodes es))
+    ∙ ap in_order (all_passed base at (entries_nodes es) h)
 
 -- ---- what holds of each node holds in any order
 
@@ -97,13 +108,15 @@ placed_from b [] i = []
 placed_from b (n ∷ ns) zero = placed b n ∷ placed_from b ns zero
 placed_from b (n ∷ ns) (suc i) = n ∷ placed_from b ns i
 
-placed_suc : (b : ℕ) (ns : Row NodeLine) (i : ℕ) (d : NodeLine) → i < length ns → placed_from b (set ns i (placed b (get_or ns i d))) (suc i) ≡ placed_from b ns i
+placed_suc : (b : ℕ) (ns : Row NodeLine) (i : ℕ) (d : NodeLine) → i < length ns →
+    placed_from b (set ns i (placed b (get_or ns i d))) (suc i) ≡ placed_from b ns i
 unfolding placed_from
 placed_suc b [] i d h = absurd (omega arith)
 placed_suc b (n ∷ ns) zero d h = refl
 placed_suc b (n ∷ ns) (suc i) d h = ap (λ r. n ∷ r) (placed_suc b ns i d (omega arith))
 
-pub placed_more : (b : ℕ) (ns : Row NodeLine) (i : ℕ) (n d : NodeLine) → i < length ns → n ≡ placed b (get_or ns i d) → placed_from b (set ns i n) (i + 1) ≡ placed_from b ns i
+pub placed_more : (b : ℕ) (ns : Row NodeLine) (i : ℕ) (n d : NodeLine) → i < length ns → n ≡ placed b (get_or ns i d) →
+    placed_from b (set ns i n) (i + 1) ≡ placed_from b ns i
 placed_more b ns i n d h e = rw (e, add-one) (placed_suc b ns i d h)
 
 pub placed_end : (b : ℕ) (ns : Row NodeLine) (i : ℕ) → length ns ≤ i → placed_from b ns i ≡ ns

@@ -10,7 +10,8 @@ use Rattle.shast.specs.declared.node.NodeLine.{NodeLine}
 abbrev pub with_tail : Row NodeLine → ℕ → Row NodeLine → Row NodeLine
 with_tail ns n other = take n ns ++ (other ++ drop (length other) (drop n ns))
 
-module _ (first rest ns : Row NodeLine) (n k : ℕ) (are : ns ≡ first ++ rest) (at : n ≡ length first) (long : k ≡ length ns) where
+module _ (first rest ns : Row NodeLine) (n k : ℕ) (are : ns ≡ first ++ rest) (at : n ≡ length first)
+    (long : k ≡ length ns) where
   pub tail_is : slice_range ns n k ≡ rest
   tail_is =
       let count : k - length first ≡ length rest = omega (arith, length-append first rest, ap length are) in
@@ -22,6 +23,7 @@ module _ (first rest ns : Row NodeLine) (n k : ℕ) (are : ns ≡ first ++ rest)
       let none : drop (length other) rest ≡ [] = drop_of_length-le rest (omega arith) in
       let whole : with_tail ns n other ≡ first ++ other =
       rw (are, at, take-append_seam first rest, drop-append_seam first rest, none, append-nil) refl in
-      let over : k ≡ length (first ++ other) = omega (arith, length-append first rest, length-append first other, ap length are) in
+      let over : k ≡ length (first ++ other) =
+      omega (arith, length-append first rest, length-append first other, ap length are) in
       let no_more : drop (length (first ++ other)) ns ≡ [] = drop_of_length-le ns (omega arith) in
       rw (whole, no_more, append-nil, over) (take-length (first ++ other))

@@ -33,7 +33,8 @@ use std::alloc::{AllocError, Global};
 /// [`AllocError`], where memory runs out. `into` then holds what it held before.
 pub fn append_at(alloc: Global, list: &List, base: usize, into: &mut List) -> Result<(), AllocError>
     requires { AllWithin (usize.MAX - base) (view_list list.now) }
-    ensures ok { OnOk result (view_list into.new ≡ appended (view_list into.old) (moved base (view_list list.now))) }
+    ensures ok { OnOk result
+        (view_list into.new ≡ appended (view_list into.old) (moved base (view_list list.now))) }
     ensures err { OnErr result (view_list into.new ≡ view_list into.old) }
 {
     let mut copy = carry_list(alloc, list, base)?;
@@ -43,7 +44,8 @@ pub fn append_at(alloc: Global, list: &List, base: usize, into: &mut List) -> Re
 /// Appends all entries of the other list, or none.
 #[tactic(auto, using(crate::proofs::Carrying::lists_appended))]
 fn append_list(into: &mut List, more: &mut List) -> Result<(), AllocError>
-    ensures ok { OnOk result (view_list into.new ≡ appended (view_list into.old) (view_list more.old)) }
+    ensures ok { OnOk result
+        (view_list into.new ≡ appended (view_list into.old) (view_list more.old)) }
     ensures err { OnErr result (view_list into.new ≡ view_list into.old) }
 {
     into.entries.append(&mut more.entries)
@@ -89,7 +91,8 @@ fn carry_comment(comment: Comment, base: usize) -> Comment
 }
 
 fn carry_own_comment(comment: Option<Comment>, base: usize) -> Option<Comment>
-    ensures { option_map view_comment result ≡ option_map (capped base) (option_map view_comment comment) }
+    ensures { option_map view_comment result
+        ≡ option_map (capped base) (option_map view_comment comment) }
 {
     match comment {
         Some(comment) => Some(carry_comment(comment, base)),
@@ -98,7 +101,8 @@ fn carry_own_comment(comment: Option<Comment>, base: usize) -> Option<Comment>
 }
 
 fn carry_here(here: Option<HereDocument>, base: usize) -> Option<HereDocument>
-    ensures { option_map view_here result ≡ option_map (carried_here (capped base) (capped_body base)) (option_map view_here here) }
+    ensures { option_map view_here result
+        ≡ option_map (carried_here (capped base) (capped_body base)) (option_map view_here here) }
 {
     match here {
         Some(here) => Some(HereDocument {
@@ -116,7 +120,8 @@ fn carry_comments(
     comments: &[Comment],
     base: usize,
 ) -> Result<Vec<Comment>, AllocError>
-    ensures { IfOk result (λ made. map view_comment made.items ≡ map (capped base) (map view_comment comments.now)) }
+    ensures { IfOk result (λ made. map view_comment made.items
+        ≡ map (capped base) (map view_comment comments.now)) }
 {
     let mut made = Vec::new(alloc);
     for comment in comments {
@@ -126,7 +131,8 @@ fn carry_comments(
 }
 
 fn carry_join(alloc: Global, join: &Join, base: usize) -> Result<Join, AllocError>
-    ensures { IfOk result (λ made. view_join made ≡ carried_join (capped base) (capped_body base) (view_join join.now)) }
+    ensures { IfOk result (λ made. view_join made
+        ≡ carried_join (capped base) (capped_body base) (view_join join.now)) }
 {
     Ok(Join {
         broken: join.broken,
@@ -136,7 +142,8 @@ fn carry_join(alloc: Global, join: &Join, base: usize) -> Result<Join, AllocErro
 
 /// An entry of this content.
 fn entry_of(what: Content, background: bool, blank: bool, comment: Option<Comment>) -> Entry
-    ensures { view_entry result ≡ entry (view_content what) background blank (option_map view_comment comment) }
+    ensures { view_entry result
+        ≡ entry (view_content what) background blank (option_map view_comment comment) }
 {
     Entry {
         what,

@@ -25,7 +25,8 @@ pub fn outline_of(
     lines: &mut Vec<NodeLine>,
 ) -> Result<(), AllocError>
     requires { AreWithin (usize.MAX - base) (view_list list.now) }
-    ensures ok { OnOk result (lines.new.items ≡ lines.old.items ++ outline base (view_list list.now)) }
+    ensures ok { OnOk result
+        (lines.new.items ≡ lines.old.items ++ outline base (view_list list.now)) }
     ensures err { OnErr result (lines.new.items ≡ lines.old.items) }
 {
     add_nodes(alloc, list, base, Outlined, lines)
@@ -47,7 +48,8 @@ pub fn nodes_at(
     lines: &mut Vec<NodeLine>,
 ) -> Result<(), AllocError>
     requires { AreWithin (usize.MAX - base) (view_list list.now) }
-    ensures ok { OnOk result (lines.new.items ≡ lines.old.items ++ nodes_at base at (view_list list.now)) }
+    ensures ok { OnOk result
+        (lines.new.items ≡ lines.old.items ++ nodes_at base at (view_list list.now)) }
     ensures err { OnErr result (lines.new.items ≡ lines.old.items) }
 {
     // nothing of the list stands before its base
@@ -92,7 +94,10 @@ fn add_nodes<W: Wanted>(
     lines: &mut Vec<NodeLine>,
 ) -> Result<(), AllocError>
     requires { AreWithin (usize.MAX - base) (view_list list.now) }
-    ensures ok { OnOk result (lines.new.items ≡ lines.old.items ++ map (placed base) (in_order (filter (W.is_wanted wanted) (entries_nodes (view_list list.now))))) }
+    ensures ok { OnOk result
+        (lines.new.items ≡ lines.old.items
+        ++ map (placed base) (in_order
+        (filter (W.is_wanted wanted) (entries_nodes (view_list list.now))))) }
     ensures err { OnErr result (lines.new.items ≡ lines.old.items) }
 {
     let held = lines.len();

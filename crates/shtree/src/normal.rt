@@ -122,7 +122,8 @@ fn are_normal_and_ors(parts: &[AndOrPart]) -> bool
 
 #[cycle(normal)]
 fn is_normal_part(part: &AndOrPart) -> bool
-    ensures { let p = view_and_or_part part.now in result ≡ (is_normal_join p.join && is_normal_pipeline p.pipeline) }
+    ensures { let p = view_and_or_part part.now in
+        result ≡ (is_normal_join p.join && is_normal_pipeline p.pipeline) }
 {
     is_normal_join(&part.join) && is_normal_pipeline(&part.pipeline)
 }
@@ -149,7 +150,8 @@ fn are_normal_pipes(parts: &[PipelinePart]) -> bool
 
 #[cycle(normal)]
 fn is_normal_pipe(part: &PipelinePart) -> bool
-    ensures { let p = view_pipeline_part part.now in result ≡ (is_normal_join p.join && is_normal_command p.command) }
+    ensures { let p = view_pipeline_part part.now in
+        result ≡ (is_normal_join p.join && is_normal_command p.command) }
 {
     is_normal_join(&part.join) && is_normal_command(&part.command)
 }

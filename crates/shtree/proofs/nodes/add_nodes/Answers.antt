@@ -21,8 +21,10 @@ pub slice_mut-requires-clause-start_le_end : goal.slice_mut-requires-clause-star
 unfolding gathered
 slice_mut-requires-clause-start_le_end g c =
     let held = c.args.lines.now.items in
-    let found : Row NodeLine = filter (g.W.Wanted.is_wanted c.args.wanted) (entries_nodes (view_list c.args.list.now)) in
-    let are : c.visit_list.new.lines.items ≡ held ++ found = when_ok c.visit_list.result (sym c.is_ok.ensures.value ∙ c.if-is_ok.true) c.visit_list.ensures.ok in
+    let found : Row NodeLine = filter (g.W.Wanted.is_wanted c.args.wanted)
+    (entries_nodes (view_list c.args.list.now)) in
+    let are : c.visit_list.new.lines.items ≡ held ++ found =
+    when_ok c.visit_list.result (sym c.is_ok.ensures.value ∙ c.if-is_ok.true) c.visit_list.ensures.ok in
     omega (arith, length-append held found, ap length are, c.visit_list.new.lines.ok.0, c.args.lines.now.ok.0)
 
 pub settle-settled-requires : goal.settle-settled-requires
@@ -32,7 +34,8 @@ settle-settled-requires g c =
     let nodes = entries_nodes (view_list c.args.list.now) in
     let held = c.args.lines.now.items in
     let at : c.len-held.result ≡ length held = omega (arith, c.args.lines.now.ok.0) in
-    let are : c.visit_list.new.lines.items ≡ held ++ filter wanted nodes = when_ok c.visit_list.result (sym c.is_ok.ensures.value ∙ c.if-is_ok.true) c.visit_list.ensures.ok in
+    let are : c.visit_list.new.lines.items ≡ held ++ filter wanted nodes =
+    when_ok c.visit_list.result (sym c.is_ok.ensures.value ∙ c.if-is_ok.true) c.visit_list.ensures.ok in
     let tail = tail_is held (filter wanted nodes) _ _ _ are at c.visit_list.new.lines.ok.0 in
     rw (c.slice_mut.ensures.value, tail) (All-filter wanted (IsWithin _) nodes c.requires)
 
@@ -40,29 +43,37 @@ pub returns-then-is_ok-2-clause-ok : goal.returns-then-is_ok-2-clause-ok
 unfolding gathered
 returns-then-is_ok-2-clause-ok g c =
     let held = c.args.lines.now.items in
-    let found : Row NodeLine = filter (g.W.Wanted.is_wanted c.args.wanted) (entries_nodes (view_list c.args.list.now)) in
+    let found : Row NodeLine = filter (g.W.Wanted.is_wanted c.args.wanted)
+    (entries_nodes (view_list c.args.list.now)) in
     let at : c.len-held.result ≡ length held = omega (arith, c.args.lines.now.ok.0) in
-    let are : c.visit_list.new.lines.items ≡ held ++ found = when_ok c.visit_list.result (sym c.is_ok.ensures.value ∙ c.if-is_ok.true) c.visit_list.ensures.ok in
+    let are : c.visit_list.new.lines.items ≡ held ++ found =
+    when_ok c.visit_list.result (sym c.is_ok.ensures.value ∙ c.if-is_ok.true) c.visit_list.ensures.ok in
     let tail = tail_is held found _ _ _ are at c.visit_list.new.lines.ok.0 in
     let is : c.slice_mut.result.now ≡ found = rw c.slice_mut.ensures.value tail in
-    let whole = tail_written held found _ _ _ are at c.visit_list.new.lines.ok.0 c.settle-settled.new.found (c.settle-settled.auto.found ∙ ap length is) in
+    let whole = tail_written held found _ _ _ are at c.visit_list.new.lines.ok.0 c.settle-settled.new.found
+    (c.settle-settled.auto.found ∙ ap length is) in
     rw whole (on_ok_weaker c.settle-settled.result (λ e. ap (λ ns. held ++ ns) (rw is at e)) c.settle-settled.ensures)
 
 pub returns-clause-err : goal.returns-clause-err
 unfolding gathered Begins
 returns-clause-err g c =
     let held = c.args.lines.now.items in
-    let found : Row NodeLine = filter (g.W.Wanted.is_wanted c.args.wanted) (entries_nodes (view_list c.args.list.now)) in
+    let found : Row NodeLine = filter (g.W.Wanted.is_wanted c.args.wanted)
+    (entries_nodes (view_list c.args.list.now)) in
     let at : c.len-held.result ≡ length held = omega (arith, c.args.lines.now.ok.0) in
     elim c.if-is_ok.branch [
       | then-is_ok+else-is_ok-2 w ↦
-          let are : c.visit_list.new.lines.items ≡ held ++ found = when_ok c.visit_list.result (sym c.is_ok.ensures.value ∙ w.if-is_ok.true) c.visit_list.ensures.ok in
+          let are : c.visit_list.new.lines.items ≡ held ++ found =
+          when_ok c.visit_list.result (sym c.is_ok.ensures.value ∙ w.if-is_ok.true) c.visit_list.ensures.ok in
           let tail = tail_is held found _ _ _ are at c.visit_list.new.lines.ok.0 in
           let is : w.slice_mut.result.now ≡ found = rw w.slice_mut.ensures.value tail in
-          let whole = tail_written held found _ _ _ are at c.visit_list.new.lines.ok.0 w.settle-settled.new.found (w.settle-settled.auto.found ∙ ap length is) in
-          c.truncate.ensures.items ∙ ap (λ lines. take c.len-held.result lines.items) w.lines-is ∙ ap (take c.len-held.result) whole
+          let whole = tail_written held found _ _ _ are at c.visit_list.new.lines.ok.0 w.settle-settled.new.found
+          (w.settle-settled.auto.found ∙ ap length is) in
+          c.truncate.ensures.items ∙ ap (λ lines. take c.len-held.result lines.items) w.lines-is
+          ∙ ap (take c.len-held.result) whole
           ∙ ap (λ n. take n (held ++ w.settle-settled.new.found)) at ∙ take-append_seam held w.settle-settled.new.found
       | else-is_ok w ↦
-          c.truncate.ensures.items ∙ ap (λ lines. take c.len-held.result lines.items) w.lines-is ∙ ap (λ n. take n c.visit_list.new.lines.items) at
+          c.truncate.ensures.items ∙ ap (λ lines. take c.len-held.result lines.items) w.lines-is
+          ∙ ap (λ n. take n c.visit_list.new.lines.items) at
           ∙ c.visit_list.ensures.kept held (begins_self held)
     ]

@@ -9,7 +9,8 @@ loop-line-preserved c =
     let at = c.loop-line.line-index in
     let found = c.loop-line.found in
     record {
-      so_far = placed_more c.args.base found at c.placed.result _ (omega arith) c.placed.ensures ∙ c.loop-line.invariant.so_far;
+      so_far = placed_more c.args.base found at c.placed.result _ (omega arith) c.placed.ensures
+          ∙ c.loop-line.invariant.so_far;
       within = λ k d after below.
           let other : k ≢ at = omega arith in
           let inside : k < length found = omega (arith, length-set {A = NodeLine}) in

@@ -5,4 +5,5 @@ use Rattle.shtree.proofs.AllFrom.{any_from}
 use Rattle.shtree.proofs.normal.holds_command.Given as goal
 
 abbrev pub invariant-loop-entry : goal.invariant-loop-entry
-invariant-loop-entry l = any_from is_command (map view_entry l.entries) l.entry-index ≡ any_from is_command (map view_entry l.entries) 0
+invariant-loop-entry l = any_from is_command (map view_entry l.entries) l.entry-index
+    ≡ any_from is_command (map view_entry l.entries) 0

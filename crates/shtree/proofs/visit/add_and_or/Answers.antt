@@ -7,4 +7,7 @@ pub returns : goal.returns
 returns g c = record { ok = grind (arith, and_or_joined c.args.and_or.now); kept = search rules }
 
 pub returns-then-is_empty : goal.returns-then-is_empty
-returns-then-is_empty g c = record { ok = grind (arith, and_or_alone c.args.and_or.now, gathered_none); kept = search rules }
+returns-then-is_empty g c = record {
+  ok = grind (arith, and_or_alone c.args.and_or.now, gathered_none);
+  kept = search rules;
+}

@@ -8,7 +8,11 @@ pub loop-comment-preserved : goal.loop-comment-preserved
 loop-comment-preserved g c =
     let nothing : Comment = record { span = record { start = 0; «end» = 0 } } in
     record {
-      ok = grind (arith, gathered_append, from_more comment_row view_comment c.args.comments.now c.loop-comment.comment-index nothing);
+      ok = grind (
+        arith,
+        gathered_append,
+        from_more comment_row view_comment c.args.comments.now c.loop-comment.comment-index nothing,
+      );
       kept = search rules;
     }
 
