@@ -15,7 +15,8 @@ use std::test::Fail;
 
 /// An item with no pattern and an empty body.
 fn item(alloc: Global, span: Span, falls: bool) -> CaseItem
-    ensures { view_case_item result ≡ case_item [] no_pattern no_entry (record { mark = span; falls = falls }) }
+    ensures { view_case_item result
+        ≡ case_item [] no_pattern no_entry (record { mark = span; falls = falls }) }
 {
     let body = list_of(Vec::new(alloc));
     case_item_of(Vec::new(alloc), Vec::new(alloc), body, span, falls)
@@ -23,7 +24,10 @@ fn item(alloc: Global, span: Span, falls: bool) -> CaseItem
 
 /// A case of that item, all parts of which stand at one place.
 fn case(alloc: Global, span: Span, falls: bool) -> Result<Command, AllocError>
-    ensures { IfOk result (λ made. view_command made ≡ compound (formed (case_in (word span no_subst) (more_cases (case_item [] no_pattern no_entry (record { mark = span; falls = falls })) no_case) []) span no_item)) }
+    ensures { IfOk result (λ made. view_command made
+        ≡ compound (formed (case_in (word span no_subst)
+        (more_cases (case_item [] no_pattern no_entry (record { mark = span; falls = falls }))
+        no_case) []) span no_item)) }
 {
     let mut items = Vec::new(alloc);
     items.push(item(alloc, span, falls))?;
