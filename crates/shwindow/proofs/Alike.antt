@@ -8,9 +8,11 @@ module _ {K : Type 0} where
   abbrev pub HasEnded : (Is Js : List ℕ → HeldLine K → Type 0) → Type 0
   HasEnded Is Js = (T : List ℕ) (l : HeldLine K) → Is T l → l.ended ≡ true → Js T l
 
-  pub same_boundary : (Is Js : List ℕ → HeldLine K → Type 0) → HasEnded Is Js → (B : List ℕ) (p : ℕ) → IsBoundary Is B p → IsBoundary Js B p
+  pub same_boundary : (Is Js : List ℕ → HeldLine K → Type 0) → HasEnded Is Js → (B : List ℕ) (p : ℕ) → IsBoundary Is B p
+      → IsBoundary Js B p
   same_boundary Is Js to B _ at_start = at_start
-  same_boundary Is Js to B _ (behind {p = p} {l = l} so is ended) = behind (same_boundary Is Js to B p so) (to _ l is ended) ended
+  same_boundary Is Js to B _ (behind {p = p} {l = l} so is ended) =
+      behind (same_boundary Is Js to B p so) (to _ l is ended) ended
 
   module _ (Is Js : List ℕ → HeldLine K → Type 0) (to : HasEnded Is Js) (back : HasEnded Js Is) (B U : List ℕ) where
     same_begins : (a w : ℕ) → Begins Is B a w → Begins Js B a w
@@ -22,10 +24,18 @@ module _ {K : Type 0} where
 
     module _ (e b : ℕ) where
       to_shared : (q : ℕ) → IsShared Is B U e b q → IsShared Js B U e b q
-      to_shared q is = record { here = same_boundary Is Js to U q is.here; past = is.past; there = same_boundary Is Js to B _ is.there }
+      to_shared q is = record {
+        here = same_boundary Is Js to U q is.here;
+        past = is.past;
+        there = same_boundary Is Js to B _ is.there;
+      }
 
       back_shared : (q : ℕ) → IsShared Js B U e b q → IsShared Is B U e b q
-      back_shared q is = record { here = same_boundary Js Is back U q is.here; past = is.past; there = same_boundary Js Is back B _ is.there }
+      back_shared q is = record {
+        here = same_boundary Js Is back U q is.here;
+        past = is.past;
+        there = same_boundary Js Is back B _ is.there;
+      }
 
       same_ends : (t : ℕ) → Ends Is B U e b t → Ends Js B U e b t
       same_ends t (meets is least) = meets (to_shared t is) (λ s at. least s (back_shared s at))

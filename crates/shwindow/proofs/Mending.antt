@@ -15,7 +15,8 @@ use Rattle.shwindow.proofs.Steps.{begins_here}
 use Rattle.shwindow.proofs.Windows.{begins_only, front_stays, window_only}
 
 -- all lines are those before a place and those from it on
-pub cut_split : {K : Type 0} (ks : Row (Row (HeldLine K))) (p : Place) (last : HeldLine K) (hs left : Row (HeldLine K)) → in_one_row ks ++ last ∷ [] ≡ hs → left ≡ lines_from ks p ++ last ∷ [] → hs ≡ lines_before ks p ++ left
+pub cut_split : {K : Type 0} (ks : Row (Row (HeldLine K))) (p : Place) (last : HeldLine K) (hs left : Row (HeldLine K))
+    → in_one_row ks ++ last ∷ [] ≡ hs → left ≡ lines_from ks p ++ last ∷ [] → hs ≡ lines_before ks p ++ left
 cut_split ks p last hs left all is =
     sym all
     ∙ ap (λ x. x ++ last ∷ []) (sym (place_split ks p))
@@ -23,8 +24,10 @@ cut_split ks p last hs left all is =
     ∙ ap (λ x. lines_before ks p ++ x) (sym is)
 
 -- the first line behind the cut ends past a, if it ended
-past_first : {K : Type 0} (Is : List ℕ → HeldLine K → Type 0) (a begin : ℕ) (xs : Row (HeldLine K)) (last : HeldLine K) → ((h : HeldLine K) (hs : Row (HeldLine K)) → xs ≡ h ∷ hs → a < begin + h.len)
-    → (T : List ℕ) (h : HeldLine K) (hs : Row (HeldLine K)) → h ∷ hs ≡ xs ++ last ∷ [] → IsRow Is T (h ∷ hs) → h.ended ≡ true → a < begin + h.len
+past_first : {K : Type 0} (Is : List ℕ → HeldLine K → Type 0) (a begin : ℕ) (xs : Row (HeldLine K)) (last : HeldLine K)
+    → ((h : HeldLine K) (hs : Row (HeldLine K)) → xs ≡ h ∷ hs → a < begin + h.len)
+    → (T : List ℕ) (h : HeldLine K) (hs : Row (HeldLine K)) → h ∷ hs ≡ xs ++ last ∷ [] → IsRow Is T (h ∷ hs) →
+    h.ended ≡ true → a < begin + h.len
 past_first Is a begin [] last past T h [] is row ended = let e = row_alone Is T h row in absurd cc
 past_first Is a begin [] last past T h (k ∷ ks) is row ended = absurd cc
 past_first {K = K} Is a begin (x ∷ xs) last past T h hs is row ended =
@@ -38,9 +41,11 @@ module _ {K : Type 0} (Is : List ℕ → HeldLine K → Type 0) (a : ℕ) where
     pub begins : begin ≡ extent kept
     pub low : begin ≤ a
     pub some : left ≡ [] → ⊥
-    pub past : (T : List ℕ) (h : HeldLine K) (ls : Row (HeldLine K)) → h ∷ ls ≡ left → IsRow Is T (h ∷ ls) → h.ended ≡ true → a < begin + h.len
+    pub past : (T : List ℕ) (h : HeldLine K) (ls : Row (HeldLine K)) → h ∷ ls ≡ left → IsRow Is T (h ∷ ls) →
+        h.ended ≡ true → a < begin + h.len
 
-  pub cut_at : (hs kept left xs : Row (HeldLine K)) (last : HeldLine K) (begin : ℕ) → hs ≡ kept ++ left → begin ≡ extent kept → begin ≤ a → left ≡ xs ++ last ∷ []
+  pub cut_at : (hs kept left xs : Row (HeldLine K)) (last : HeldLine K) (begin : ℕ) → hs ≡ kept ++ left →
+      begin ≡ extent kept → begin ≤ a → left ≡ xs ++ last ∷ []
       → ((h : HeldLine K) (ls : Row (HeldLine K)) → xs ≡ h ∷ ls → a < begin + h.len) → IsCut hs kept left begin
   cut_at hs kept left xs last begin split begins low is past = record {
     split = split;
@@ -50,8 +55,10 @@ module _ {K : Type 0} (Is : List ℕ → HeldLine K → Type 0) (a : ℕ) where
     past = λ T h ls first row ended. past_first Is a begin xs last past T h ls (first ∙ is) row ended;
   }
 
-  module _ (laws : Reads Is) (B U : List ℕ) (e b : ℕ) (apart : Apart B U a e b) (hs kept : Row (HeldLine K)) (begin : ℕ) (row : IsRow Is B hs) where
-    begun_by : (left : Row (HeldLine K)) → IsCut hs kept left begin → (IsBoundary Is B begin × IsRow Is (drop begin B) left × Begins Is B a begin)
+  module _ (laws : Reads Is) (B U : List ℕ) (e b : ℕ) (apart : Apart B U a e b) (hs kept : Row (HeldLine K)) (begin : ℕ)
+      (row : IsRow Is B hs) where
+    begun_by : (left : Row (HeldLine K)) → IsCut hs kept left begin →
+        (IsBoundary Is B begin × IsRow Is (drop begin B) left × Begins Is B a begin)
         × ((ms : Row (HeldLine K)) → IsRow Is (drop begin U) ms → IsRow Is U (kept ++ ms))
     begun_by [] cut = absurd (cut.some refl)
     begun_by (h ∷ ls) cut =
@@ -60,31 +67,38 @@ module _ {K : Type 0} (Is : List ℕ → HeldLine K → Type 0) (a : ℕ) where
         let same : 0 + extent kept ≡ begin = let is = cut.begins in omega arith in
         let at = subst (λ x. IsBoundary Is B x × IsRow Is (drop x B) (h ∷ ls)) same here in
         let low : extent kept ≤ a = let is = cut.begins in let before = cut.low in omega arith in
-        let past : h.ended ≡ true → a < extent kept + h.len = λ ended. let is = cut.begins in let high = cut.past (drop begin B) h ls refl at.1 ended in omega arith in (
+        let past : h.ended ≡ true → a < extent kept + h.len = λ ended. let is = cut.begins in
+        let high = cut.past (drop begin B) h ls refl at.1 ended in omega arith in (
           (at.0, at.1, subst (Begins Is B a) (sym cut.begins) (begins_here Is laws B a kept h ls all low past)),
-          λ ms rows. front_stays Is laws B U a e b apart 0 kept h ls ms all (omega arith) (subst (λ x. IsRow Is (drop x U) ms) (sym same) rows),
+          λ ms rows. front_stays Is laws B U a e b apart 0 kept h ls ms all (omega arith)
+              (subst (λ x. IsRow Is (drop x U) ms) (sym same) rows),
         )
 
     pub cut_begun : (left : Row (HeldLine K)) → IsCut hs kept left begin → IsBegun Is B U a e b begin left
-    cut_begun left cut = let parts = begun_by left cut in record { apart = apart; boundary = parts.0.0; low = cut.low; row = parts.0.1 }
+    cut_begun left cut = let parts = begun_by left cut in
+        record { apart = apart; boundary = parts.0.0; low = cut.low; row = parts.0.1 }
 
     -- the lines of the new text
-    pub cut_row : (left ms : Row (HeldLine K)) → IsCut hs kept left begin → IsRow Is (drop begin U) ms → IsRow Is U (kept ++ ms)
+    pub cut_row : (left ms : Row (HeldLine K)) → IsCut hs kept left begin → IsRow Is (drop begin U) ms →
+        IsRow Is U (kept ++ ms)
     cut_row left ms cut rows = (begun_by left cut).1 ms rows
 
     -- the window, and what the meter says of it
-    pub cut_window : (left : Row (HeldLine K)) (n before meter : ℕ) → IsCut hs kept left begin → Ends Is B U e b (begin + n) → meter ≡ risen before n → RoseByWindow Is B U a e b before meter
+    pub cut_window : (left : Row (HeldLine K)) (n before meter : ℕ) → IsCut hs kept left begin →
+        Ends Is B U e b (begin + n) → meter ≡ risen before n → RoseByWindow Is B U a e b before meter
     cut_window left n before meter cut ends is =
         let same : n ≡ (begin + n) - begin = omega arith in
         (begin, begin + n, record { begins = (begun_by left cut).0.2; ends = ends }, is ∙ ap (risen before) same)
 
-    pub cut_no_more : (left : Row (HeldLine K)) (before meter : ℕ) → IsCut hs kept left begin → ((t : ℕ) → Ends Is B U e b t → RoseWithin (t - begin) before meter) → RoseWithinWindow Is B U a e b before meter
+    pub cut_no_more : (left : Row (HeldLine K)) (before meter : ℕ) → IsCut hs kept left begin →
+        ((t : ℕ) → Ends Is B U e b t → RoseWithin (t - begin) before meter) → RoseWithinWindow Is B U a e b before meter
     cut_no_more left before meter cut rose w t window =
         let same : begin ≡ w = begins_only Is B U a e b begin w (begun_by left cut).0.2 window.begins in
         subst (λ x. RoseWithin (t - x) before meter) same (rose t window.ends)
 
 -- who has read a window has read no more than that
-pub has_no_more : {K : Type 0} (Is : List ℕ → HeldLine K → Type 0) (B U : List ℕ) (a e b before meter : ℕ) → RoseByWindow Is B U a e b before meter → RoseWithinWindow Is B U a e b before meter
+pub has_no_more : {K : Type 0} (Is : List ℕ → HeldLine K → Type 0) (B U : List ℕ) (a e b before meter : ℕ) →
+    RoseByWindow Is B U a e b before meter → RoseWithinWindow Is B U a e b before meter
 has_no_more Is B U a e b before meter (v, u, window, is) w t other =
     let same = window_only Is B U a e b v w u t window other in
     let long : u - v ≤ t - w = omega (arith, same.0, same.1) in
@@ -92,6 +106,8 @@ has_no_more Is B U a e b before meter (v, u, window, is) w t other =
 
 -- ---- the new row
 
-pub mended : {X : Type 0} (kept read behind : Row X) (last : X) → kept ++ (read ++ (behind ++ last ∷ [])) ≡ (kept ++ (read ++ behind)) ++ last ∷ []
+pub mended : {X : Type 0} (kept read behind : Row X) (last : X) →
+    kept ++ (read ++ (behind ++ last ∷ [])) ≡ (kept ++ (read ++ behind)) ++ last ∷ []
 mended kept read behind last =
-    ap (λ x. kept ++ x) (sym (append_assoc read behind (last ∷ []))) ∙ sym (append_assoc kept (read ++ behind) (last ∷ []))
+    ap (λ x. kept ++ x) (sym (append_assoc read behind (last ∷ [])))
+    ∙ sym (append_assoc kept (read ++ behind) (last ∷ []))

@@ -24,7 +24,8 @@ not_behind_more p q r one two = record {
 }
 
 -- no place is behind that behind all blocks
-pub not_behind_end : {X : Type 0} (ks : Row (Row X)) (p q : Place) → IsPlace ks p → q.block ≡ length ks → IsNotBehind p q
+pub not_behind_end : {X : Type 0} (ks : Row (Row X)) (p q : Place) → IsPlace ks p → q.block ≡ length ks →
+    IsNotBehind p q
 not_behind_end ks p q place is = record {
   block = let within = place.block in omega arith;
   line = λ same.
@@ -34,7 +35,8 @@ not_behind_end ks p q place is = record {
 }
 
 -- the lines from the place behind the last line of a block on are those of the next blocks
-pub from_next : {X : Type 0} (ks : Row (Row X)) (p q : Place) (n : ℕ) → q.block ≡ p.block + 1 → q.line ≡ 0 → n ≡ length (block_at ks p.block) → lines_from ks (in_block p n) ≡ lines_from ks q
+pub from_next : {X : Type 0} (ks : Row (Row X)) (p q : Place) (n : ℕ) → q.block ≡ p.block + 1 → q.line ≡ 0 →
+    n ≡ length (block_at ks p.block) → lines_from ks (in_block p n) ≡ lines_from ks q
 from_next ks p q n block line is =
     ap (λ x. x ++ in_one_row (drop (p.block + 1) ks)) (drop_all n (block_at ks p.block) (omega (arith, is)))
     ∙ joined_at (p.block + 1) ks
@@ -44,10 +46,13 @@ from_next ks p q n block line is =
 -- ---- blocks that are cut at one place, and hold another place before it
 
 -- the block of a place that is not behind the cut has the same lines up to it
-module _ {X : Type 0} (ks new : Row (Row X)) (p q : Place) (order : IsNotBehind p q) (front : take q.block new ≡ take q.block ks) (head : take q.line (block_at new q.block) ≡ take q.line (block_at ks q.block)) where
+module _ {X : Type 0} (ks new : Row (Row X)) (p q : Place) (order : IsNotBehind p q)
+    (front : take q.block new ≡ take q.block ks)
+    (head : take q.line (block_at new q.block) ≡ take q.line (block_at ks q.block)) where
   same_block : p.block < q.block → block_at new p.block ≡ block_at ks p.block
   same_block low =
-      sym (get_or-take q.block new p.block [] low) ∙ ap (λ x. block_at x p.block) front ∙ get_or-take q.block ks p.block [] low
+      sym (get_or-take q.block new p.block [] low) ∙ ap (λ x. block_at x p.block) front
+      ∙ get_or-take q.block ks p.block [] low
 
   pub same_head : take p.line (block_at new p.block) ≡ take p.line (block_at ks p.block)
   same_head =
@@ -57,7 +62,8 @@ module _ {X : Type 0} (ks new : Row (Row X)) (p q : Place) (order : IsNotBehind 
       let same : p.block ≡ q.block = omega arith in
       let low = order.line same in
       subst (λ n. take p.line (block_at new n) ≡ take p.line (block_at ks n)) (sym same)
-      (sym (take-take p.line q.line (block_at new q.block) low) ∙ ap (take p.line) head ∙ take-take p.line q.line (block_at ks q.block) low))
+      (sym (take-take p.line q.line (block_at new q.block) low) ∙ ap (take p.line) head
+      ∙ take-take p.line q.line (block_at ks q.block) low))
       (cases_lt p.block q.block)
 
   pub same_before : lines_before new p ≡ lines_before ks p
@@ -65,4 +71,5 @@ module _ {X : Type 0} (ks new : Row (Row X)) (p q : Place) (order : IsNotBehind 
       let blocks : take p.block new ≡ take p.block ks =
       let low = order.block in
       sym (take-take p.block q.block new low) ∙ ap (take p.block) front ∙ take-take p.block q.block ks low in
-      ap (λ x. in_one_row x ++ take p.line (block_at new p.block)) blocks ∙ ap (λ x. in_one_row (take p.block ks) ++ x) same_head
+      ap (λ x. in_one_row x ++ take p.line (block_at new p.block)) blocks
+      ∙ ap (λ x. in_one_row (take p.block ks) ++ x) same_head

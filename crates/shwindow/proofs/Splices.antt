@@ -34,6 +34,7 @@ splices_apart B (s ∷ ts) range rising =
     let ss : Row ASplice = s ∷ ts in
     let some : 0 < length ss = omega arith in
     let made : List ℕ = with_splices s.a (held_between B ss) ss in
-    let one = splice_apart B s.a (last_end ss) made (ends_rise B ss some range rising) (ends_within B ss some range rising) in
+    let one = splice_apart B s.a (last_end ss) made (ends_rise B ss some range rising)
+    (ends_within B ss some range rising) in
     subst (λ e. Apart B (edited B ss) s.a e (last_end ss)) (made_end B ss some range rising)
     (subst (λ U. Apart B U s.a (s.a + length made) (last_end ss)) (edited_one B ss some range rising) one)

@@ -20,7 +20,8 @@ NotMet e b q p hs = e ≤ q → (p ≡ b + (q - e)) → hs ≡ []
 module _ {K : Type 0} (Is : List ℕ → HeldLine K → Type 0) (B : List ℕ) where
   -- the lines hs from p on are all those of the old text that begin at or past o
   pub data Holds (o : ℕ) : ℕ → Row (HeldLine K) → Type 0 where
-    in_hand : {p : ℕ} {hs : Row (HeldLine K)} → IsBoundary Is B p → IsRow Is (drop p B) hs → ((s : ℕ) → IsBoundary Is B s → o ≤ s → p ≤ s) → Holds o p hs
+    in_hand : {p : ℕ} {hs : Row (HeldLine K)} → IsBoundary Is B p → IsRow Is (drop p B) hs →
+        ((s : ℕ) → IsBoundary Is B s → o ≤ s → p ≤ s) → Holds o p hs
     empty_hand : {p : ℕ} → ((s : ℕ) → IsBoundary Is B s → s < o) → Holds o p []
 
 module _ {K : Type 0} (Is : List ℕ → HeldLine K → Type 0) (B U : List ℕ) (a e b : ℕ) where
@@ -38,7 +39,8 @@ module _ {K : Type 0} (Is : List ℕ → HeldLine K → Type 0) (laws : Reads Is
   -- ---- where the window begins
 
   -- behind lines that end at or before a, at a line that did not end or ends past a
-  pub begins_here : (a : ℕ) (kept : Row (HeldLine K)) (h : HeldLine K) (hs : Row (HeldLine K)) → IsRow Is B (kept ++ h ∷ hs) → extent kept ≤ a → (h.ended ≡ true → a < extent kept + h.len)
+  pub begins_here : (a : ℕ) (kept : Row (HeldLine K)) (h : HeldLine K) (hs : Row (HeldLine K)) →
+      IsRow Is B (kept ++ h ∷ hs) → extent kept ≤ a → (h.ended ≡ true → a < extent kept + h.len)
       → Begins Is B a (extent kept)
   begins_here a kept h hs row low past =
       let at = row_at Is laws B 0 kept h hs at_start row in
@@ -61,7 +63,8 @@ module _ {K : Type 0} (Is : List ℕ → HeldLine K → Type 0) (laws : Reads Is
   holds_less o u p _ low (empty_hand none) = empty_hand (λ s at_s. let less = none s at_s in omega arith)
 
   -- the first line may go, if it begins before o
-  next_holds : (o p : ℕ) (h : HeldLine K) (hs : Row (HeldLine K)) → p < o → IsBoundary Is B p → IsRow Is (drop p B) (h ∷ hs)
+  next_holds : (o p : ℕ) (h : HeldLine K) (hs : Row (HeldLine K)) → p < o → IsBoundary Is B p →
+      IsRow Is (drop p B) (h ∷ hs)
       → ((s : ℕ) → IsBoundary Is B s → o ≤ s → p ≤ s) → Holds Is B o (p + h.len) hs
   next_holds o p h _ lt at (last_line is e whole) least = empty_hand (λ s at_s.
       ⊎_elim (λ (less : s < o). less)
@@ -70,13 +73,17 @@ module _ {K : Type 0} (Is : List ℕ → HeldLine K → Type 0) (laws : Reads Is
       in_hand (behind at is e) (subst (λ T. IsRow Is T hs) (drop-drop h.len p B) row)
       (λ s at_s more. (gap Is laws B p s h at at_s (omega arith) is).1)
 
-  rest_holds : (o p : ℕ) (h : HeldLine K) (hs : Row (HeldLine K)) → p < o → Holds Is B o p (h ∷ hs) → Holds Is B o (p + h.len) hs
+  rest_holds : (o p : ℕ) (h : HeldLine K) (hs : Row (HeldLine K)) → p < o → Holds Is B o p (h ∷ hs) →
+      Holds Is B o (p + h.len) hs
   rest_holds o p h hs lt (in_hand at row least) = next_holds o p h hs lt at row least
 
-  found_at : (o p : ℕ) (h : HeldLine K) (hs : Row (HeldLine K)) → Holds Is B o p (h ∷ hs) → p ≡ o → IsBoundary Is B o × IsRow Is (drop o B) (h ∷ hs)
-  found_at o p h hs (in_hand at row least) same = subst (λ x. IsBoundary Is B x × IsRow Is (drop x B) (h ∷ hs)) same (at, row)
+  found_at : (o p : ℕ) (h : HeldLine K) (hs : Row (HeldLine K)) → Holds Is B o p (h ∷ hs) → p ≡ o → IsBoundary Is B o
+      × IsRow Is (drop o B) (h ∷ hs)
+  found_at o p h hs (in_hand at row least) same =
+      subst (λ x. IsBoundary Is B x × IsRow Is (drop x B) (h ∷ hs)) same (at, row)
 
-  found_none : (o p : ℕ) (hs : Row (HeldLine K)) → Holds Is B o p hs → Past o p hs → IsBoundary Is B o → (p ≡ o → hs ≡ []) → ⊥
+  found_none : (o p : ℕ) (hs : Row (HeldLine K)) → Holds Is B o p hs → Past o p hs → IsBoundary Is B o →
+      (p ≡ o → hs ≡ []) → ⊥
   found_none o p hs (in_hand at row least) past at_o none =
       let some = row_some Is (drop p B) hs row in
       let low = least o at_o (omega arith) in
@@ -94,8 +101,10 @@ module _ {K : Type 0} (Is : List ℕ → HeldLine K → Type 0) (laws : Reads Is
 
 -- ---- the window
 
-module _ {K : Type 0} (Is : List ℕ → HeldLine K → Type 0) (laws : Reads Is) (B U : List ℕ) (a e b : ℕ) (apart : Apart B U a e b) where
-  pub going_start : (w : ℕ) (hs : Row (HeldLine K)) → IsBoundary Is B w → w ≤ a → IsRow Is (drop w B) hs → Going Is B U a e b w [] w w hs
+module _ {K : Type 0} (Is : List ℕ → HeldLine K → Type 0) (laws : Reads Is) (B U : List ℕ) (a e b : ℕ)
+    (apart : Apart B U a e b) where
+  pub going_start : (w : ℕ) (hs : Row (HeldLine K)) → IsBoundary Is B w → w ≤ a → IsRow Is (drop w B) hs →
+      Going Is B U a e b w [] w w hs
   unfolding extent
   going_start w hs at low row =
       let before = apart.low in
@@ -110,7 +119,8 @@ module _ {K : Type 0} (Is : List ℕ → HeldLine K → Type 0) (laws : Reads Is
       }
 
   -- an old line that begins before the old place of q is passed
-  pub going_past : (w : ℕ) (read : Row (HeldLine K)) (q p : ℕ) (h : HeldLine K) (hs : Row (HeldLine K)) → Going Is B U a e b w read q p (h ∷ hs) → p < b + (q - e) → Going Is B U a e b w read q (p + h.len) hs
+  pub going_past : (w : ℕ) (read : Row (HeldLine K)) (q p : ℕ) (h : HeldLine K) (hs : Row (HeldLine K)) →
+      Going Is B U a e b w read q p (h ∷ hs) → p < b + (q - e) → Going Is B U a e b w read q (p + h.len) hs
   going_past w read q p h hs g lt = record {
     boundary = g.boundary;
     low = g.low;
@@ -120,22 +130,27 @@ module _ {K : Type 0} (Is : List ℕ → HeldLine K → Type 0) (laws : Reads Is
     hand = rest_holds Is laws B (b + (q - e)) p h hs lt g.hand;
   }
 
-  pub going_passed : (w : ℕ) (read : Row (HeldLine K)) (q p : ℕ) (hs : Row (HeldLine K)) (r : ℕ) (ks : Row (HeldLine K)) → Going Is B U a e b w read q p hs → Passes (b + (q - e)) p hs r ks → Going Is B U a e b w read q r ks
+  pub going_passed : (w : ℕ) (read : Row (HeldLine K)) (q p : ℕ) (hs : Row (HeldLine K)) (r : ℕ) (ks : Row (HeldLine K))
+      → Going Is B U a e b w read q p hs → Passes (b + (q - e)) p hs r ks → Going Is B U a e b w read q r ks
   going_passed w read q p hs _ _ g none_passed = g
-  going_passed w read q p _ r ks g (one_passed {h = h} {hs = hs} lt rest) = going_passed w read q (p + h.len) hs r ks (going_past w read q p h hs g lt) rest
+  going_passed w read q p _ r ks g (one_passed {h = h} {hs = hs} lt rest) =
+      going_passed w read q (p + h.len) hs r ks (going_past w read q p h hs g lt) rest
 
   -- then each shared boundary is behind the line at q, which ended
-  beyond : (w : ℕ) (read : Row (HeldLine K)) (q p : ℕ) (hs : Row (HeldLine K)) (l : HeldLine K) → Going Is B U a e b w read q p hs → Past (b + (q - e)) p hs → NotMet e b q p hs → Is (drop q U) l
+  beyond : (w : ℕ) (read : Row (HeldLine K)) (q p : ℕ) (hs : Row (HeldLine K)) (l : HeldLine K) →
+      Going Is B U a e b w read q p hs → Past (b + (q - e)) p hs → NotMet e b q p hs → Is (drop q U) l
       → (s : ℕ) → IsShared Is B U e b s → (l.ended ≡ true) × (q + l.len ≤ s)
   beyond w read q p hs l g past not_met is s m =
       let high = g.none s m in
       ⊎_elim (λ (same : q ≡ s).
       let here : IsShared Is B U e b q = subst (IsShared Is B U e b) (sym same) m in
       absurd (found_none Is laws B (b + (q - e)) p hs g.hand past here.there (λ is_there. not_met here.past is_there)))
-      (λ o. ⊎_elim (λ (lt : q < s). gap Is laws U q s l g.boundary m.here lt is) (λ (lt : s < q). absurd (omega arith)) o) (cases_order q s)
+      (λ o. ⊎_elim (λ (lt : q < s). gap Is laws U q s l g.boundary m.here lt is)
+      (λ (lt : s < q). absurd (omega arith)) o) (cases_order q s)
 
   -- a line that ended is read
-  pub going_on : (w : ℕ) (read : Row (HeldLine K)) (q p : ℕ) (hs : Row (HeldLine K)) (l : HeldLine K) → Going Is B U a e b w read q p hs → Past (b + (q - e)) p hs → NotMet e b q p hs
+  pub going_on : (w : ℕ) (read : Row (HeldLine K)) (q p : ℕ) (hs : Row (HeldLine K)) (l : HeldLine K) →
+      Going Is B U a e b w read q p hs → Past (b + (q - e)) p hs → NotMet e b q p hs
       → Is (drop q U) l → l.ended ≡ true → Going Is B U a e b w (read ++ l ∷ []) (q + l.len) p hs
   going_on w read q p hs l g past not_met is ended =
       let sum = g.sum in
@@ -150,7 +165,8 @@ module _ {K : Type 0} (Is : List ℕ → HeldLine K → Type 0) (laws : Reads Is
       }
 
   -- a shared boundary is met, and the old lines in hand are kept
-  pub going_met : (w : ℕ) (read : Row (HeldLine K)) (q p : ℕ) (h : HeldLine K) (hs : Row (HeldLine K)) → Going Is B U a e b w read q p (h ∷ hs) → e ≤ q → p ≡ b + (q - e)
+  pub going_met : (w : ℕ) (read : Row (HeldLine K)) (q p : ℕ) (h : HeldLine K) (hs : Row (HeldLine K)) →
+      Going Is B U a e b w read q p (h ∷ hs) → e ≤ q → p ≡ b + (q - e)
       → IsRow Is (drop w U) (read ++ h ∷ hs) × Ends Is B U e b (w + extent read)
   going_met w read q p h hs g past same =
       let there = found_at Is laws B (b + (q - e)) p h hs g.hand same in
@@ -161,26 +177,33 @@ module _ {K : Type 0} (Is : List ℕ → HeldLine K → Type 0) (laws : Reads Is
       )
 
   -- the last line is read
-  pub going_last : (w : ℕ) (read : Row (HeldLine K)) (q p : ℕ) (hs : Row (HeldLine K)) (l : HeldLine K) → Going Is B U a e b w read q p hs → Past (b + (q - e)) p hs → NotMet e b q p hs
-      → Is (drop q U) l → l.ended ≡ false → l.len ≡ length (drop q U) → IsRow Is (drop w U) (read ++ l ∷ []) × Ends Is B U e b (w + extent (read ++ l ∷ []))
+  pub going_last : (w : ℕ) (read : Row (HeldLine K)) (q p : ℕ) (hs : Row (HeldLine K)) (l : HeldLine K) →
+      Going Is B U a e b w read q p hs → Past (b + (q - e)) p hs → NotMet e b q p hs
+      → Is (drop q U) l → l.ended ≡ false → l.len ≡ length (drop q U) → IsRow Is (drop w U) (read ++ l ∷ [])
+      × Ends Is B U e b (w + extent (read ++ l ∷ []))
   going_last w read q p hs l g past not_met is not_ended whole =
       let sum = g.sum in
       let within = boundary_within Is laws U q g.boundary in (
         g.leads _ (last_line is not_ended whole),
-        never (omega (arith, sum, whole, within, extent_push read l, length-drop q U)) (λ s m. let ended = (beyond w read q p hs l g past not_met is s m).0 in absurd cc),
+        never (omega (arith, sum, whole, within, extent_push read l, length-drop q U))
+            (λ s m. let ended = (beyond w read q p hs l g past not_met is s m).0 in absurd cc),
       )
 
   -- so far no more was read than the window has
-  pub going_low : (w : ℕ) (read : Row (HeldLine K)) (q p : ℕ) (hs : Row (HeldLine K)) (t : ℕ) → Going Is B U a e b w read q p hs → Ends Is B U e b t → w + extent read ≤ t
+  pub going_low : (w : ℕ) (read : Row (HeldLine K)) (q p : ℕ) (hs : Row (HeldLine K)) (t : ℕ) →
+      Going Is B U a e b w read q p hs → Ends Is B U e b t → w + extent read ≤ t
   going_low w read q p hs t g (meets m least) = let sum = g.sum in let low = g.none t m in omega arith
-  going_low w read q p hs t g (never is none) = let sum = g.sum in let within = boundary_within Is laws U q g.boundary in omega arith
+  going_low w read q p hs t g (never is none) = let sum = g.sum in
+      let within = boundary_within Is laws U q g.boundary in omega arith
 
   -- ---- no sum is past the ends of the texts
 
-  pub hand_fits : (w : ℕ) (read : Row (HeldLine K)) (q p : ℕ) (h : HeldLine K) (hs : Row (HeldLine K)) → Going Is B U a e b w read q p (h ∷ hs) → p + h.len ≤ length B
+  pub hand_fits : (w : ℕ) (read : Row (HeldLine K)) (q p : ℕ) (h : HeldLine K) (hs : Row (HeldLine K)) →
+      Going Is B U a e b w read q p (h ∷ hs) → p + h.len ≤ length B
   hand_fits w read q p h hs g = hold_fits Is laws B (b + (q - e)) p h hs g.hand
 
-  pub place_fits : (w : ℕ) (read : Row (HeldLine K)) (q p : ℕ) (hs : Row (HeldLine K)) → Going Is B U a e b w read q p hs → q ≤ length U
+  pub place_fits : (w : ℕ) (read : Row (HeldLine K)) (q p : ℕ) (hs : Row (HeldLine K)) →
+      Going Is B U a e b w read q p hs → q ≤ length U
   place_fits w read q p hs g = boundary_within Is laws U q g.boundary
 
   pub old_place_fits : (q : ℕ) → b ≤ length B → q ≤ length U → b + (q - e) ≤ length B

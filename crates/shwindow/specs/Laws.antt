@@ -15,20 +15,24 @@ module _ {K : Type 0} (Is : List ℕ → HeldLine K → Type 0) where
   -- the lines from a shared boundary on are the old ones
   abbrev pub BehindStays : Type 0
   BehindStays = (B U : List ℕ) (a e b q : ℕ) → Apart B U a e b → IsShared Is B U e b q
-      → (drop q U ≡ drop (b + (q - e)) B) × ((hs : Row (HeldLine K)) → IsRow Is (drop (b + (q - e)) B) hs → IsRow Is (drop q U) hs)
+      → (drop q U ≡ drop (b + (q - e)) B)
+      × ((hs : Row (HeldLine K)) → IsRow Is (drop (b + (q - e)) B) hs → IsRow Is (drop q U) hs)
 
   -- the lines before the window are kept, whatever lines the new text has from there on
   abbrev pub FrontStays : Type 0
-  FrontStays = (B U : List ℕ) (a e b w : ℕ) → Apart B U a e b → Begins Is B a w → (kept : Row (HeldLine K)) (h : HeldLine K) (hs : Row (HeldLine K)) → IsRow Is B (kept ++ h ∷ hs) → extent kept ≡ w
+  FrontStays = (B U : List ℕ) (a e b w : ℕ) → Apart B U a e b → Begins Is B a w →
+      (kept : Row (HeldLine K)) (h : HeldLine K) (hs : Row (HeldLine K)) → IsRow Is B (kept ++ h ∷ hs) → extent kept ≡ w
       → (ms : Row (HeldLine K)) → IsRow Is (drop w U) ms → IsRow Is U (kept ++ ms)
 
   -- a text has one row, with all its bytes
   abbrev pub OneRow : Type 0
-  OneRow = (T : List ℕ) → ((hs ks : Row (HeldLine K)) → IsRow Is T hs → IsRow Is T ks → hs ≡ ks) × ((hs : Row (HeldLine K)) → IsRow Is T hs → extent hs ≡ length T)
+  OneRow = (T : List ℕ) → ((hs ks : Row (HeldLine K)) → IsRow Is T hs → IsRow Is T ks → hs ≡ ks)
+      × ((hs : Row (HeldLine K)) → IsRow Is T hs → extent hs ≡ length T)
 
   -- an edit has one window at most
   abbrev pub OneWindow : Type 0
-  OneWindow = (B U : List ℕ) (a e b w v t u : ℕ) → IsWindow Is B U a e b w t → IsWindow Is B U a e b v u → (w ≡ v) × (t ≡ u)
+  OneWindow = (B U : List ℕ) (a e b w v t u : ℕ) → IsWindow Is B U a e b w t → IsWindow Is B U a e b v u → (w ≡ v)
+      × (t ≡ u)
 
   -- and it has one, whatever the places are, where each text begins with a line
   abbrev pub SomeWindow : Type 0
@@ -45,5 +49,6 @@ module _ {K : Type 0} (Is : List ℕ → HeldLine K → Type 0) where
 
   -- in blocks, a line begins where the blocks before it end
   abbrev pub BlocksFind : Type 0
-  BlocksFind = (T : List ℕ) (js : Row (Row (HeldLine K))) (k : Row (HeldLine K)) (ks : Row (Row (HeldLine K))) → (k ≡ [] → ⊥) → IsRow Is T (in_one_row (js ++ k ∷ ks))
+  BlocksFind = (T : List ℕ) (js : Row (Row (HeldLine K))) (k : Row (HeldLine K)) (ks : Row (Row (HeldLine K))) →
+      (k ≡ [] → ⊥) → IsRow Is T (in_one_row (js ++ k ∷ ks))
       → IsBoundary Is T (extent (in_one_row js)) × IsRow Is (drop (extent (in_one_row js)) T) (in_one_row (k ∷ ks))

@@ -25,7 +25,8 @@ module _ {K : Type 0} (Is : List ℕ → HeldLine K → Type 0) where
   -- The lines of a text: lines that ended, and then one that did not, which reaches the end and may be empty.
   pub data IsRow : List ℕ → Row (HeldLine K) → Type 0 where
     last_line : {T : List ℕ} {h : HeldLine K} → Is T h → h.ended ≡ false → h.len ≡ length T → IsRow T (h ∷ [])
-    more_lines : {T : List ℕ} {h : HeldLine K} {hs : Row (HeldLine K)} → Is T h → h.ended ≡ true → IsRow (drop h.len T) hs → IsRow T (h ∷ hs)
+    more_lines : {T : List ℕ} {h : HeldLine K} {hs : Row (HeldLine K)} → Is T h → h.ended ≡ true →
+        IsRow (drop h.len T) hs → IsRow T (h ∷ hs)
 
   -- The boundaries of a text: 0, and the end of each line that begins at a boundary and ended.
   pub data IsBoundary (B : List ℕ) : ℕ → Type 0 where

@@ -9,7 +9,8 @@ use Rattle.shwindow.specs.declared.window.Window.{Window}
 
 -- An edit makes U of B; what stands before a stays. The old lines from w on, which is
 -- not behind a, are these.
-pub record IsBegun {K : Type 0} (Is : List ℕ → HeldLine K → Type 0) (B U : List ℕ) (a e b w : ℕ) (hs : Row (HeldLine K)) : Type 0 where
+pub record IsBegun {K : Type 0} (Is : List ℕ → HeldLine K → Type 0) (B U : List ℕ) (a e b w : ℕ)
+    (hs : Row (HeldLine K)) : Type 0 where
   pub apart : Apart B U a e b
   pub boundary : IsBoundary Is B w
   pub low : w ≤ a
@@ -21,4 +22,5 @@ read_of w = in_one_row w.lines.blocks.items ++ option_to_list w.last
 
 -- all lines of the new text from where the window begins
 abbrev pub lines_then : {K : Type 0} → Lines K → Window K → Row (HeldLine K)
-lines_then old w = in_one_row w.lines.blocks.items ++ (lines_from old.blocks.now.blocks.items w.upto ++ unwrap_or w.last old.last.now ∷ [])
+lines_then old w = in_one_row w.lines.blocks.items
+    ++ (lines_from old.blocks.now.blocks.items w.upto ++ unwrap_or w.last old.last.now ∷ [])

@@ -28,7 +28,8 @@ impl<K> Model for Block<K> {
 
     ghost view = { λ block. block.lines.items };
 
-    ghost invariant = { λ block. (block.len ≡ extent block.lines.items) × (0 < length block.lines.items) };
+    ghost invariant = { λ block. (block.len ≡ extent block.lines.items)
+        × (0 < length block.lines.items) };
 }
 
 impl<K: Drop> Block<K> {
@@ -116,7 +117,8 @@ impl<K: Drop> Block<K> {
         requires within { to ≤ length self.old }
         requires some { to - from < length self.old + vec_len new }
         requires fits { extent (take from self.old ++ (new.items ++ drop to self.old)) < 2 ^ 64 }
-        ensures ok { OnOk result (self.new ≡ take from self.old ++ (new.items ++ drop to self.old)) }
+        ensures ok { OnOk result
+            (self.new ≡ take from self.old ++ (new.items ++ drop to self.old)) }
         ensures err { OnErr result (self.new ≡ self.old) }
     {
         let gone = bytes_of(&self.lines[from..to]);
@@ -151,7 +153,8 @@ impl<K: Drop> Block<K> {
         ensures within { result.0 ≤ length self.now }
         ensures begin { result.1 ≡ begin + extent (take result.0 self.now) }
         ensures low { result.1 ≤ at }
-        ensures past { result.0 < length self.now → at < begin + extent (take (result.0 + 1) self.now) }
+        ensures past { result.0 < length self.now →
+            at < begin + extent (take (result.0 + 1) self.now) }
     {
         let mut begin = begin;
         'lines: for (index, line) in self.lines.iter().enumerate() {

@@ -33,7 +33,8 @@ impl<K: Drop> Blocks<K> {
     /// Adds a line at the end.
     pub(crate) fn push(&mut self, line: HeldLine<K>) -> Result<(), AllocError>
         requires { extent (in_one_row self.old.blocks.items) + line.len < 2 ^ 64 }
-        ensures { OnOk result (in_one_row self.new.blocks.items ≡ in_one_row self.old.blocks.items ++ line ∷ []) }
+        ensures { OnOk result (in_one_row self.new.blocks.items ≡ in_one_row self.old.blocks.items
+            ++ line ∷ []) }
     {
         if self.is_full() {
             let block = Block::new(self.alloc, line)?;
@@ -58,7 +59,8 @@ impl<K: Drop> Blocks<K> {
     /// The line at a place; none behind all of them.
     pub(crate) fn line(&self, place: Place) -> Option<&HeldLine<K>>
         requires { IsPlace self.now.blocks.items place }
-        ensures { option_map (λ line. line.now) result ≡ first_of (lines_from self.now.blocks.items place) }
+        ensures { option_map (λ line. line.now) result
+            ≡ first_of (lines_from self.now.blocks.items place) }
     {
         if place.block == self.blocks.len() {
             return None;
@@ -74,7 +76,9 @@ impl<K: Drop> Blocks<K> {
         requires within { place.block < vec_len self.now.blocks }
         ensures place { IsPlace self.now.blocks.items result }
         ensures order { IsNotBehind place result }
-        ensures rest { (line : HeldLine K) × (lines_from self.now.blocks.items place ≡ line ∷ lines_from self.now.blocks.items result) }
+        ensures rest { (line : HeldLine K)
+            × (lines_from self.now.blocks.items place ≡ line
+            ∷ lines_from self.now.blocks.items result) }
     {
         let block = &self.blocks[place.block];
         let last = block.lines().len() - 1;
@@ -134,7 +138,8 @@ impl<K: Drop> Blocks<K> {
         ensures place { IsPlace self.now.blocks.items result.0 }
         ensures begin { result.1 ≡ extent (lines_before self.now.blocks.items result.0) }
         ensures low { result.1 ≤ at }
-        ensures past { (line : HeldLine K) (lines : Row (HeldLine K)) → lines_from self.now.blocks.items result.0 ≡ line ∷ lines →
+        ensures past { (line : HeldLine K) (lines : Row (HeldLine K)) →
+            lines_from self.now.blocks.items result.0 ≡ line ∷ lines →
             at < result.1 + line.len }
     {
         let mut begin = 0;
@@ -152,11 +157,20 @@ impl<K: Drop> Blocks<K> {
     /// that begins there. No line changes.
     pub(crate) fn cut(&mut self, place: Place) -> Result<usize, AllocError>
         requires { IsPlace self.old.blocks.items place }
-        ensures before { IfOk result (λ n. in_one_row (take n self.new.blocks.items) ≡ lines_before self.old.blocks.items place) }
-        ensures from { IfOk result (λ n. in_one_row (drop n self.new.blocks.items) ≡ lines_from self.old.blocks.items place) }
-        ensures front { OnOk result (take place.block self.new.blocks.items ≡ take place.block self.old.blocks.items) }
-        ensures order { IfOk result (λ n. (place.block ≤ n) × (n ≤ vec_len self.new.blocks) × (0 < place.line → n ≡ place.block + 1)) }
-        ensures head { OnOk result (take place.line (block_at self.new.blocks.items place.block) ≡ take place.line (block_at self.old.blocks.items place.block)) }
+        ensures before { IfOk result
+            (λ n. in_one_row (take n self.new.blocks.items)
+            ≡ lines_before self.old.blocks.items place) }
+        ensures from { IfOk result
+            (λ n. in_one_row (drop n self.new.blocks.items)
+            ≡ lines_from self.old.blocks.items place) }
+        ensures front { OnOk result
+            (take place.block self.new.blocks.items ≡ take place.block self.old.blocks.items) }
+        ensures order { IfOk result
+            (λ n. (place.block ≤ n) × (n ≤ vec_len self.new.blocks)
+            × (0 < place.line → n ≡ place.block + 1)) }
+        ensures head { OnOk result
+            (take place.line (block_at self.new.blocks.items place.block)
+            ≡ take place.line (block_at self.old.blocks.items place.block)) }
         ensures err { OnErr result (self.new.blocks.items ≡ self.old.blocks.items) }
     {
         if place.line == 0 {

@@ -32,7 +32,8 @@ impl<K> Model for HeldLines<K> {
 
     ghost view = { λ held. in_one_row held.blocks.blocks.items ++ held.last ∷ [] };
 
-    ghost invariant = { λ held. extent (in_one_row held.blocks.blocks.items ++ held.last ∷ []) < 2 ^ 64 };
+    ghost invariant = { λ held. extent
+        (in_one_row held.blocks.blocks.items ++ held.last ∷ []) < 2 ^ 64 };
 }
 
 impl<K: Drop> HeldLines<K> {
@@ -47,8 +48,10 @@ impl<K: Drop> HeldLines<K> {
         ensures row { IfOk result (λ held.
             IsRow (R.is_line (R.setting reader.old)) (S.bytes source.now) held) }
         ensures setting { R.setting reader.new ≡ R.setting reader.old }
-        ensures meter { OnOk result (R.meter reader.new ≡ risen (R.meter reader.old) (length (S.bytes source.now))) }
-        ensures err { OnErr result (RoseWithin (length (S.bytes source.now)) (R.meter reader.old) (R.meter reader.new)) }
+        ensures meter { OnOk result
+            (R.meter reader.new ≡ risen (R.meter reader.old) (length (S.bytes source.now))) }
+        ensures err { OnErr result
+            (RoseWithin (length (S.bytes source.now)) (R.meter reader.old) (R.meter reader.new)) }
         ensures empty { length (S.bytes source.now) ≡ 0 → IsOk result }
     {
         let mut blocks = Blocks::new(alloc);

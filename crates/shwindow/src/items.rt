@@ -14,7 +14,8 @@ pub(crate) fn exchange<T: Drop>(
 ) -> Result<(), AllocError>
     requires order { from ≤ to }
     requires within { to ≤ vec_len of.old }
-    ensures ok { OnOk result (of.new.items ≡ take from of.old.items ++ (new.items ++ drop to of.old.items)) }
+    ensures ok { OnOk result
+        (of.new.items ≡ take from of.old.items ++ (new.items ++ drop to of.old.items)) }
     ensures err { OnErr result (of.new.items ≡ of.old.items) }
     ensures free { vec_len new ≡ to - from → IsOk result }
 {

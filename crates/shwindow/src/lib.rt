@@ -32,13 +32,21 @@ pub use lines::Lines;
 
 /// The laws of held lines, over any reader of lines, which are of some kind.
 pub fn held_lines<K>()
-    ensures before { (line : List ℕ → HeldLine K) → Reads (IsLineOf line) → BeforeStays (IsLineOf line) }
-    ensures behind { (line : List ℕ → HeldLine K) → Reads (IsLineOf line) → BehindStays (IsLineOf line) }
-    ensures front { (line : List ℕ → HeldLine K) → Reads (IsLineOf line) → FrontStays (IsLineOf line) }
+    ensures before { (line : List ℕ → HeldLine K) → Reads (IsLineOf line) →
+        BeforeStays (IsLineOf line) }
+    ensures behind { (line : List ℕ → HeldLine K) → Reads (IsLineOf line) →
+        BehindStays (IsLineOf line) }
+    ensures front { (line : List ℕ → HeldLine K) → Reads (IsLineOf line) →
+        FrontStays (IsLineOf line) }
     ensures row { (line : List ℕ → HeldLine K) → Reads (IsLineOf line) → OneRow (IsLineOf line) }
-    ensures window { (line : List ℕ → HeldLine K) → Reads (IsLineOf line) → OneWindow (IsLineOf line) }
-    ensures some { (line : List ℕ → HeldLine K) → Reads (IsLineOf line) → SomeWindow (IsLineOf line) }
-    ensures order { (line : List ℕ → HeldLine K) → Reads (IsLineOf line) → WindowOrder (IsLineOf line) }
-    ensures splices { (line : List ℕ → HeldLine K) → Reads (IsLineOf line) → Splices (IsLineOf line) }
-    ensures blocks { (line : List ℕ → HeldLine K) → Reads (IsLineOf line) → BlocksFind (IsLineOf line) }
+    ensures window { (line : List ℕ → HeldLine K) → Reads (IsLineOf line) →
+        OneWindow (IsLineOf line) }
+    ensures some { (line : List ℕ → HeldLine K) → Reads (IsLineOf line) →
+        SomeWindow (IsLineOf line) }
+    ensures order { (line : List ℕ → HeldLine K) → Reads (IsLineOf line) →
+        WindowOrder (IsLineOf line) }
+    ensures splices { (line : List ℕ → HeldLine K) → Reads (IsLineOf line) →
+        Splices (IsLineOf line) }
+    ensures blocks { (line : List ℕ → HeldLine K) → Reads (IsLineOf line) →
+        BlocksFind (IsLineOf line) }
 {}

@@ -43,7 +43,8 @@ pub trait LineReader<K> {
         ensures line { IfOk result (λ line.
             is_line (setting self.old) (drop at (S.bytes source.now)) line) }
         ensures within { IfOk result (λ line. at + line.len ≤ length (S.bytes source.now)) }
-        ensures whole { IfOk result (λ line. line.ended ≡ false → at + line.len ≡ length (S.bytes source.now)) }
+        ensures whole { IfOk result
+            (λ line. line.ended ≡ false → at + line.len ≡ length (S.bytes source.now)) }
         ensures fits { IfOk result (λ line. at + line.len < 2 ^ 64) }
         ensures setting { setting self.new ≡ setting self.old }
         ensures meter { IfOk result (λ line. meter self.new ≡ risen (meter self.old) line.len) }

@@ -25,7 +25,8 @@ impl<'a, K: Drop> Lines<'a, K> {
     /// The lines from a place on, and then the last one.
     pub(crate) fn new(blocks: &'a Blocks<K>, last: &'a HeldLine<K>, place: Place) -> Lines<'a, K>
         requires { IsPlace blocks.now.blocks.items place }
-        ensures left { lines_left result ≡ lines_from blocks.now.blocks.items place ++ last.now ∷ [] }
+        ensures left { lines_left result ≡ lines_from blocks.now.blocks.items place ++ last.now
+            ∷ [] }
         ensures blocks { result.blocks.now ≡ blocks.now }
         ensures last { result.last.now ≡ last.now }
         ensures place { result.place ≡ place }

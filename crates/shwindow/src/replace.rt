@@ -21,10 +21,13 @@ impl<K: Drop> Blocks<K> {
         requires from { IsPlace self.old.blocks.items from }
         requires upto { IsPlace self.old.blocks.items upto }
         requires order { IsNotBehind from upto }
-        requires fits { extent (lines_before self.old.blocks.items from ++ (in_one_row new.blocks.items ++ lines_from self.old.blocks.items upto)) < 2 ^ 64 }
+        requires fits { extent (lines_before self.old.blocks.items from
+            ++ (in_one_row new.blocks.items ++ lines_from self.old.blocks.items upto)) < 2 ^ 64 }
         ensures ok { OnOk result (in_one_row self.new.blocks.items ≡
-            lines_before self.old.blocks.items from ++ (in_one_row new.blocks.items ++ lines_from self.old.blocks.items upto)) }
-        ensures err { OnErr result (in_one_row self.new.blocks.items ≡ in_one_row self.old.blocks.items) }
+            lines_before self.old.blocks.items from
+            ++ (in_one_row new.blocks.items ++ lines_from self.old.blocks.items upto)) }
+        ensures err { OnErr result
+            (in_one_row self.new.blocks.items ≡ in_one_row self.old.blocks.items) }
     {
         if let Some(to) = self.end_by_count(from, upto, &new) {
             return self.replace_in_block(from, to, new);
@@ -40,7 +43,9 @@ impl<K: Drop> Blocks<K> {
         requires upto { IsPlace self.now.blocks.items upto }
         requires order { IsNotBehind from upto }
         ensures gives { IfSome result (λ to. GivesWay self.now.blocks.items from to) }
-        ensures rest { IfSome result (λ to. lines_from self.now.blocks.items (in_block from to) ≡ lines_from self.now.blocks.items upto) }
+        ensures rest { IfSome result
+            (λ to. lines_from self.now.blocks.items (in_block from to)
+            ≡ lines_from self.now.blocks.items upto) }
     {
         if from.block == self.blocks.len() {
             return None;
@@ -60,9 +65,13 @@ impl<K: Drop> Blocks<K> {
         requires upto { IsPlace self.now.blocks.items upto }
         requires order { IsNotBehind from upto }
         ensures gives { IfSome result (λ to. GivesWay self.now.blocks.items from to) }
-        ensures rest { IfSome result (λ to. lines_from self.now.blocks.items (in_block from to) ≡ lines_from self.now.blocks.items upto) }
+        ensures rest { IfSome result
+            (λ to. lines_from self.now.blocks.items (in_block from to)
+            ≡ lines_from self.now.blocks.items upto) }
         ensures few { IfSome result (λ _. vec_len new.now.blocks ≤ 1) }
-        ensures some { IfSome result (λ to. to - from.line < length (block_at self.now.blocks.items from.block) + length (in_one_row new.now.blocks.items)) }
+        ensures some { IfSome result
+            (λ to. to - from.line < length (block_at self.now.blocks.items from.block) + length
+            (in_one_row new.now.blocks.items)) }
     {
         let count = new.few()?;
         let to = self.end_in_block(from, upto)?;
@@ -82,11 +91,17 @@ impl<K: Drop> Blocks<K> {
     fn replace_in_block(&mut self, from: Place, to: usize, new: Blocks<K>) -> Result<(), AllocError>
         requires gives { GivesWay self.old.blocks.items from to }
         requires few { vec_len new.blocks ≤ 1 }
-        requires some { to - from.line < length (block_at self.old.blocks.items from.block) + length (in_one_row new.blocks.items) }
-        requires fits { extent (lines_before self.old.blocks.items from ++ (in_one_row new.blocks.items ++ lines_from self.old.blocks.items (in_block from to))) < 2 ^ 64 }
+        requires some { to - from.line < length (block_at self.old.blocks.items from.block) + length
+            (in_one_row new.blocks.items) }
+        requires fits { extent (lines_before self.old.blocks.items from
+            ++ (in_one_row new.blocks.items ++ lines_from self.old.blocks.items (in_block from to)))
+            < 2 ^ 64 }
         ensures ok { OnOk result (in_one_row self.new.blocks.items ≡
-            lines_before self.old.blocks.items from ++ (in_one_row new.blocks.items ++ lines_from self.old.blocks.items (in_block from to))) }
-        ensures err { OnErr result (in_one_row self.new.blocks.items ≡ in_one_row self.old.blocks.items) }
+            lines_before self.old.blocks.items from
+            ++ (in_one_row new.blocks.items
+            ++ lines_from self.old.blocks.items (in_block from to))) }
+        ensures err { OnErr result
+            (in_one_row self.new.blocks.items ≡ in_one_row self.old.blocks.items) }
     {
         let lines = new.into_lines();
         let is_fewer = lines.len() < to - from.line;
@@ -104,10 +119,14 @@ impl<K: Drop> Blocks<K> {
     fn replace_from(&mut self, from: Place, to: usize, new: Blocks<K>) -> Result<(), AllocError>
         requires order { from.block ≤ to }
         requires within { to ≤ vec_len self.old.blocks }
-        requires kept { 0 < from.line → (from.block < to) × (from.line ≤ length (block_at self.old.blocks.items from.block)) }
-        requires fits { extent (lines_before self.old.blocks.items from ++ (in_one_row new.blocks.items ++ in_one_row (drop to self.old.blocks.items))) < 2 ^ 64 }
+        requires kept { 0 < from.line → (from.block < to)
+            × (from.line ≤ length (block_at self.old.blocks.items from.block)) }
+        requires fits { extent (lines_before self.old.blocks.items from
+            ++ (in_one_row new.blocks.items ++ in_one_row (drop to self.old.blocks.items))) < 2 ^
+            64 }
         ensures ok { OnOk result (in_one_row self.new.blocks.items ≡
-            lines_before self.old.blocks.items from ++ (in_one_row new.blocks.items ++ in_one_row (drop to self.old.blocks.items))) }
+            lines_before self.old.blocks.items from
+            ++ (in_one_row new.blocks.items ++ in_one_row (drop to self.old.blocks.items))) }
         ensures err { OnErr result (self.new.blocks.items ≡ self.old.blocks.items) }
     {
         self.blocks.reserve(new.blocks.len())?;
@@ -128,9 +147,11 @@ impl<K: Drop> Blocks<K> {
     fn keep_before(&mut self, place: Place, to: usize) -> usize
         requires order { place.block ≤ to }
         requires within { to ≤ vec_len self.old.blocks }
-        requires kept { 0 < place.line → (place.block < to) × (place.line ≤ length (block_at self.old.blocks.items place.block)) }
+        requires kept { 0 < place.line → (place.block < to)
+            × (place.line ≤ length (block_at self.old.blocks.items place.block)) }
         ensures order { result ≤ to }
-        ensures before { in_one_row (take result self.new.blocks.items) ≡ lines_before self.old.blocks.items place }
+        ensures before { in_one_row (take result self.new.blocks.items)
+            ≡ lines_before self.old.blocks.items place }
         ensures rest { drop to self.new.blocks.items ≡ drop to self.old.blocks.items }
         ensures len { vec_len self.new.blocks ≡ vec_len self.old.blocks }
         ensures room { vec_capacity self.new.blocks ≡ vec_capacity self.old.blocks }

@@ -38,7 +38,8 @@ impl<'a, K: Drop> Hand<'a, K> {
     /// Passes the old lines that begin before an offset.
     fn pass(&mut self, at: usize)
         requires { self.old.begin + extent (lines_left self.old.lines) < 2 ^ 64 }
-        ensures passes { Passes at self.old.begin (lines_left self.old.lines) self.new.begin (lines_left self.new.lines) }
+        ensures passes { Passes at self.old.begin (lines_left self.old.lines) self.new.begin
+            (lines_left self.new.lines) }
         ensures past { (lines_left self.new.lines ≡ [] → ⊥) → at ≤ self.new.begin }
         ensures blocks { self.new.lines.blocks ≡ self.old.lines.blocks }
         ensures last { self.new.lines.last ≡ self.old.lines.last }
@@ -56,8 +57,11 @@ impl<'a, K: Drop> Hand<'a, K> {
     /// an old line begins at its old place.
     fn meets(&self, at: usize, end: usize, old_at: usize) -> bool
         ensures met { result ≡ true → (end ≤ at) × (self.now.begin ≡ old_at) ×
-            (lines_left self.now.lines ≡ lines_from self.now.lines.blocks.now.blocks.items self.now.lines.place ++ self.now.lines.last.now ∷ []) }
-        ensures not_met { result ≡ false → end ≤ at → self.now.begin ≡ old_at → lines_left self.now.lines ≡ [] }
+            (lines_left self.now.lines
+            ≡ lines_from self.now.lines.blocks.now.blocks.items self.now.lines.place
+            ++ self.now.lines.last.now ∷ []) }
+        ensures not_met { result ≡ false → end ≤ at → self.now.begin ≡ old_at →
+            lines_left self.now.lines ≡ [] }
     {
         if self.lines.past {
             return false;
@@ -94,7 +98,8 @@ pub(crate) fn read_window<K: Drop, R: LineReader<K>, S: Source>(
         Ends (R.is_line (R.setting reader.old)) B (S.bytes source.now)
         end old_end (begin + extent (read_of w))) }
     ensures setting { R.setting reader.new ≡ R.setting reader.old }
-    ensures meter { IfOk result (λ w. R.meter reader.new ≡ risen (R.meter reader.old) (extent (read_of w))) }
+    ensures meter { IfOk result
+        (λ w. R.meter reader.new ≡ risen (R.meter reader.old) (extent (read_of w))) }
     ensures rises { R.meter reader.old ≤ R.meter reader.new }
     ensures err { OnErr result ((B : List ℕ) (a t : ℕ) →
         IsBegun (R.is_line (R.setting reader.old)) B (S.bytes source.now)

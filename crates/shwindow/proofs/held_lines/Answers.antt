@@ -10,13 +10,23 @@ use Rattle.shwindow.proofs.held_lines.Goals as goal
 
 pub returns : goal.returns
 returns g c = record {
-  before = λ line laws B U a e b s apart at low. (boundary_stays (IsLineOf line) laws B U a apart.front s at low, λ l is ended high. line_stays (IsLineOf line) laws B U a apart.front s l is ended high);
-  behind = λ line laws B U a e b q apart m. (shared_text (IsLineOf line) laws B U a e b apart q m, λ hs row. shared_rows (IsLineOf line) laws B U a e b apart q hs m row);
+  before = λ line laws B U a e b s apart at low. (
+    boundary_stays (IsLineOf line) laws B U a apart.front s at low,
+    λ l is ended high. line_stays (IsLineOf line) laws B U a apart.front s l is ended high,
+  );
+  behind = λ line laws B U a e b q apart m. (
+    shared_text (IsLineOf line) laws B U a e b apart q m,
+    λ hs row. shared_rows (IsLineOf line) laws B U a e b apart q hs m row,
+  );
   front = λ line laws B U a e b w apart begins kept h hs row sum ms rows.
       let low = begins.low in
       let here : 0 + extent kept ≡ w = omega (arith, sum) in
-      front_stays (IsLineOf line) laws B U a e b apart 0 kept h hs ms row (omega (arith, sum, low)) (subst (λ x. IsRow (IsLineOf line) (drop x U) ms) (sym here) rows);
-  row = λ line laws T. (λ hs ks x y. row_only (IsLineOf line) laws T hs ks x y, λ hs x. row_extent (IsLineOf line) laws T hs x);
+      front_stays (IsLineOf line) laws B U a e b apart 0 kept h hs ms row (omega (arith, sum, low))
+      (subst (λ x. IsRow (IsLineOf line) (drop x U) ms) (sym here) rows);
+  row = λ line laws T. (
+    λ hs ks x y. row_only (IsLineOf line) laws T hs ks x y,
+    λ hs x. row_extent (IsLineOf line) laws T hs x,
+  );
   window = λ line laws B U a e b w v t u x y. window_only (IsLineOf line) B U a e b w v t u x y;
   some = λ line laws B U a e b. some_window (IsLineOf line) laws (λ T. (line T, refl)) B U a e b;
   order = λ line laws B U a e b w t apart x. window_order (IsLineOf line) laws B U a e b apart w t x;

@@ -7,7 +7,9 @@ use Rattle.shwindow.proofs.block.Block.keep.Goals as goal
 use Rattle.shwindow.proofs.block.Block.keep.Goals.{After-deref}
 
 -- the bytes of the lines that go
-gone : (g : Over) (c : After-deref g) → extent (take (length c.deref.result.now - c.args.count) (drop c.args.count c.deref.result.now)) ≤ extent (drop c.args.count c.self.inside.lines.items)
+gone : (g : Over) (c : After-deref g) →
+    extent (take (length c.deref.result.now - c.args.count) (drop c.args.count c.deref.result.now)) ≤ extent
+    (drop c.args.count c.self.inside.lines.items)
 gone g c =
     let lines = c.self.inside.lines.items in
     let count = c.args.count in
@@ -24,7 +26,13 @@ pub overflow_sub-self : goal.overflow_sub-self
 overflow_sub-self g c =
     let lines = c.self.inside.lines.items in
     let sum = c.self.invariant.0 in
-    omega (arith, gone g (goal.at.overflow_sub-self g c).After-deref, sum, c.bytes_of-gone.ensures, extent_split c.args.count lines)
+    omega (
+      arith,
+      gone g (goal.at.overflow_sub-self g c).After-deref,
+      sum,
+      c.bytes_of-gone.ensures,
+      extent_split c.args.count lines,
+    )
 
 pub invariant_of-self : goal.invariant_of-self
 invariant_of-self g c =
@@ -36,6 +44,15 @@ invariant_of-self g c =
     let kept = ap extent c.truncate.ensures.items in
     let all : count ≤ length lines = omega (arith, within, c.requires.within) in
     let some = ap length c.truncate.ensures.items in (
-      omega (arith, sum, same, kept, c.bytes_of-gone.ensures, extent_slice count (length lines) lines all, extent_split count lines, extent_past (length lines) lines (omega arith)),
+      omega (
+        arith,
+        sum,
+        same,
+        kept,
+        c.bytes_of-gone.ensures,
+        extent_slice count (length lines) lines all,
+        extent_split count lines,
+        extent_past (length lines) lines (omega arith),
+      ),
       omega (arith, some, length-take-le count lines all),
     )

@@ -6,7 +6,10 @@ use Rattle.shwindow.proofs.block.Block.replace.Goals as goal
 use Rattle.shwindow.proofs.block.Block.replace.Goals.{After-bytes_of-gone, After-deref}
 
 -- the bytes of the lines that stay, and of those that go
-parts : (g : Over) (c : After-deref g) → extent (take c.args.from c.self.inside.lines.items) + (extent (take (c.args.to - c.args.from) (drop c.args.from c.deref.result.now)) + extent (drop c.args.to c.self.inside.lines.items)) ≡ c.self.inside.len
+parts : (g : Over) (c : After-deref g) →
+    extent (take c.args.from c.self.inside.lines.items) +
+    (extent (take (c.args.to - c.args.from) (drop c.args.from c.deref.result.now)) + extent
+    (drop c.args.to c.self.inside.lines.items)) ≡ c.self.inside.len
 parts g c =
     let lines = c.self.inside.lines.items in
     let same = ap (λ x. extent (take (c.args.to - c.args.from) (drop c.args.from x))) c.deref.ensures.value in
@@ -14,7 +17,9 @@ parts g c =
     omega (arith, same, sum, extent_slice c.args.from c.args.to lines c.requires.order)
 
 -- and of those that stay and come
-then_fits : (g : Over) (c : After-deref g) → extent (take c.args.from c.self.inside.lines.items) + (extent c.args.new.items + extent (drop c.args.to c.self.inside.lines.items)) < 2 ^ 64
+then_fits : (g : Over) (c : After-deref g) →
+    extent (take c.args.from c.self.inside.lines.items) +
+    (extent c.args.new.items + extent (drop c.args.to c.self.inside.lines.items)) < 2 ^ 64
 then_fits g c =
     let lines = c.self.inside.lines.items in
     let same = ap (λ x. extent (take c.args.from x ++ (c.args.new.items ++ drop c.args.to x))) c.self.view_is in
@@ -46,7 +51,16 @@ invariant_of-self-2 g c =
     let within = ap length c.self.view_is in
     let ok = c.args.new.ok in
     let high : c.args.to ≤ length lines = omega (arith, within, c.requires.within) in
-    let some : c.args.to - c.args.from < length lines + length c.args.new.items = omega (arith, within, c.requires.some) in (
-      omega (arith, same, all, c.bytes_of-gone.ensures, c.bytes_of-come.ensures, parts g (goal.at.invariant_of-self-2 g c).After-deref, extent_between c.args.from c.args.to lines c.args.new.items),
+    let some : c.args.to - c.args.from < length lines + length c.args.new.items =
+    omega (arith, within, c.requires.some) in (
+      omega (
+        arith,
+        same,
+        all,
+        c.bytes_of-gone.ensures,
+        c.bytes_of-come.ensures,
+        parts g (goal.at.invariant_of-self-2 g c).After-deref,
+        extent_between c.args.from c.args.to lines c.args.new.items,
+      ),
       omega (arith, count, some_between c.args.from c.args.to lines c.args.new.items c.requires.order high some),
     )

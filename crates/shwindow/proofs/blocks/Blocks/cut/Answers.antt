@@ -7,7 +7,9 @@ pub returns-then-place-eq0-clause-from : goal.returns-then-place-eq0-clause-from
 returns-then-place-eq0-clause-from g c =
     let blocks = c.args.self.now.blocks.items in
     let place = c.args.place in
-    joined_at place.block blocks ∙ ap (λ n. drop n (block_at blocks place.block) ++ in_one_row (drop (place.block + 1) blocks)) (sym c.if-place-eq0.true)
+    joined_at place.block blocks ∙ ap
+    (λ n. drop n (block_at blocks place.block) ++ in_one_row (drop (place.block + 1) blocks))
+    (sym c.if-place-eq0.true)
 
 pub returns-clause-before : goal.returns-clause-before
 returns-clause-before g c =
@@ -16,7 +18,8 @@ returns-clause-before g c =
     let n = place.block in
     let room = c.reserve.ensures.items in
     let low = place_block blocks place c.requires (omega arith) in
-    let read = block_read_of blocks n c.reserve.new.self.items c.index_mut-block.result.now room (omega (arith, ap length room, low)) c.index_mut-block.ensures.value in
+    let read = block_read_of blocks n c.reserve.new.self.items c.index_mut-block.result.now room
+    (omega (arith, ap length room, low)) c.index_mut-block.ensures.value in
     let k = c.cut.new.self in
     let l = c.in_ok-behind.behind in
     let before = c.in_ok-behind.ensures.kept ∙ ap (take place.line) read.1 in
@@ -31,7 +34,8 @@ returns-clause-from g c =
     let n = place.block in
     let room = c.reserve.ensures.items in
     let low = place_block blocks place c.requires (omega arith) in
-    let read = block_read_of blocks n c.reserve.new.self.items c.index_mut-block.result.now room (omega (arith, ap length room, low)) c.index_mut-block.ensures.value in
+    let read = block_read_of blocks n c.reserve.new.self.items c.index_mut-block.result.now room
+    (omega (arith, ap length room, low)) c.index_mut-block.ensures.value in
     let k = c.cut.new.self in
     let l = c.in_ok-behind.behind in
     let before = c.in_ok-behind.ensures.kept ∙ ap (take place.line) read.1 in

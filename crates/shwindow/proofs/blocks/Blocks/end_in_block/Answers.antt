@@ -10,7 +10,8 @@ returns-clause-rest g c =
     let from = c.args.from in
     let upto = c.args.upto in
     let within : from.block < length blocks.items = omega arith in
-    let count = ap length (c.lines.ensures.lines ∙ block_read blocks.items from.block c.index.result.now within c.index.ensures) in
+    let count = ap length (c.lines.ensures.lines
+    ∙ block_read blocks.items from.block c.index.result.now within c.index.ensures) in
     let next : upto.block ≡ from.block + 1 = omega arith in
     let first : upto.line ≡ 0 = omega arith in
     from_next blocks.items from upto (length c.lines.result.now) next first count

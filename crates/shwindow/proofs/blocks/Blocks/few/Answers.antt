@@ -15,4 +15,5 @@ returns-in-1-clause-count g c =
     let ok = blocks.ok in
     let one : length blocks.items ≡ 1 = omega (arith, c.in-1.is, c.len.ensures) in
     let within : 0 < length blocks.items = omega arith in
-    ap length (c.lines.ensures.lines ∙ block_read blocks.items 0 c.index.result.now within c.index.ensures ∙ sym (joined_single blocks.items one))
+    ap length (c.lines.ensures.lines ∙ block_read blocks.items 0 c.index.result.now within c.index.ensures
+    ∙ sym (joined_single blocks.items one))

@@ -6,7 +6,8 @@ pub returns-in-Some : goal.returns-in-Some
 returns-in-Some g c =
     let ok = c.args.self.blocks.ok in
     let few : length c.args.self.blocks.items ≤ 1 = omega (arith, c.requires) in
-    c.into_lines.ensures ∙ sym (joined_one c.args.self.blocks.items c.pop.new.self.items c.in-Some.block c.in-Some.ensures.items few)
+    c.into_lines.ensures ∙ sym (joined_one c.args.self.blocks.items c.pop.new.self.items c.in-Some.block
+    c.in-Some.ensures.items few)
 
 pub returns : goal.returns
 returns g c =

@@ -34,7 +34,8 @@ returns-in-None g c =
     record {
       before = lines_before blocks place;
       behind = [];
-      row = sym c.self.view_is ∙ by_last blocks place held.last (first_none (lines_from blocks place) c.in-None.ensures);
+      row = sym c.self.view_is ∙ by_last blocks place held.last
+          (first_none (lines_from blocks place) c.in-None.ensures);
       begins = c.find-begin.ensures.begin;
       low = c.find-begin.ensures.low;
       past = λ some. absurd (some refl);

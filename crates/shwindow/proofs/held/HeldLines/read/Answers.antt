@@ -7,7 +7,10 @@ use Rattle.shwindow.proofs.held.HeldLines.read.Goals as goal
 
 pub lines-init : goal.lines-init
 lines-init g c = record {
-  at = subst (λ read. AtRow (g.R.LineReader.is_line (g.R.LineReader.setting c.args.reader.now)) (g.S.Source.bytes c.args.source.now) read 0) (sym c.new-blocks.ensures) (row_start (g.R.LineReader.is_line (g.R.LineReader.setting c.args.reader.now)) (g.S.Source.bytes c.args.source.now));
+  at = subst (λ read. AtRow (g.R.LineReader.is_line (g.R.LineReader.setting c.args.reader.now))
+      (g.S.Source.bytes c.args.source.now) read 0) (sym c.new-blocks.ensures)
+      (row_start (g.R.LineReader.is_line (g.R.LineReader.setting c.args.reader.now))
+      (g.S.Source.bytes c.args.source.now));
   setting = refl;
   meter = sym (risen_none (g.R.LineReader.meter c.args.reader.now));
 }
@@ -21,8 +24,11 @@ invariant_of-result g c =
 pub returns-then-not-line-clause-row : goal.returns-then-not-line-clause-row
 returns-then-not-line-clause-row g c =
     let is = c.in_ok-line.ensures in
-    let line = subst (λ s. g.R.LineReader.is_line s (drop c.lines.at (g.S.Source.bytes c.args.source.now)) c.in_ok-line.line) c.lines.invariant.setting is.line in
-    row_done (g.R.LineReader.is_line (g.R.LineReader.setting c.args.reader.now)) (g.S.Source.bytes c.args.source.now) (in_one_row c.lines.blocks.blocks.items) c.lines.at c.in_ok-line.line c.lines.invariant.at line c.if-not-line.true (is.whole c.if-not-line.true)
+    let line = subst (λ s. g.R.LineReader.is_line s
+    (drop c.lines.at (g.S.Source.bytes c.args.source.now)) c.in_ok-line.line) c.lines.invariant.setting is.line in
+    row_done (g.R.LineReader.is_line (g.R.LineReader.setting c.args.reader.now)) (g.S.Source.bytes c.args.source.now)
+    (in_one_row c.lines.blocks.blocks.items) c.lines.at c.in_ok-line.line c.lines.invariant.at line
+    c.if-not-line.true (is.whole c.if-not-line.true)
 
 pub lines-preserved : goal.lines-preserved
 lines-preserved g c =
@@ -30,9 +36,13 @@ lines-preserved g c =
     let line = c.in_ok-line.line in
     let text = g.S.Source.bytes c.args.source.now in
     let now = subst (λ s. g.R.LineReader.is_line s (drop c.lines.at text) line) c.lines.invariant.setting is.line in
-    let next = row_more (g.R.LineReader.is_line (g.R.LineReader.setting c.args.reader.now)) text (in_one_row c.lines.blocks.blocks.items) c.lines.at line c.lines.invariant.at now c.if-not-line.false is.within in
+    let next = row_more (g.R.LineReader.is_line (g.R.LineReader.setting c.args.reader.now)) text
+    (in_one_row c.lines.blocks.blocks.items) c.lines.at line c.lines.invariant.at now c.if-not-line.false
+    is.within in
     record {
-      at = subst (λ read. AtRow (g.R.LineReader.is_line (g.R.LineReader.setting c.args.reader.now)) text read (c.lines.at + line.len)) (sym c.in_ok-push.ensures) next;
+      at = subst (λ read. AtRow (g.R.LineReader.is_line (g.R.LineReader.setting c.args.reader.now)) text read
+          (c.lines.at + line.len)) (sym c.in_ok-push.ensures) next;
       setting = is.setting ∙ c.lines.invariant.setting;
-      meter = is.meter ∙ ap (λ m. risen m line.len) c.lines.invariant.meter ∙ risen_more (g.R.LineReader.meter c.args.reader.now) c.lines.at line.len;
+      meter = is.meter ∙ ap (λ m. risen m line.len) c.lines.invariant.meter
+          ∙ risen_more (g.R.LineReader.meter c.args.reader.now) c.lines.at line.len;
     }
