@@ -235,7 +235,8 @@ fn brace_of_a_function(rt: HostRuntime) -> Result<(), Fail> {
 const LATER: &[u8] = br###"
 ("case a in x) b;& # c\ny) c;; z) ;&\nesac\necho $'a\\'b' \"$'\"",
  "case a in\nx)\n\tb\n\t;&\n# c\ny)\n\tc\n\t;;\nz) ;&\nesac\necho $'a\\'b' \"$'\"\n")
-("f() case $'\\'' in # k\n(x|y) # l\n;\\\n& # m\nesac", "f() case $'\\'' in\n# k\nx | y)\n\t# l\n\t;&\n# m\nesac\n")
+("f() case $'\\'' in # k\n(x|y) # l\n;\\\n& # m\nesac",
+    "f() case $'\\'' in\n# k\nx | y)\n\t# l\n\t;&\n# m\nesac\n")
 "###;
 
 /// The same, where the items of a `case` stand deeper.

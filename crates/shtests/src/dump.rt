@@ -13,8 +13,9 @@
 //   <S-E for W in I I do ..>
 //                its name, and its words where `in` stands; an item that is broken has `^` before it
 //   <S-E case W (S-E #.. P|P ..) ..>
-//                its word, and its items: each with its span, its comments, its patterns and its entries; where
-//                it falls through, `;&` stands behind those; behind the last item the comments that follow it
+//                its word, and its items: each with its span, its comments, its patterns and its entries;
+//                where it falls through, `;&` stands behind those; behind the last item the comments that
+//                follow it
 //   fS-E#..{..}  a function: its name, its comments and its body
 //   #S-E         a comment that is an entry
 //   ~            before an entry: it is blank

@@ -18,32 +18,65 @@ use std::test::Fail;
 const LINES: &[u8] = br###"
 // lines without entries
 ("", 0, "end to 0") (" \t", 0, "end to 2") ("\\\n", 0, "end to 2") ("a\n \\\n\\\n\t", 2, "end to 8")
-("\n", 0, "blank to 1, ended") ("\n", 1, "end to 1") ("\n\n", 0, "blank to 1, ended") (" \\\n\t\n", 0, "blank to 5, ended")
+("\n", 0, "blank to 1, ended")
+("\n", 1, "end to 1")
+("\n\n", 0, "blank to 1, ended")
+(" \\\n\t\n", 0, "blank to 5, ended")
 ("a\n\\\n\nb", 2, "blank to 5, ended")
 // what ends a line
 ("a", 0, "[0-1] to 1") ("a\n", 0, "[0-1] to 2, ended") ("a\n", 2, "end to 2") ("a\\\n", 0, "[0-1] to 3")
-("a\\\n\n", 0, "[0-1] to 4, ended") ("a;\n\n", 0, "[0-1] to 3, ended") ("#a", 0, "#0-2 to 2") ("#a \n", 0, "#0-2 to 4, ended")
-("#a\\\nb", 0, "#0-3 to 4, ended") ("a # b \n c", 0, "[0-1]#2-5 to 7, ended") ("a\\\nb\nc", 0, "[0-4] to 5, ended")
+("a\\\n\n", 0, "[0-1] to 4, ended")
+("a;\n\n", 0, "[0-1] to 3, ended")
+("#a", 0, "#0-2 to 2")
+("#a \n", 0, "#0-2 to 4, ended")
+("#a\\\nb", 0, "#0-3 to 4, ended")
+("a # b \n c", 0, "[0-1]#2-5 to 7, ended")
+("a\\\nb\nc", 0, "[0-4] to 5, ended")
 ("'a\nb' \"c\nd\"`e\nf`\ng", 0, "[0-5 6-16] to 17, ended") ("${a\n}$((\n))\nb", 0, "[0-11] to 12, ended")
 ("a \\\n b\n\nc", 0, "[0-1 ^5-6] to 7, ended")
-("a &&\nb\nc", 0, "[0-1]&&^[5-6] to 7, ended") ("a |\n#b\nc\nd", 0, "[0-1]|^#4-6[7-8] to 9, ended") ("a &&\n", 0, "fault 12 at 5 to 5")
+("a &&\nb\nc", 0, "[0-1]&&^[5-6] to 7, ended")
+("a |\n#b\nc\nd", 0, "[0-1]|^#4-6[7-8] to 9, ended")
+("a &&\n", 0, "fault 12 at 5 to 5")
 ("a\nb ||\n\nc\n", 2, "[0-1]||^[6-7] to 10, ended")
 // the lines of one script: spans count from where a line begins, and no line is blank
 ("a\n\nb;c\n#d\n", 0, "[0-1] to 2, ended") ("a\n\nb;c\n#d\n", 2, "blank to 3, ended")
-("a\n\nb;c\n#d\n", 3, "[0-1] [2-3] to 7, ended") ("a\n\nb;c\n#d\n", 7, "#0-2 to 10, ended") ("a\n\nb;c\n#d\n", 10, "end to 10")
+("a\n\nb;c\n#d\n", 3, "[0-1] [2-3] to 7, ended")
+("a\n\nb;c\n#d\n", 7, "#0-2 to 10, ended")
+("a\n\nb;c\n#d\n", 10, "end to 10")
 ("a\n\n\n#b\nc=1 d&e", 4, "#0-2 to 7, ended") ("a\n\n\n#b\nc=1 d&e", 7, "[=0-3 4-5]& [6-7] to 14")
 ("a\nb \\\n c;d #e\nf", 2, "[0-1 ^5-6] [7-8]#9-11 to 14, ended") ("a\nb \\\n c;d #e\nf", 14, "[0-1] to 15")
 // a fault counts from where its line begins
 (";", 0, "fault 11 at 0 to 1") ("a\n;b\nc", 2, "fault 11 at 0 to 6") ("a\nb '\nc", 2, "fault 1 at 2 to 7")
-("a\nb;c\\\n\"d\ne\n", 2, "fault 2 at 5 to 12") ("a\n;\nb\n", 4, "[0-1] to 6, ended") ("a\nb\\", 2, "fault 8 at 1 to 4")
+("a\nb;c\\\n\"d\ne\n", 2, "fault 2 at 5 to 12")
+("a\n;\nb\n", 4, "[0-1] to 6, ended")
+("a\nb\\", 2, "fault 8 at 1 to 4")
 // any place begins a line: what stands before it counts nothing
-("a\n;b", 3, "[0-1] to 4") ("a b", 1, "[1-2] to 3") ("a \\\nb", 2, "[2-3] to 5") ("a \\\nb", 3, "blank to 4, ended")
-("ab=1", 1, "[=0-3] to 4") ("a=1 b", 2, "[0-1 2-3] to 5") ("xfi", 1, "fault 11 at 0 to 3") ("a fi", 2, "fault 11 at 0 to 4")
-("a#b", 1, "#0-2 to 3") ("a9<", 1, "fault 12 at 2 to 3") ("\\;", 1, "fault 11 at 0 to 2") ("'a;b'", 3, "fault 1 at 1 to 5")
-("$$(a)", 1, "[0-4$0-4([2-3])] to 5") ("$(a\nb)\nc", 0, "[0-6$0-6([2-3] [4-5])] to 7, ended") ("x\n$(a\n#b\n)", 2, "[0-8$0-8([2-3] #4-6)] to 10") ("x\na $(b", 2, "fault 7 at 2 to 7") ("xif", 1, "fault 12 at 2 to 3") ("{ a\n}\nb", 0, "{0-5 [2-3]} to 6, ended")
-("{ a\n}\nb", 2, "[0-1] to 4, ended") ("{ a\n}\nb", 4, "fault 11 at 0 to 7") ("a;(b\n\nc)\nd", 0, "[0-1] (2-8 [3-4] ~[6-7]) to 9, ended") ("#a;b\nc", 3, "[0-1] to 5, ended")
+("a\n;b", 3, "[0-1] to 4")
+("a b", 1, "[1-2] to 3")
+("a \\\nb", 2, "[2-3] to 5")
+("a \\\nb", 3, "blank to 4, ended")
+("ab=1", 1, "[=0-3] to 4")
+("a=1 b", 2, "[0-1 2-3] to 5")
+("xfi", 1, "fault 11 at 0 to 3")
+("a fi", 2, "fault 11 at 0 to 4")
+("a#b", 1, "#0-2 to 3")
+("a9<", 1, "fault 12 at 2 to 3")
+("\\;", 1, "fault 11 at 0 to 2")
+("'a;b'", 3, "fault 1 at 1 to 5")
+("$$(a)", 1, "[0-4$0-4([2-3])] to 5")
+("$(a\nb)\nc", 0, "[0-6$0-6([2-3] [4-5])] to 7, ended")
+("x\n$(a\n#b\n)", 2, "[0-8$0-8([2-3] #4-6)] to 10")
+("x\na $(b", 2, "fault 7 at 2 to 7")
+("xif", 1, "fault 12 at 2 to 3")
+("{ a\n}\nb", 0, "{0-5 [2-3]} to 6, ended")
+("{ a\n}\nb", 2, "[0-1] to 4, ended")
+("{ a\n}\nb", 4, "fault 11 at 0 to 7")
+("a;(b\n\nc)\nd", 0, "[0-1] (2-8 [3-4] ~[6-7]) to 9, ended")
+("#a;b\nc", 3, "[0-1] to 5, ended")
 // all lines of a script
-("a\n \n# b\n;\n", 0, "[0-1] to 2, ended") ("a\n \n# b\n;\n", 2, "blank to 4, ended") ("a\n \n# b\n;\n", 4, "#0-3 to 8, ended")
+("a\n \n# b\n;\n", 0, "[0-1] to 2, ended")
+("a\n \n# b\n;\n", 2, "blank to 4, ended")
+("a\n \n# b\n;\n", 4, "#0-3 to 8, ended")
 ("a\n \n# b\n;\n", 8, "fault 11 at 0 to 10") ("a\n \n# b\n;\n", 10, "end to 10")
 "###;
 
@@ -76,9 +109,22 @@ fn lines(rt: HostRuntime) -> Result<(), Fail> {
 /// The front of a script, and how many of its bytes are lines without a fault, each ended by a newline that
 /// is its last byte.
 const FRONTS: &[u8] = br###"
-("", 0) ("a", 0) ("a\n", 2) ("\n\n", 2) ("a\nb", 2) ("a\nb\\", 2) ("a\\\n", 0) ("a\\\n\n", 4) ("a\n#b\n c\n'", 8) ("a\n'\n'\nb", 6)
+("", 0)
+("a", 0)
+("a\n", 2)
+("\n\n", 2)
+("a\nb", 2)
+("a\nb\\", 2)
+("a\\\n", 0)
+("a\\\n\n", 4)
+("a\n#b\n c\n'", 8)
+("a\n'\n'\nb", 6)
 ("a\n;\nb\n", 2) ("a\n{\nb\n", 2) ("a\n{\nb\n}\n", 8) ("a &&\n", 0) ("a &&\nb\n", 7)
-("cat <<E\nx\nE\n", 12) ("cat <<E\nx\nE", 0) ("cat <<E\r\nx\nE\r", 0) ("cat <<'\\'\nx\n\\", 0) ("a\ncat <<E\nx\nF\n", 2)
+("cat <<E\nx\nE\n", 12)
+("cat <<E\nx\nE", 0)
+("cat <<E\r\nx\nE\r", 0)
+("cat <<'\\'\nx\n\\", 0)
+("a\ncat <<E\nx\nF\n", 2)
 "###;
 
 #[test]
@@ -94,7 +140,9 @@ fn fronts(rt: HostRuntime) -> Result<(), Fail> {
 
 /// A script, and its first line where that is whole. The trees in its command substitutions are left out.
 const WHOLE: &[u8] = br###"
-("$(a)\n", "[0-4] to 5, ended") ("a \"$(b | c)\" d=$(e)\n", "[0-1 2-12 13-19] to 20, ended") ("{ a $(b)\n}\n", "{0-10 [2-3 4-8]} to 11, ended")
+("$(a)\n", "[0-4] to 5, ended")
+("a \"$(b | c)\" d=$(e)\n", "[0-1 2-12 13-19] to 20, ended")
+("{ a $(b)\n}\n", "{0-10 [2-3 4-8]} to 11, ended")
 ("$(a)", "none") ("$(a;;)\n", "none") ("a $(b\n", "none") ("\na", " to 1, ended") ("a <<E\nb\nE", "none")
 "###;
 
@@ -129,7 +177,9 @@ fn whole_lines(rt: HostRuntime) -> Result<(), Fail> {
 const OUTER: &[u8] = br###"
 ("$(a)\n", "[0-4] to 5, ended") ("a \"$(b | c)\" d=$(e)", "[0-1 2-12 13-19] to 19")
 ("{ a $(b)\n}\nc", "{0-10 [2-3 4-8]} to 11, ended")
-("$(a;;)\n", "fault 11 at 3 to 0") ("a $(b\n", "fault 7 at 2 to 0") ("a <<E\nb\nE", "[0-1 <<2-4:4-5@6-8] to 9, ended")
+("$(a;;)\n", "fault 11 at 3 to 0")
+("a $(b\n", "fault 7 at 2 to 0")
+("a <<E\nb\nE", "[0-1 <<2-4:4-5@6-8] to 9, ended")
 "###;
 
 fn judge_outer(judge: &mut Judge, alloc: Global, row: &[Cell]) -> Result<(), Fail> {
@@ -271,7 +321,8 @@ const LONG: &[u8] = br###"
 ("a" * 1048576, "1 1 fault 11 at 1048577, 1 1 to 1048577, ended, 2097155")
 ("abc 'd e' \"fgh\" " * 65536, "1 196608 fault 11 at 1048577, 1 196608 to 1048577, ended, 2097155")
 ("ab=$((1 + 2)) \\\n" * 65536, "1 65536 fault 11 at 1048577, 1 65536 to 1048577, ended, 2097155")
-("abc de=f g h; ij ${k-l m} nop & " * 32768, "65536 4 fault 11 at 1048577, 65536 4 to 1048577, ended, 2097155")
+("abc de=f g h; ij ${k-l m} nop & " * 32768,
+    "65536 4 fault 11 at 1048577, 65536 4 to 1048577, ended, 2097155")
 "###;
 
 fn judge_long(judge: &mut Judge, alloc: Global, row: &[Cell]) -> Result<(), Fail> {
