@@ -5,7 +5,7 @@ use Rattle.std.proofs.lemmas.Bool.Decides.{nat_tests}
 use Rattle.shtext.specs.Text.{is_newline}
 use Rattle.shgrammar.specs.Classes.{is_blank, is_letter, is_digit, is_name}
 use Rattle.shgrammar.specs.Standing.{is_byte, raw_in, raw_stands, raw_past, passes, continues}
-use Rattle.shgrammar.specs.Bytes.{ends, ends_word, past, past_blanks, is_broken_at, past_continuations, byte_at, behind, stands, stands_in}
+use Rattle.shgrammar.specs.Bytes.{ends, ends_word, past, past_blanks, is_broken_at, past_continuations, byte_at, past_byte, stands, stands_in}
 use Rattle.shgrammar.specs.declared.token.Position.{Position}
 use Rattle.shgrammar.specs.declared.token.Position.TheVariants.{Command, Prefix, Suffix}
 use Rattle.shgrammar.specs.declared.token.Token.TheVariants as tokens
@@ -15,8 +15,8 @@ use Rattle.shgrammar.proofs.Places.{must_fail, behind_low, past_low}
 use Rattle.shgrammar.proofs.SameBytes.{Kept, WordEnds, goes_on, Safe, at_limit, halts, one_byte, two_bytes, Place, inside, outside, Here, no_backslash, on_no_backslash, continued, safe_high, safe_low, safe_place, safe_behind, none_same, pair_same, place, raw_same, here_byte, here_behind}
 use Rattle.shgrammar.specs.declared.edition.Edition.{Edition}
 
-pub behind_is : (T : List ℕ) (p : ℕ) → behind T p ≡ past_continuations T p + 1
-unfolding behind
+pub behind_is : (T : List ℕ) (p : ℕ) → past_byte T p ≡ past_continuations T p + 1
+unfolding past_byte
 behind_is T p = refl
 
 -- what ends a word is none of these
@@ -126,7 +126,7 @@ unfolding is_word_at ends_word
 spelled_none T p = refl
 
 pub spelled_more : (T : List ℕ) (p x : ℕ) (xs : List ℕ) →
-    is_word_at T p (x ∷ xs) ≡ (stands T p x && is_word_at T (behind T p) xs)
+    is_word_at T p (x ∷ xs) ≡ (stands T p x && is_word_at T (past_byte T p) xs)
 unfolding is_word_at
 spelled_more T p x xs = refl
 
@@ -194,7 +194,7 @@ module _ {edition : Edition} {T T2 : List ℕ} {a L : ℕ} {to : ℕ → ℕ} {c
     pub same_byte : byte_at T2 (to p) ≡ byte_at T p
     same_byte = here_byte E.kept (seen s)
 
-    pub same_behind : behind T2 (to p) ≡ to (behind T p)
+    pub same_behind : past_byte T2 (to p) ≡ to (past_byte T p)
     same_behind = here_behind E.kept (seen s)
 
     pub same_stands : (x : ℕ) → stands T2 (to p) x ≡ stands T p x
@@ -240,7 +240,7 @@ module _ {edition : Edition} {T T2 : List ℕ} {a L : ℕ} {to : ℕ → ℕ} {c
     read_raw p e = e
 
     -- behind a byte that is read
-    pub next_safe : {p : ℕ} → Safe T a L p → stands_in test T p ≡ true → Safe T a L (behind T p)
+    pub next_safe : {p : ℕ} → Safe T a L p → stands_in test T p ≡ true → Safe T a L (past_byte T p)
     next_safe {p = p} s e =
         let r = read_raw p e in
         subst (Safe T a L) (sym (behind_is T p)) (raw_safe (place_safe s) (raw_on _ r) (not_there _ r))
@@ -251,7 +251,7 @@ module _ {edition : Edition} {T T2 : List ℕ} {a L : ℕ} {to : ℕ → ℕ} {c
     past_below (suc n) p few s =
         ⊎_elim
         (λ (e : stands_in test T p ≡ true). let more = past_more test T p e in
-        let rest = past_below n (behind T p)
+        let rest = past_below n (past_byte T p)
         (omega (arith, few, behind_low T p, stands_in_low test T p e, place_low T p)) (next_safe s e) in (
           subst (Safe T a L) (sym more) rest.0,
           past_more test T2 (to p) (same_stands_in s test ∙ e) ∙ ap (past test T2) (same_behind s) ∙ rest.1
@@ -275,7 +275,7 @@ module _ {edition : Edition} {T T2 : List ℕ} {a L : ℕ} {to : ℕ → ℕ} {c
         ⊎_elim
         (λ (e : stands_in test T p ≡ true).
         safe_behind K p low (raw_clear p e)
-        (back_below n (behind T p) (omega (arith, few, behind_low T p, stands_in_low test T p e, place_low T p))
+        (back_below n (past_byte T p) (omega (arith, few, behind_low T p, stands_in_low test T p e, place_low T p))
         (omega (arith, low, behind_low T p)) (subst (Safe T a L) (past_more test T p e) s)))
         (λ (e : stands_in test T p ≡ false). subst (Safe T a L) (past_none test T p e) s)
         (cases_Bool (stands_in test T p))
@@ -346,9 +346,9 @@ module _ {edition : Edition} {T T2 : List ℕ} {a L : ℕ} {to : ℕ → ℕ} {c
   same_word (x ∷ xs) p e s =
       let here = and_parts _ _ e in
       let there = and_parts _ _ here.1 in
-      spelled_more T2 (to p) x xs ∙ ap (λ b. b && is_word_at T2 (behind T2 (to p)) xs) (same_stands s x)
+      spelled_more T2 (to p) x xs ∙ ap (λ b. b && is_word_at T2 (past_byte T2 (to p)) xs) (same_stands s x)
       ∙ same_and (stands T p x) _ _ (λ f. ap (λ q. is_word_at T2 q xs) (same_behind s)
-      ∙ same_word xs (behind T p) there.1
+      ∙ same_word xs (past_byte T p) there.1
       (next_safe (λ b. b == x) (goes_one c x here.0 (ender c x E.ender.ends_it (not_false (ends (Some x)) there.0)))
       s (stands_is p x f)))
       ∙ sym (spelled_more T p x xs)

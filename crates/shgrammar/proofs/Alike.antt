@@ -24,7 +24,7 @@ use Rattle.shast.specs.Tree.{ACommand, ASubst, AnEntry, AnItem, AWord}
 use Rattle.shgrammar.specs.Comments.{span}
 use Rattle.shgrammar.specs.Sights.{Given, State, Sight, seen, the_piece, Move}
 use Rattle.shgrammar.specs.HereDocuments.{ADelimiter, Change, changed, own_level, outer_level}
-use Rattle.shgrammar.specs.Form.{raw, nothing_read, change, with_bytes, a_level, Spelled, Told, Read, ◌▸◌, Form, give, see, move, push, stop, both, when, token, many, ends_as, with_end, ◌>>=◌, Step, again, done, step_if, leads_on, turns, does, in_substitution}
+use Rattle.shgrammar.specs.Form.{raw, nothing_read, change, with_bytes, a_level, Spelled, Telling, Read, ◌▸◌, Form, give, see, move, push, stop, both, when, token, many, ends_as, with_end, ◌>>=◌, Step, again, done, step_if, leads_on, turns, does, in_substitution}
 use Rattle.shgrammar.specs.Words.{single, escaped_turn, backquoted_text, Inner, WordSoFar, having, opened, piece_row, a_piece, contents, a_word}
 use Rattle.shgrammar.specs.Levels.{level}
 use Rattle.shgrammar.specs.Tokens.{is_end}
@@ -155,7 +155,7 @@ module _ (g : Given) where
   token_like S R s (Err e) (Ok (y, t)) like so = absurd like
   token_like S R s (Err e) (Err e') like so = like
 
-  pub alike_token : {X Y : Type 0} {S : X → Y → Type 0} {R : X × Span → Y × Span → Type 0} {how : Told} {r : Form X}
+  pub alike_token : {X Y : Type 0} {S : X → Y → Type 0} {R : X × Span → Y × Span → Type 0} {how : Telling} {r : Form X}
       {q : Form Y} → Alike S r q → ((a : X) (b : Y) (z : Span) → S a b → R (a, z) (b, z))
       → Alike R (token how r) (token how q)
   alike_token {S = S} {R = R} {r = r} {q = q} one so =
@@ -357,7 +357,7 @@ module _ (g : Given) where
     -- ---- commands and lines
 
     -- an operator, told in whatever way
-    alike_mark : {how : Told} {m : Move} → Alike All (token how (move m)) (token how (move m))
+    alike_mark : {how : Telling} {m : Move} → Alike All (token how (move m)) (token how (move m))
     alike_mark = alike_token {R = All} (alike_move {S = All} tt) (λ a b z so. tt)
 
     alike_next : (position : Position) → Alike (λ n m. n ≡ m) (next_token position) (next_token position)
@@ -637,7 +637,7 @@ module _ (g : Given) where
         (λ a b so. alike_give so))
 
     -- an operator, and where it stands
-    alike_place : {how : Told} {m : Move} → Alike (λ x y. x ≡ y) (token how (move m)) (token how (move m))
+    alike_place : {how : Telling} {m : Move} → Alike (λ x y. x ≡ y) (token how (move m)) (token how (move m))
     alike_place = alike_token {R = λ x y. x ≡ y} (alike_move {S = All} tt) (λ a b z so. refl)
 
     alike_separator_by : (n : Next) (s : Option Separator) → Alike (λ x y. x ≡ y) (separator_by n s) (separator_by n s)

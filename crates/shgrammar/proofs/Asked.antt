@@ -9,7 +9,7 @@ use Rattle.shgrammar.specs.declared.mode.Mode.{Mode}
 use Rattle.shgrammar.specs.declared.mode.Mode.TheVariants.{Plain, Double, Brace, DoubleBrace, Arith}
 use Rattle.shgrammar.specs.Classes.{is_letter, is_digit, is_name, is_blank, is_special}
 use Rattle.shgrammar.specs.Standing.{is_byte, is_none, at_end, raw_in, raw_stands, raw_past, next_of, next_newline, before_blanks, passes, continues}
-use Rattle.shgrammar.specs.Bytes.{past, past_blanks, past_continuations, byte_at, behind, stands, stands_in}
+use Rattle.shgrammar.specs.Bytes.{past, past_blanks, past_continuations, byte_at, past_byte, stands, stands_in}
 use Rattle.shgrammar.specs.Comments.{span, comment_at, past_comment}
 use Rattle.shgrammar.specs.Pieces.{dollar_by, dollar_at, byte_by, piece_by, piece_at, past_taken, next_quote, is_last_backslash, past_parameter, rest_mode, past_closer}
 use Rattle.shgrammar.specs.Tokens.{past_digits, past_reserved}
@@ -84,7 +84,7 @@ module _ {edition : Edition} {T U : List ℕ} {a M : ℕ} {to : ℕ → ℕ} {li
   abbrev pub Moves : (List ℕ → ℕ → ℕ) → ℕ → Type 0
   Moves f p = Moves2 f f p
 
-  pub moves_behind : (p : ℕ) → Moves behind p
+  pub moves_behind : (p : ℕ) → Moves past_byte p
   moves_behind p = (
     omega (arith, behind_low T p),
     λ low s.
@@ -93,12 +93,12 @@ module _ {edition : Edition} {T U : List ℕ} {a M : ℕ} {to : ℕ → ℕ} {li
         (g, same_behind E g),
   )
 
-  pub moves_twice : (p : ℕ) → Moves (λ T p. behind T (behind T p)) p
+  pub moves_twice : (p : ℕ) → Moves (λ T p. past_byte T (past_byte T p)) p
   moves_twice p = (
-    omega (arith, behind_low T p, behind_low T (behind T p)),
+    omega (arith, behind_low T p, behind_low T (past_byte T p)),
     λ low s.
-        let w = (moves_behind (behind T p)).1 (omega (arith, low, behind_low T p)) s in
-        let v = (moves_behind p).1 low w.0 in (v.0, ap (behind U) v.1 ∙ w.1),
+        let w = (moves_behind (past_byte T p)).1 (omega (arith, low, behind_low T p)) s in
+        let v = (moves_behind p).1 low w.0 in (v.0, ap (past_byte U) v.1 ∙ w.1),
   )
 
   pub moves_blanks : (p : ℕ) → Moves past_blanks p
@@ -120,7 +120,7 @@ module _ {edition : Edition} {T U : List ℕ} {a M : ℕ} {to : ℕ → ℕ} {li
   moves_reserved p = (
     reserved_low T p,
     λ low s.
-        let w = moves_past is_name (goes_name limit E.ender) (behind T p) (omega (arith, low, behind_low T p)) s in
+        let w = moves_past is_name (goes_name limit E.ender) (past_byte T p) (omega (arith, low, behind_low T p)) s in
         let v = (moves_behind p).1 low w.0 in (v.0, ap (past is_name U) v.1 ∙ w.1),
   )
 
@@ -311,7 +311,7 @@ module _ {edition : Edition} {T U : List ℕ} {a M : ℕ} {to : ℕ → ℕ} {li
   place_in s = let h = seen E s in omega (arith, h.inside)
 
   -- behind a byte that is not that of the limit
-  escape_in : (p b : ℕ) → G p → byte_at T p ≡ Some b → (b == limit) ≡ false → behind T p ≤ M
+  escape_in : (p b : ℕ) → G p → byte_at T p ≡ Some b → (b == limit) ≡ false → past_byte T p ≤ M
   escape_in p b s is other =
       ⊎_elim (λ lt. omega (arith, behind_is T p, lt))
       (λ ge. let at : M ≡ past_continuations T p = omega (arith, ge, place_in s) in
@@ -321,12 +321,12 @@ module _ {edition : Edition} {T U : List ℕ} {a M : ℕ} {to : ℕ → ℕ} {li
 
   -- where this byte is read, and behind it
   next_byte : (p b c : ℕ) → G p → byte_at T p ≡ Some b → (b == c) ≡ true → goes_on c ≡ true → (limit == c) ≡ false →
-      G (behind T p)
+      G (past_byte T p)
   unfolding stands_in
   next_byte p b c s is e on other = next_safe E (λ x. x == c) (goes_one limit c on other) s (rw is e)
 
   same_next : (p b c x : ℕ) → G p → byte_at T p ≡ Some b → (b == c) ≡ true → goes_on c ≡ true → (limit == c) ≡ false →
-      stands U (behind U (to p)) x ≡ stands T (behind T p) x
+      stands U (past_byte U (to p)) x ≡ stands T (past_byte T p) x
   same_next p b c x s is e on other = rw (same_behind E s) (same_stands E (next_byte p b c s is e on other) x)
 
   -- a bracket that may close arithmetic is not at the limit
@@ -344,7 +344,7 @@ module _ {edition : Edition} {T U : List ℕ} {a M : ℕ} {to : ℕ → ℕ} {li
   unfolding dollar_at
   dollar_same p b s is e =
       let next = next_byte p b 36 s is e refl (ender limit 36 E.ender.ends_it refl) in
-      rw (same_behind E s, same_byte E next) (dollar_by_same (behind T p) (byte_at T (behind T p)) next refl)
+      rw (same_behind E s, same_byte E next) (dollar_by_same (past_byte T p) (byte_at T (past_byte T p)) next refl)
 
   byte_same : (mode : Mode) (p n b : ℕ) → NoBracket mode → G p → byte_at T p ≡ Some b →
       byte_by U (to p) mode n b ≡ byte_by T p mode n b
@@ -361,7 +361,7 @@ module _ {edition : Edition} {T U : List ℕ} {a M : ℕ} {to : ℕ → ℕ} {li
   piece_same mode p n (Some b) free s is =
       same_if (b == 92) _ _ _ _
       (λ e. let clear = not_backslash limit E.ender in let other : (b == limit) ≡ false = grind (arith, nat_tests) in
-      rw (same_behind E s, same_end (behind T p) (omega (arith, low_of s, behind_low T p)) (escape_in p b s is other))
+      rw (same_behind E s, same_end (past_byte T p) (omega (arith, low_of s, behind_low T p)) (escape_in p b s is other))
       refl)
       (λ e. same_if (b == 96) _ _ _ _ (λ f. refl)
       (λ f. same_if (b == 36) _ _ _ _ (λ g. dollar_same p b s is g) (λ g. byte_same mode p n b free s is)))

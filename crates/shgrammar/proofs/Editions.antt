@@ -22,7 +22,7 @@ use Rattle.shgrammar.specs.Form.{does, many, tell, turns, turns_below}
 use Rattle.shgrammar.specs.HereDocuments.{delimiter_of, has_dollar_single, not_quoted}
 use Rattle.shgrammar.specs.Words.{dollar_single, escaped_turn}
 use Rattle.shgrammar.specs.Standing.{at_end, continues, count_front, raw_past, raw_stands}
-use Rattle.shgrammar.specs.Bytes.{behind, byte_at, count_joined, ends, is_broken_at, past, past_below, past_blanks, past_continuations, stands, stands_in}
+use Rattle.shgrammar.specs.Bytes.{byte_at, count_joined, ends, is_broken_at, past, past_below, past_blanks, past_byte, past_continuations, stands, stands_in}
 use Rattle.shgrammar.specs.Pieces.{bracket_by, byte_by, dollar_at, dollar_by, end_by, past_taken, piece_at, piece_by, piece_in}
 use Rattle.shgrammar.specs.Tokens.{begins_assignment, first_word, is_number, next_at, next_in, reserved_at, token_at, token_in, token_of, word_by, word_of}
 
@@ -55,9 +55,9 @@ pub tokens_same : (position : Position) (T : List ℕ) (p : ℕ) (x : Option ℕ
 tokens_same position T p None = refl
 tokens_same position T p (Some b) =
     either (is_newline b) _ _ _ _ refl
-    (either (b == 59) _ _ _ _ (either (stands T (behind T p) 59) _ _ _ _ refl (neither (stands T (behind T p) 38)))
-    (either (b == 38) _ _ _ _ (either (stands T (behind T p) 38) _ _ _ _ refl refl)
-    (either (b == 124) _ _ _ _ (either (stands T (behind T p) 124) _ _ _ _ refl refl)
+    (either (b == 59) _ _ _ _ (either (stands T (past_byte T p) 59) _ _ _ _ refl (neither (stands T (past_byte T p) 38)))
+    (either (b == 38) _ _ _ _ (either (stands T (past_byte T p) 38) _ _ _ _ refl refl)
+    (either (b == 124) _ _ _ _ (either (stands T (past_byte T p) 124) _ _ _ _ refl refl)
     (either (b == 40) _ _ _ _ refl
     (either (b == 41) _ _ _ _ refl
     (either (b == 60) _ _ _ _ refl
@@ -82,7 +82,7 @@ pub dollars_same : (mode : Mode) (T : List ℕ) (q : ℕ) (x : Option ℕ) →
 dollars_same mode T q None = refl
 dollars_same mode T q (Some b) =
     in_mode mode (b == 36) _ _ _ _ refl
-    (in_mode mode (b == 40) _ _ _ _ (in_mode mode (stands T (behind T q) 40) _ _ _ _ refl refl)
+    (in_mode mode (b == 40) _ _ _ _ (in_mode mode (stands T (past_byte T q) 40) _ _ _ _ refl refl)
     (in_mode mode (b == 123) _ _ _ _ refl (plain_dollar mode (b == 39))))
 
 -- ---- pieces
@@ -100,7 +100,7 @@ bytes_same Brace T p n b = in_mode Brace (b == 125) _ _ _ _ refl
     (in_mode Brace (b == 39) _ _ _ _ refl (in_mode Brace (b == 34) _ _ _ _ refl refl))
 bytes_same DoubleBrace T p n b =
     in_mode DoubleBrace (b == 125) _ _ _ _ refl (in_mode DoubleBrace (b == 34) _ _ _ _ refl refl)
-bytes_same Arith T p n b = in_mode Arith (b == 41) _ _ _ _ (bracket_same n (stands T (behind T p) 41))
+bytes_same Arith T p n b = in_mode Arith (b == 41) _ _ _ _ (bracket_same n (stands T (past_byte T p) 41))
     (in_mode Arith (b == 40) _ _ _ _ refl refl)
 
 end_same : (mode : Mode) → piece_in Y2017 mode (end_by mode) ≡ end_by mode
@@ -115,9 +115,9 @@ piece_by_same : (mode : Mode) (T : List ℕ) (n p : ℕ) (x : Option ℕ) →
 unfolding dollar_at
 piece_by_same mode T n p None = end_same mode
 piece_by_same mode T n p (Some b) =
-    in_mode mode (b == 92) _ _ _ _ (in_mode mode (at_end T (behind T p)) _ _ _ _ refl refl)
+    in_mode mode (b == 92) _ _ _ _ (in_mode mode (at_end T (past_byte T p)) _ _ _ _ refl refl)
     (in_mode mode (b == 96) _ _ _ _ refl
-    (in_mode mode (b == 36) _ _ _ _ (dollars_same mode T (behind T p) (byte_at T (behind T p)))
+    (in_mode mode (b == 36) _ _ _ _ (dollars_same mode T (past_byte T p) (byte_at T (past_byte T p)))
     (bytes_same mode T p n b)))
 
 -- ---- what a row sees
@@ -164,32 +164,32 @@ none_falls position g s by = rw by (no_falling (token_at position g.text (past_b
 
 -- a backslash takes one byte, also the closing one
 past_escapes : does dollar_single Whole (given Y2024 (codes "$'a\\'b' c") 10) (standing 0) ≡ Ok (tt, standing 7)
-unfolding dollar_single escaped_turn many turns turns_below behind past_continuations count_joined raw_past count_front
+unfolding dollar_single escaped_turn many turns turns_below past_byte past_continuations count_joined raw_past count_front
     at_end raw_stands past_taken
 past_escapes = refl
 
 -- the end inside it, and a backslash as the last byte, are faults at the `$`
 open_at_end : does dollar_single Whole (given Y2024 (codes "$'a") 10) (standing 0)
     ≡ Err (record { kind = UnclosedDollarSingle; at = 10 })
-unfolding dollar_single escaped_turn many turns turns_below behind past_continuations count_joined raw_past count_front
+unfolding dollar_single escaped_turn many turns turns_below past_byte past_continuations count_joined raw_past count_front
     at_end raw_stands past_taken
 open_at_end = refl
 
 open_at_backslash : does dollar_single Whole
     (given Y2024 (codes "$'a\\") 10) (standing 0) ≡ Err (record { kind = UnclosedDollarSingle; at = 10 })
-unfolding dollar_single escaped_turn many turns turns_below behind past_continuations count_joined raw_past count_front
+unfolding dollar_single escaped_turn many turns turns_below past_byte past_continuations count_joined raw_past count_front
     at_end raw_stands past_taken
 open_at_backslash = refl
 
 -- `;&` by the longest match, in a later edition alone
 falling : next_in Y2024 (next_at Command (codes "a;&") 1) ≡ record { token = tokens.SemicolonAmpersand; broken = false }
 unfolding token_at past_blanks past past_below stands_in past_continuations count_joined is_broken_at continues raw_past
-    count_front raw_stands stands behind
+    count_front raw_stands stands past_byte
 falling = refl
 
 parted : next_in Y2017 (next_at Command (codes "a;&") 1) ≡ record { token = tokens.Semicolon; broken = false }
 unfolding token_at past_blanks past past_below stands_in past_continuations count_joined is_broken_at continues raw_past
-    count_front raw_stands stands behind
+    count_front raw_stands stands past_byte
 parted = refl
 
 -- `;&` is told as a token, as no `;;` is, and without a continuation that stands in it

@@ -14,7 +14,7 @@ use Rattle.shgrammar.specs.declared.token.Token.TheVariants as tokens
 use Rattle.shtext.specs.Text.{is_newline}
 use Rattle.shgrammar.specs.Classes.{is_blank, is_letter, is_digit, is_name}
 use Rattle.shgrammar.specs.Standing.{is_byte, passes, raw_stands}
-use Rattle.shgrammar.specs.Bytes.{ends, ends_word, past, past_continuations, byte_at, behind, stands, stands_in}
+use Rattle.shgrammar.specs.Bytes.{ends, ends_word, past, past_continuations, byte_at, past_byte, stands, stands_in}
 use Rattle.shgrammar.specs.Pieces.{piece_at}
 use Rattle.shgrammar.specs.Plain.{is_plain}
 use Rattle.shgrammar.specs.Tokens.{Spelling, is_word_at, first_of_words, reserved_words, reserved_at, begins_assignment, is_name_at, is_number, word_by, token_of, token_at}
@@ -165,7 +165,7 @@ module _ {edition : Edition} {T U : List ℕ} {a L : ℕ} {to : ℕ → ℕ} (K 
   -- an ordinary byte is a piece
   ordinary_turn : (r b opener : ℕ) (c : WordSoFar) → byte_at T r ≡ Some b → is_plain Plain b ≡ true
       → does (a_piece (level room) Plain opener c) Whole (given edition T o) (standing r)
-      ≡ Ok (again c, standing (behind T r))
+      ≡ Ok (again c, standing (past_byte T r))
   unfolding a_piece piece_at
   ordinary_turn r b opener c is plain = rw (is, ordinary_by T r Plain c.nested b plain) refl
 
@@ -178,17 +178,17 @@ module _ {edition : Edition} {T U : List ℕ} {a L : ℕ} {to : ℕ → ℕ} (K 
         (none_passes test plain (byte_at U (to L)) W.there ∙ sym (none_passes test plain (byte_at T L) W.here)))
         (place_of w)
 
-    next_by : {r : ℕ} → Goes r → (x : Option ℕ) → byte_at T r ≡ x → passes test x ≡ true → Goes (behind T r)
-        × (behind U (to r) ≡ to (behind T r))
+    next_by : {r : ℕ} → Goes r → (x : Option ℕ) → byte_at T r ≡ x → passes test x ≡ true → Goes (past_byte T r)
+        × (past_byte U (to r) ≡ to (past_byte T r))
     next_by w None is e = absurd cc
     next_by {r = r} w (Some b) is e =
         let b_plain = plain b e in
         let lt = slice_get_within T (past_continuations T r) b is in
-        let leads : leads_on (given edition T o) (standing r) (standing (behind T r)) ≡ true =
+        let leads : leads_on (given edition T o) (standing r) (standing (past_byte T r)) ≡ true =
         lt-ltb _ _ (omega (arith, lt, place_low T r, behind_is T r)) in
         let more = turns_on (given edition T o)
         (λ c s. does (a_piece (level room) Plain w.opener c) Whole (given edition T o) s) w.start w.start
-        (standing r) (standing (behind T r))
+        (standing r) (standing (past_byte T r))
         (ordinary_turn r b w.opener w.start is b_plain) leads in (
           record {
             low = omega (arith, w.low, behind_low T r);
@@ -203,7 +203,7 @@ module _ {edition : Edition} {T U : List ℕ} {a L : ℕ} {to : ℕ → ℕ} (K 
         )
 
     -- behind such a byte
-    next_goes : {r : ℕ} → Goes r → stands_in test T r ≡ true → Goes (behind T r) × (behind U (to r) ≡ to (behind T r))
+    next_goes : {r : ℕ} → Goes r → stands_in test T r ≡ true → Goes (past_byte T r) × (past_byte U (to r) ≡ to (past_byte T r))
     unfolding stands_in
     next_goes {r = r} w e = next_by w (byte_at T r) refl e
 
@@ -214,7 +214,7 @@ module _ {edition : Edition} {T U : List ℕ} {a L : ℕ} {to : ℕ → ℕ} (K 
         ⊎_elim
         (λ (e : stands_in test T r ≡ true). let more = past_more test T r e in
         let next = next_goes w e in
-        let rest = past_below n (behind T r)
+        let rest = past_below n (past_byte T r)
         (omega (arith, few, behind_low T r, stands_in_low test T r e, place_low T r)) next.0 in (
           subst Goes (sym more) rest.0,
           past_more test U (to r) (same_test w ∙ e) ∙ ap (past test U) next.1 ∙ rest.1 ∙ ap to (sym more),
@@ -236,10 +236,10 @@ module _ {edition : Edition} {T U : List ℕ} {a L : ℕ} {to : ℕ → ℕ} (K 
   same_spelled [] r e w = spelled_none U (to r) ∙ same_ends w ∙ sym (spelled_none T r)
   same_spelled (x ∷ xs) r e w =
       let plain = and_parts _ _ e in
-      spelled_more U (to r) x xs ∙ ap (λ b. b && is_word_at U (behind U (to r)) xs) (same_stands x plain.0 w)
+      spelled_more U (to r) x xs ∙ ap (λ b. b && is_word_at U (past_byte U (to r)) xs) (same_stands x plain.0 w)
       ∙ same_and (stands T r x) _ _
       (λ f. let next = next_goes (λ b. b == x) (plain_one x plain.0) w (sym (stands_one T r x) ∙ f) in
-      ap (λ q. is_word_at U q xs) next.1 ∙ same_spelled xs (behind T r) plain.1 next.0)
+      ap (λ q. is_word_at U q xs) next.1 ∙ same_spelled xs (past_byte T r) plain.1 next.0)
       ∙ sym (spelled_more T r x xs)
 
   same_words : (ws : Row Spelling) (r : ℕ) → all_spelled ws ≡ true → Goes r →
@@ -345,12 +345,12 @@ pub item_byte : (position : Position) (T : List ℕ) (p b : ℕ) → Item (token
 item_byte position T p b so =
     let newline = item_else (is_newline b) _ _ (λ e. absurd cc) so in
     let semicolon = item_else (b == 59) _ _
-    (λ e. neither (stands T (behind T p) 59) _ _ (λ f. absurd cc)
-    (λ f. neither (stands T (behind T p) 38) _ _ (λ g. absurd cc) (λ g. absurd cc) f) e) newline.1 in
+    (λ e. neither (stands T (past_byte T p) 59) _ _ (λ f. absurd cc)
+    (λ f. neither (stands T (past_byte T p) 38) _ _ (λ g. absurd cc) (λ g. absurd cc) f) e) newline.1 in
     let ampersand = item_else (b == 38) _ _
-    (λ e. neither (stands T (behind T p) 38) _ _ (λ f. absurd cc) (λ f. absurd cc) e) semicolon.1 in
+    (λ e. neither (stands T (past_byte T p) 38) _ _ (λ f. absurd cc) (λ f. absurd cc) e) semicolon.1 in
     let bar = item_else (b == 124) _ _
-    (λ e. neither (stands T (behind T p) 124) _ _ (λ f. absurd cc) (λ f. absurd cc) e) ampersand.1 in
+    (λ e. neither (stands T (past_byte T p) 124) _ _ (λ f. absurd cc) (λ f. absurd cc) e) ampersand.1 in
     let open_paren = item_else (b == 40) _ _ (λ e. absurd cc) bar.1 in
     let close_paren = item_else (b == 41) _ _ (λ e. absurd cc) open_paren.1 in
     let less = item_else (b == 60) _ _ (λ e. absurd cc) close_paren.1 in

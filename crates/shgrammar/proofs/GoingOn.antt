@@ -11,7 +11,7 @@ use Rattle.shast.specs.Shape.{text_at}
 use Rattle.shgrammar.specs.Comments.{span}
 use Rattle.shgrammar.specs.Sights.{Given, given, State, Waiting, Sight, a_document_waits, seen, Move}
 use Rattle.shgrammar.specs.HereDocuments.{Change, waits, bodies_here, changed, past_line, delimiter_from, body_by, bodies_from, state_by, with_waiting, own_level}
-use Rattle.shgrammar.specs.Form.{change, with_bytes, a_level, nothing_read, raw, Spelled, Told, Read, ◌▸◌, Form, give, see, move, push, stop, both, when, token, loop, many, ends_as, Step, again, done, leads_on, turns, does, in_substitution}
+use Rattle.shgrammar.specs.Form.{change, with_bytes, a_level, nothing_read, raw, Spelled, Telling, Read, ◌▸◌, Form, give, see, move, push, stop, both, when, token, loop, many, ends_as, Step, again, done, leads_on, turns, does, in_substitution}
 use Rattle.shgrammar.specs.Commands.{pick}
 use Rattle.shgrammar.proofs.Turns.{turns_on, turns_rest, turns_done, turns_fault}
 use Rattle.shgrammar.proofs.Holds.{Holds, Tells, Turned, tells_so, tells_then, tells_when, tells_token, tells_loop, tells_ending, tells_change, tells_with_bytes, tells_level, change_low, Behind, low, move_low, tells_inside}
@@ -276,7 +276,7 @@ module _ {edition : Edition} {T U : List ℕ} {a M : ℕ} {to : ℕ → ℕ} {li
   abbrev pub WithText : {X Y : Type 0} → (X → Y → Type 0) → X × Span → Y × Span → Type 0
   WithText S x y = S x.0 y.0 × (text_at B x.1 ≡ text_at B2 y.1)
 
-  token_by : {X Y : Type 0} (S : X → Y → Type 0) (how : Told) (q : Form Y) (s : State) → a ≤ s.at → (x : Read X) →
+  token_by : {X Y : Type 0} (S : X → Y → Type 0) (how : Telling) (q : Form Y) (s : State) → a ≤ s.at → (x : Read X) →
       Holds (Back s) x → Holds (Found S q s) x
       → Holds (Found (WithText S) (token how q) s) (x ▸ λ b t. Ok ((b, span o s.at t.at), t))
   token_by {Y = Y} S how q s from (Ok (x, t)) back one =
@@ -290,7 +290,7 @@ module _ {edition : Edition} {T U : List ℕ} {a M : ℕ} {to : ℕ → ℕ} {li
       )
   token_by S how q s from (Err f) back one = tt
 
-  pub go_token : {X Y : Type 0} {S : X → Y → Type 0} {how : Told} {r : Form X} {q : Form Y} → Goes S r q →
+  pub go_token : {X Y : Type 0} {S : X → Y → Type 0} {how : Telling} {r : Form X} {q : Form Y} → Goes S r q →
       Goes (WithText S) (token how r) (token how q)
   go_token {S = S} {how = how} {r = r} {q = q} one =
       record { go = λ s from. token_by S how q s from (does r Whole g s) (good r s from).told (one.go s from) }
@@ -299,7 +299,7 @@ module _ {edition : Edition} {T U : List ℕ} {a M : ℕ} {to : ℕ → ℕ} {li
   abbrev pub WithSpan : {X Y : Type 0} → (X → Y → Type 0) → X × Span → Y × Span → Type 0
   WithSpan S x y = S x.0 y.0 × (move_span E o o2 x.1 ≡ y.1)
 
-  place_by : {X Y : Type 0} (S : X → Y → Type 0) (how : Told) (q : Form Y) (s : State) → a ≤ s.at → (x : Read X) →
+  place_by : {X Y : Type 0} (S : X → Y → Type 0) (how : Telling) (q : Form Y) (s : State) → a ≤ s.at → (x : Read X) →
       Holds (Behind s) x → Holds (Found S q s) x
       → Holds (Found (WithSpan S) (token how q) s) (x ▸ λ b t. Ok ((b, span o s.at t.at), t))
   place_by {Y = Y} S how q s from (Ok (x, t)) onward one =
@@ -313,7 +313,7 @@ module _ {edition : Edition} {T U : List ℕ} {a M : ℕ} {to : ℕ → ℕ} {li
       )
   place_by S how q s from (Err f) onward one = tt
 
-  pub go_place : {X Y : Type 0} {S : X → Y → Type 0} {how : Told} {r : Form X} {q : Form Y} → Goes S r q →
+  pub go_place : {X Y : Type 0} {S : X → Y → Type 0} {how : Telling} {r : Form X} {q : Form Y} → Goes S r q →
       Goes (WithSpan S) (token how r) (token how q)
   go_place {S = S} {how = how} {r = r} {q = q} one =
       record { go = λ s from. place_by S how q s from (does r Whole g s) (low r Whole g s).told (one.go s from) }

@@ -8,13 +8,13 @@ use Rattle.shgrammar.specs.declared.mode.Mode.{Mode}
 use Rattle.shgrammar.specs.declared.mode.Mode.TheVariants.{Plain, Double, Brace, DoubleBrace, Arith}
 use Rattle.shast.specs.declared.tree.Span.{Span}
 use Rattle.shgrammar.specs.Standing.{raw_stands}
-use Rattle.shgrammar.specs.Bytes.{behind}
+use Rattle.shgrammar.specs.Bytes.{past_byte}
 use Rattle.shgrammar.specs.Comments.{span, past_comment}
 use Rattle.shgrammar.specs.Pieces.{past_taken, past_closer}
 use Rattle.shgrammar.specs.Sights.{Given, State, Sight, seen, Move, one_byte, continuations, one_taken, the_closer, the_parameter, a_quote_on, blanks, a_comment_on, the_reserved, the_digits, to}
 use Rattle.shgrammar.specs.HereDocuments.{Change, waits, bodies_here, changed, bodies_from, state_by, own_level, outer_level}
 use Rattle.shgrammar.specs.declared.fault.Fault.{Fault}
-use Rattle.shgrammar.specs.Form.{Spelled, raw, nothing_read, change, with_bytes, a_level, Read, ◌▸◌, Form, give, see, move, push, stop, both, when, Told, token, loop, many, ends_as, with_end, Step, again, done, leads_on, moved_on, turns, does, in_substitution, inside}
+use Rattle.shgrammar.specs.Form.{Spelled, raw, nothing_read, change, with_bytes, a_level, Read, ◌▸◌, Form, give, see, move, push, stop, both, when, Telling, token, loop, many, ends_as, with_end, Step, again, done, leads_on, moved_on, turns, does, in_substitution, inside}
 use Rattle.shgrammar.proofs.Stretches.{place_low}
 use Rattle.shgrammar.proofs.Places.{behind_low, blanks_low, next_newline_low, next_of_low, parameter_low, reserved_low, digits_low}
 use Rattle.shgrammar.proofs.Delimiters.{bodies_low}
@@ -76,7 +76,7 @@ module _ (keep : Keep) (g : Given) where
   token_by P Q s (Err f) one so = tt
 
   -- one token
-  pub tells_token : {X : Type 0} {P : X → State → Type 0} {Q : X × Span → State → Type 0} {how : Told} {r : Form X}
+  pub tells_token : {X : Type 0} {P : X → State → Type 0} {Q : X × Span → State → Type 0} {how : Telling} {r : Form X}
       {s : State} → Tells r P s
       → ((a : X) (t : State) → P a t → Q (a, span g.offset s.at t.at) t) → Tells (token how r) Q s
   tells_token {P = P} {Q = Q} {r = r} {s = s} one so = record { told = token_by P Q s (does r keep g s) one.told so }
@@ -224,7 +224,7 @@ closer_low Plain T p = omega arith
 closer_low Double T p = omega (arith, behind_low T p)
 closer_low Brace T p = omega (arith, behind_low T p)
 closer_low DoubleBrace T p = omega (arith, behind_low T p)
-closer_low Arith T p = omega (arith, behind_low T p, behind_low T (behind T p))
+closer_low Arith T p = omega (arith, behind_low T p, behind_low T (past_byte T p))
 
 taken_low : (T : List ℕ) (p : ℕ) → p ≤ past_taken T p
 unfolding past_taken

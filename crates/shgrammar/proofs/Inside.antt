@@ -10,7 +10,7 @@ use Rattle.shgrammar.specs.declared.keep.Keep.TheVariants.{Whole}
 use Rattle.shgrammar.specs.declared.mode.Mode.{Mode}
 use Rattle.shgrammar.specs.Classes.{is_letter, is_digit, is_name, is_special}
 use Rattle.shgrammar.specs.Standing.{is_byte, is_none, at_end, raw_stands}
-use Rattle.shgrammar.specs.Bytes.{past, past_continuations, byte_at, behind, stands_in}
+use Rattle.shgrammar.specs.Bytes.{past, past_continuations, byte_at, past_byte, stands_in}
 use Rattle.shgrammar.specs.Pieces.{past_taken, next_quote, is_last_backslash, past_parameter, rest_mode}
 use Rattle.shgrammar.specs.Sights.{Given, given, State}
 use Rattle.shgrammar.specs.Form.{Read, Form, Step, again, done, step_if, loop, many, leads_on, turns, does}
@@ -59,10 +59,10 @@ module _ {edition : Edition} {T U : List ℕ} {a L : ℕ} {to : ℕ → ℕ} (K 
   clear p from lt e = here K p from lt (λ f. absurd (raw_clear p e f))
 
   -- a byte that is read behind p, and one at p
-  pub before : (p : ℕ) → a ≤ p → In (behind T p) → In p
+  pub before : (p : ℕ) → a ≤ p → In (past_byte T p) → In p
   before p from i =
       let lt = i.inside in
-      let le = place_low T (behind T p) in
+      let le = place_low T (past_byte T p) in
       here K p from (omega (arith, lt, le, behind_is T p)) (λ f. omega (arith, lt, le, behind_is T p))
 
   pub high : {p : ℕ} → In p → p ≤ L
@@ -98,7 +98,7 @@ module _ {edition : Edition} {T U : List ℕ} {a L : ℕ} {to : ℕ → ℕ} (K 
   stretch_of test (suc n) p few from i =
       ⊎_elim
       (λ (e : stands_in test T p ≡ true). let more = past_more test T p e in
-      let rest = stretch_of test n (behind T p)
+      let rest = stretch_of test n (past_byte T p)
       (omega (arith, few, behind_low T p, stands_in_low test T p e, place_low T p))
       (omega (arith, from, behind_low T p)) (subst In more i) in
       let start = before p from rest.0 in (
@@ -265,16 +265,16 @@ module _ {edition : Edition} {T U : List ℕ} {a L : ℕ} {to : ℕ → ℕ} (K 
   quote_in s from e = cond_both (at_end T q) _ _ (Holds (Ends single (In K) s)) (λ f. tt) found
     where
       q : ℕ
-      q = next_quote T (behind T s.at)
+      q = next_quote T (past_byte T s.at)
 
       found : at_end T q ≡ false → (past_taken T q ≤ L) → (In K) s.at
           × ((y : Unit {0}) × (does single Whole h (there s) ≡ Ok (y, there (at (past_taken T q) s))))
       found f le =
-          let onward = next_of_low 39 T (behind T s.at) in
+          let onward = next_of_low 39 T (past_byte T s.at) in
           let q_in : q < L = omega (arith, le, taken_low T q) in
           let i = clear K s.at from (omega (arith, onward, q_in, behind_is T s.at)) e in
-          let low_q : a ≤ behind T s.at = omega (arith, from, behind_low T s.at) in
-          let found = raw_there K (λ b. not (b == 39)) (behind T s.at) low_q q_in in (
+          let low_q : a ≤ past_byte T s.at = omega (arith, from, behind_low T s.at) in
+          let found = raw_there K (λ b. not (b == 39)) (past_byte T s.at) low_q q_in in (
             i,
             (
               tt,
@@ -370,29 +370,29 @@ module _ {edition : Edition} {T U : List ℕ} {a L : ℕ} {to : ℕ → ℕ} (K 
       b2 = o2 + past_continuations U (to s.at)
 
       inside : State
-      inside = at (behind T s.at) s
+      inside = at (past_byte T s.at) s
 
   -- the quote behind the `$` is before the limit too
-  pub dollar_single_in : (s : State) → a ≤ s.at → Clear K s.at → Clear K (behind T s.at) →
-      Holds (Ends dollar_single (λ p. In K p × In K (behind T p)) s) (does dollar_single Whole g s)
+  pub dollar_single_in : (s : State) → a ≤ s.at → Clear K s.at → Clear K (past_byte T s.at) →
+      Holds (Ends dollar_single (λ p. In K p × In K (past_byte T p)) s) (does dollar_single Whole g s)
   unfolding dollar_single many
   dollar_single_in s from e e2 =
-      holds_so _ (Ends dollar_single (λ p. In K p × In K (behind T p)) s)
+      holds_so _ (Ends dollar_single (λ p. In K p × In K (past_byte T p)) s)
       (does (loop (escaped_turn escapings.DollarSingle b) tt) Whole g inside)
       (looped (λ (c d : Unit {0}). Unit {0}) (escaped_turn escapings.DollarSingle b)
       (escaped_turn escapings.DollarSingle b2) Below UpTo (λ p lt. omega (arith, lt)) (λ p le. le)
       (escaped_each escapings.DollarSingle b b2) tt inside
-      (omega (arith, from, behind_low T s.at, behind_low T (behind T s.at))))
+      (omega (arith, from, behind_low T s.at, behind_low T (past_byte T s.at))))
       (λ x t ends le. let w = ends le in
-      let j = clear K (behind T s.at) (omega (arith, from, behind_low T s.at))
-      (omega (arith, w.0, behind_is T (behind T s.at))) e2 in
-      let i = clear K s.at from (omega (arith, w.0, behind_is T s.at, behind_low T (behind T s.at))) e in
+      let j = clear K (past_byte T s.at) (omega (arith, from, behind_low T s.at))
+      (omega (arith, w.0, behind_is T (past_byte T s.at))) e2 in
+      let i = clear K s.at from (omega (arith, w.0, behind_is T s.at, behind_low T (past_byte T s.at))) e in
       let f = w.1 tt tt in (
         (i, j),
         (
           f.0,
           subst (λ (p : ℕ). turns h (λ u v. does (escaped_turn escapings.DollarSingle b2 u) Whole h v) tt (there_at p s)
-              ≡ Ok (f.0, there t)) (sym (ap (behind U) (here_behind K i) ∙ here_behind K j)) f.1.0,
+              ≡ Ok (f.0, there t)) (sym (ap (past_byte U) (here_behind K i) ∙ here_behind K j)) f.1.0,
         ),
       ))
     where
@@ -403,4 +403,4 @@ module _ {edition : Edition} {T U : List ℕ} {a L : ℕ} {to : ℕ → ℕ} (K 
       b2 = o2 + past_continuations U (to s.at)
 
       inside : State
-      inside = at (behind T (behind T s.at)) s
+      inside = at (past_byte T (past_byte T s.at)) s

@@ -9,7 +9,7 @@ use Rattle.shgrammar.specs.declared.token.Next.{Next}
 use Rattle.shgrammar.specs.declared.token.Position.TheVariants.{Command}
 use Rattle.shast.specs.Tree.{AnEntry, entries_of}
 use Rattle.shgrammar.specs.Standing.{count_front, raw_stands}
-use Rattle.shgrammar.specs.Bytes.{behind, past, past_below, past_blanks, past_continuations, count_joined}
+use Rattle.shgrammar.specs.Bytes.{past_byte, past, past_below, past_blanks, past_continuations, count_joined}
 use Rattle.shgrammar.specs.Comments.{comment_at}
 use Rattle.shgrammar.specs.Tokens.{is_end, token_at}
 use Rattle.shgrammar.specs.Sights.{Given, given, State, standing}
@@ -41,7 +41,7 @@ ended_by inner keep g s true end n =
     (λ t is. omega (arith, behind_low g.text s.at, change_low bodies_here g (past s) t is))
   where
     past : State → State
-    past u = record { at = behind g.text u.at; waiting = u.waiting; bodies = u.bodies }
+    past u = record { at = past_byte g.text u.at; waiting = u.waiting; bodies = u.bodies }
 
     by_change : (x : Result State Fault) → ((t : State) → x ≡ Ok t → s.at < t.at) →
         Holds (Ended s) (nothing_read x ▸ λ u t. Ok (true, t))

@@ -21,7 +21,7 @@ use Rattle.shast.specs.Shape.{shape_of_here, bare, bare_at, text_at, shape_of, s
 use Rattle.shgrammar.specs.Standing.{raw_stands, next_newline, before_blanks}
 use Rattle.shgrammar.specs.Comments.{span, comment_at, past_comment}
 use Rattle.shgrammar.specs.Sights.{Given, given, State, Move, a_comment_on, here, is_a_name}
-use Rattle.shgrammar.specs.Form.{change, Told, Read, Form, give, move, push, token, many, ◌>>=◌, ◌>>◌, Step, step_if, does, Spelled}
+use Rattle.shgrammar.specs.Form.{change, Telling, Read, Form, give, move, push, token, many, ◌>>=◌, ◌>>◌, Step, step_if, does, Spelled}
 use Rattle.shgrammar.specs.Words.{Inner, a_word}
 use Rattle.shgrammar.specs.Commands.{is_strip, document, document_by, a_document, is_empty, pick, next_token, is_newline_token, is_semicolon, a_semicolon, a_join_of, is_pipe, is_bang, begins_simple, begins_word, begins_redirect, begins_pipeline, opener_of, compound_by, and_or_operator_of, Items, so_many, breaks, behind_word, is_number_token, redirect_operator_of, takes_here, is_long, a_number, an_operator, operator_by, a_target, one_redirect, behind_redirect, redirect_turn, with_redirect_list, as_item, an_item, item_by, item_turn, a_simple, comment_by, a_comment, a_newline, unexpected, JoinSo, join_so, with_comment, join_turn, a_join, a_command, a_bang, Piped, piped, one_command, pipe_turn, a_pipeline, Joined, joined_so, one_pipeline, joined_by, join_pipeline, an_and_or, separator_of, separator_by, a_separator, is_background, ASeparator, past_separator, Entered, an_entry, is_word, is_paren, ends_item, falls_through, named_function, a_word_command}
 use Rattle.shgrammar.specs.Lists.{Listed, ListSo, list_so, none_listed, is_blank_next, with_command, next_line, one_entry, entry_turn, remark_by, a_remark, on_line, list_turn, a_list}
@@ -141,10 +141,10 @@ module _ {edition : Edition} {T U : List ℕ} {a M : ℕ} {to : ℕ → ℕ} {li
   at_same r q each n m same = go_at E o o2 B B2 stands stands_there r q each n m same
 
   -- an operator, told in whatever way
-  marks : {how : Told} {m : Move} → Goes2 (λ x y. Unit {0}) (token how (move m)) (token how (move m))
+  marks : {how : Telling} {m : Move} → Goes2 (λ x y. Unit {0}) (token how (move m)) (token how (move m))
   marks = go_so E o o2 B B2 stands stands_there (go_token E o o2 B B2 stands stands_there moves_on) (λ x y so. tt)
 
-  two_marks : {how : Told} {m k : Move} →
+  two_marks : {how : Telling} {m k : Move} →
       Goes2 (λ x y. Unit {0}) (token how (move m >> move k)) (token how (move m >> move k))
   two_marks = go_so E o o2 B B2 stands stands_there
       (go_token E o o2 B B2 stands stands_there {S = λ x y. Unit {0}} (then moves_on (λ u v all. moves_on)))

@@ -17,7 +17,7 @@ use Rattle.shast.specs.declared.tree.RedirectOperator.{RedirectOperator}
 use Rattle.shast.specs.declared.tree.Span.{Span}
 use Rattle.shast.specs.Nodes.{IsSpanWithin, word_span}
 use Rattle.shast.specs.Tree.{ACommand, AnItem, ASubst, AWord, formed, item, items_of, simple, compound, function, with_redirects, word}
-use Rattle.shgrammar.specs.Bytes.{past_continuations, behind}
+use Rattle.shgrammar.specs.Bytes.{past_continuations, past_byte}
 use Rattle.shgrammar.specs.Comments.{span, comment_at}
 use Rattle.shgrammar.specs.Sights.{Given, State}
 use Rattle.shgrammar.specs.HereDocuments.{ADelimiter}
@@ -187,8 +187,8 @@ module _ {g : Given} {limit : ℕ} where
     piece_in_by mode b h pieces.Pid s so = after (λ x t. after (λ y u. gives so))
     piece_in_by mode b h pieces.Subst s so =
         let p = s.at in
-        let low_p : g.offset + past_continuations g.text p ≤ g.offset + behind g.text (behind g.text p) =
-        omega (arith, behind_is g.text p, behind_low g.text (behind g.text p)) in
+        let low_p : g.offset + past_continuations g.text p ≤ g.offset + past_byte g.text (past_byte g.text p) =
+        omega (arith, behind_is g.text p, behind_low g.text (past_byte g.text p)) in
         sees (moves (moves (first (fine.substitution (g.offset + past_continuations g.text p) h.substs _ low_p so)
         (λ zs t good. gives good))))
     piece_in_by mode b h pieces.Arith s so =

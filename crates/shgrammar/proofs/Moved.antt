@@ -13,11 +13,11 @@ use Rattle.shgrammar.specs.declared.fault.FaultKind.TheVariants.{UnexpectedEnd}
 use Rattle.shast.specs.declared.tree.Span.{Span}
 use Rattle.shast.specs.Nodes.{placed_span}
 use Rattle.shgrammar.specs.Standing.{raw_stands, next_newline, before_blanks}
-use Rattle.shgrammar.specs.Bytes.{behind}
+use Rattle.shgrammar.specs.Bytes.{past_byte}
 use Rattle.shgrammar.specs.Comments.{span, comment_at}
 use Rattle.shgrammar.specs.Sights.{Given, given, State, Waiting, Sight, seen, here, the_byte, the_comment, a_document_waits, Move, one_byte}
 use Rattle.shgrammar.specs.HereDocuments.{rest_of_line, past_line, takes_newline, delimiter_below, delimiter_on, delimiter_from, body_by, bodies_from, state_by, first_waiting, waits, bodies_here, own_level, outer_level}
-use Rattle.shgrammar.specs.Form.{raw, nothing_read, change, with_bytes, a_level, Spelled, Told, Read, ◌▸◌, Form, give, see, move, push, stop, both, when, token, many, ends_as, with_end, ended, ended_by, Step, again, done, leads_on, turns, does, moved_on, grows}
+use Rattle.shgrammar.specs.Form.{raw, nothing_read, change, with_bytes, a_level, Spelled, Telling, Read, ◌▸◌, Form, give, see, move, push, stop, both, when, token, many, ends_as, with_end, ended, ended_by, Step, again, done, leads_on, turns, does, moved_on, grows}
 use Rattle.shast.specs.Moved.{placed_body}
 use Rattle.shgrammar.specs.Moved.{moved_fault, moved_waiting, moved_state}
 use Rattle.shgrammar.specs.Commands.{pick}
@@ -251,7 +251,7 @@ token_like k o c P s (Ok (x, t)) (Err e) like = absurd like
 token_like k o c P s (Err e) (Ok (y, t)) like = absurd like
 token_like k o c P s (Err e) (Err f) like = like
 
-pub moves_token : {z : Place} {X : Type 0} {c : X → X} {P : X → Type 0} {how : Told} {r q : Form X} → Moves z c P r q →
+pub moves_token : {z : Place} {X : Type 0} {c : X → X} {P : X → Type 0} {how : Telling} {r q : Form X} → Moves z c P r q →
     Moves z (each c (placed_span z.base)) (of_first P) (token how r) (token how q)
 moves_token {z = z} {c = c} {P = P} {r = r} {q = q} one =
     record {
@@ -451,9 +451,9 @@ module _ {z : Place} {Y : Type 0} (d : Y → Y) (Q : Y → Type 0) (f h : Unit {
   -- the bodies behind a newline
   pub moves_newline : Moves z d Q (both (move one_byte) (λ u. both (change bodies_here) f))
       (both (move one_byte) (λ u. both (change bodies_here) h))
-  unfolding behind
+  unfolding past_byte
   moves_newline = record {
     like =
-        λ s. change_like _ _ (bodies_moved z.edition z.text z.base z.offset s.waiting s.bodies (behind z.text s.at)
+        λ s. change_like _ _ (bodies_moved z.edition z.text z.base z.offset s.waiting s.bodies (past_byte z.text s.at)
         (omega arith));
   }

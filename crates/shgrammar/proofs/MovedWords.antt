@@ -13,7 +13,7 @@ use Rattle.shgrammar.specs.declared.token.Next.{Next}
 use Rattle.shgrammar.specs.declared.token.Opener.{Opener}
 use Rattle.shgrammar.specs.declared.token.Position.{Position}
 use Rattle.shgrammar.specs.Sights.{Move}
-use Rattle.shgrammar.specs.Form.{Told, move, token, step_if}
+use Rattle.shgrammar.specs.Form.{Telling, move, token, step_if}
 use Rattle.shgrammar.specs.Words.{single, escaped_turn, backquoted_text, Inner, WordSoFar, having, opened, piece_row, a_piece, contents, a_word}
 use Rattle.shgrammar.specs.Tokens.{is_end}
 use Rattle.shgrammar.specs.Commands.{next_token, comment_by, a_comment, wrong_with, what_is_wrong, unexpected}
@@ -71,7 +71,7 @@ module _ (z : Place) where
   moves_next position = moves_see (λ s. refl) (λ n. moves_on (moves_give refl tt))
 
   -- an operator, told in whatever way
-  pub moves_mark : {how : Told} {m : Move} →
+  pub moves_mark : {how : Telling} {m : Move} →
       Moves z (each {X = Unit {0}} same (span_to k)) (of_first Any) (token how (move m)) (token how (move m))
   moves_mark = moves_token moves_move
 

@@ -12,7 +12,7 @@ use Rattle.shgrammar.specs.declared.token.Reserved.{Reserved}
 use Rattle.shgrammar.specs.declared.token.Token.TheVariants as tokens
 use Rattle.shgrammar.specs.Classes.{is_blank, is_letter, is_digit, is_name}
 use Rattle.shgrammar.specs.Standing.{is_byte, passes, raw_stands}
-use Rattle.shgrammar.specs.Bytes.{ends, ends_word, past, past_continuations, byte_at, behind, stands, stands_in}
+use Rattle.shgrammar.specs.Bytes.{ends, ends_word, past, past_continuations, byte_at, past_byte, stands, stands_in}
 use Rattle.shgrammar.specs.Comments.{span}
 use Rattle.shgrammar.specs.Pieces.{piece_at}
 use Rattle.shgrammar.specs.Plain.{is_plain}
@@ -59,7 +59,7 @@ module _ (edition : Edition) (room : ℕ) (T : List ℕ) (o opener : ℕ) where
   -- a byte of a NAME is a piece
   name_turn : (r b : ℕ) (c : WordSoFar) → byte_at T r ≡ Some b → is_name b ≡ true →
       does (a_piece (level room) Plain opener c) Whole (given edition T o) (standing r)
-      ≡ Ok (again c, standing (behind T r))
+      ≡ Ok (again c, standing (past_byte T r))
   unfolding a_piece piece_at
   name_turn r b c is_b e = rw (is_b, ordinary_by T r Plain c.nested b (name_plain b e)) refl
 
@@ -78,10 +78,10 @@ module _ (edition : Edition) (room : ℕ) (T : List ℕ) (o opener : ℕ) where
       (λ (f : stands_in is_name T r ≡ true). let more = past_more is_name T r f in
       let b = byte_in is_name T r f in
       let inside = stands_in_low is_name T r f in
-      let high : behind T r ≤ length T = omega (arith, inside, behind_is T r) in
-      many_again (a_piece (level room) Plain opener) Whole (given edition T o) c c (standing r) (standing (behind T r))
+      let high : past_byte T r ≤ length T = omega (arith, inside, behind_is T r) in
+      many_again (a_piece (level room) Plain opener) Whole (given edition T o) c c (standing r) (standing (past_byte T r))
       (name_turn r b.0 c b.1 b.2) (behind_low T r) high
-      ∙ names_on n (behind T r) c (omega (arith, few, high, behind_low T r)) (subst (λ q. ends_word T q ≡ true) more e)
+      ∙ names_on n (past_byte T r) c (omega (arith, few, high, behind_low T r)) (subst (λ q. ends_word T q ≡ true) more e)
       ∙ ap (λ (q : ℕ). Ok (c, standing q)) (sym more))
       (λ (f : stands_in is_name T r ≡ false). let none = past_none is_name T r f in
       many_done (a_piece (level room) Plain opener) Whole (given edition T o) c c (standing r) (standing r)
@@ -156,7 +156,7 @@ module _ (room : ℕ) (g : Given) (p n : ℕ) (read : ReadsWord room g p n) (sti
   begins_name = ap (passes is_name) first.1 ∙ letter_name first.0 first.2
 
   longer : p < p + n
-  longer = omega (arith, past_more is_name T p begins_name, past_low is_name T (behind T p), behind_low T p, end_is)
+  longer = omega (arith, past_more is_name T p begins_name, past_low is_name T (past_byte T p), behind_low T p, end_is)
 
   -- the token and its first byte
   token_here : token_of Command T p (Some first.0) ≡ tokens.Word
@@ -210,13 +210,13 @@ module _ (room : ℕ) (g : Given) (p n : ℕ) (read : ReadsWord room g p n) (sti
     inside_of {r = r} go e =
         let b = byte_in is_name T r e in
         let more = past_more is_name T r e in
-        let lt = past_low is_name T (behind T r) in
+        let lt = past_low is_name T (past_byte T r) in
         let up = go.up in
         here K r go.low (omega (arith, more, lt, up, behind_is T r))
         (λ f. absurd (both_ways (is_byte (slice_get T (past_continuations T r)) 92)
         (ap (λ x. is_byte x 92) b.1 ∙ no_backslash b.0 b.2) f))
 
-    next_goes : {r : ℕ} → Goes r → stands_in is_name T r ≡ true → Goes (behind T r)
+    next_goes : {r : ℕ} → Goes r → stands_in is_name T r ≡ true → Goes (past_byte T r)
     next_goes {r = r} go e = record {
       low = omega (arith, go.low, behind_low T r);
       up = sym (past_more is_name T r e) ∙ go.up;
@@ -236,7 +236,7 @@ module _ (room : ℕ) (g : Given) (p n : ℕ) (read : ReadsWord room g p n) (sti
         (λ (e : stands_in is_name T r ≡ true). let h = inside_of go e in
         let inside = stands_in_low is_name T r e in
         past_more is_name U (to r) (here_stands_in K h is_name ∙ e) ∙ ap (past is_name U) (here_behind K h)
-        ∙ past_there m (behind T r) (omega (arith, few, inside, behind_is T r, behind_low T r)) (next_goes go e))
+        ∙ past_there m (past_byte T r) (omega (arith, few, inside, behind_is T r, behind_low T r)) (next_goes go e))
         (λ (e : stands_in is_name T r ≡ false). let end = at_limit go e in
         ap (λ x. past is_name U (to x)) end ∙ past_none is_name U (to L) limit_none)
         (cases_Bool (stands_in is_name T r))
@@ -277,8 +277,8 @@ module _ (room : ℕ) (g : Given) (p n : ℕ) (read : ReadsWord room g p n) (sti
         (cases_Bool (stands_in is_name T r))
 
     -- behind a byte that stands before the limit
-    next_spelled : {r : ℕ} (c : ℕ) → is_plain Plain c ≡ true → Goes r → stands T r c ≡ true → Goes (behind T r)
-        × (behind U (to r) ≡ to (behind T r))
+    next_spelled : {r : ℕ} (c : ℕ) → is_plain Plain c ≡ true → Goes r → stands T r c ≡ true → Goes (past_byte T r)
+        × (past_byte U (to r) ≡ to (past_byte T r))
     next_spelled {r = r} c plain go f =
         ⊎_elim (λ (e : stands_in is_name T r ≡ true). (next_goes go e, here_behind K (inside_of go e)))
         (λ (e : stands_in is_name T r ≡ false). let end = at_limit go e in
@@ -290,10 +290,10 @@ module _ (room : ℕ) (g : Given) (p n : ℕ) (read : ReadsWord room g p n) (sti
     same_spelled [] r e go = spelled_none U (to r) ∙ same_ends go ∙ sym (spelled_none T r)
     same_spelled (x ∷ xs) r e go =
         let plain = and_parts _ _ e in
-        spelled_more U (to r) x xs ∙ ap (λ b. b && is_word_at U (behind U (to r)) xs) (same_stands x plain.0 go)
+        spelled_more U (to r) x xs ∙ ap (λ b. b && is_word_at U (past_byte U (to r)) xs) (same_stands x plain.0 go)
         ∙ same_and (stands T r x) _ _
         (λ f. let next = next_spelled x plain.0 go f in
-        ap (λ s. is_word_at U s xs) next.1 ∙ same_spelled xs (behind T r) plain.1 next.0)
+        ap (λ s. is_word_at U s xs) next.1 ∙ same_spelled xs (past_byte T r) plain.1 next.0)
         ∙ sym (spelled_more T r x xs)
 
     same_words : (ws : Row Spelling) → all_spelled ws ≡ true → first_of_words U (to p) ws ≡ first_of_words T p ws

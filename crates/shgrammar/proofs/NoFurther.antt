@@ -12,7 +12,7 @@ use Rattle.shast.specs.Shape.{bare}
 use Rattle.shgrammar.specs.Comments.{span}
 use Rattle.shgrammar.specs.Sights.{Given, given, State, Sight, here, the_byte, the_piece, the_rest, the_end, a_raw, last_backslash, the_token, the_comment, is_a_name, a_document_waits, seen}
 use Rattle.shgrammar.specs.HereDocuments.{Change, changed, own_level}
-use Rattle.shgrammar.specs.Form.{change, with_bytes, a_level, Changed, changes, cannot, WithBytes, with_its_bytes, without_bytes, OwnLevel, level_read, level_stops, Spelled, Told, untold, as_it_stands, bared, by, tell, Read, Form, give, see, move, push, stop, both, when, token, loop, ends_as, Step, again, done, Just, just, Halts, halted, Then, and_then, or_stops, holds, fails, raw, OneToken, whole, broken_off, leads_on, Turns, last, rests, more, halts, Ending, goes_through, stops_inside, moved_on, may, in_substitution}
+use Rattle.shgrammar.specs.Form.{change, with_bytes, a_level, Changed, changes, cannot, WithBytes, with_its_bytes, without_bytes, OwnLevel, level_read, level_stops, Spelled, Telling, untold, as_it_stands, bared, by, tell, Read, Form, give, see, move, push, stop, both, when, token, loop, ends_as, Step, again, done, Just, just, Halts, halted, Then, and_then, or_stops, holds, fails, raw, OneToken, whole, broken_off, leads_on, Turns, last, rests, more, halts, Ending, goes_through, stops_inside, moved_on, may, in_substitution}
 use Rattle.shgrammar.proofs.OneOutcome.{is}
 use Rattle.shgrammar.proofs.Holds.{Holds, Behind, low}
 use Rattle.shgrammar.proofs.Ahead.{ListEnds, same_name, same_place, same_next}
@@ -136,13 +136,13 @@ module _ {edition : Edition} {T U : List ℕ} {a M : ℕ} {to : ℕ → ℕ} (E 
       (c.0, and_then c.1 b.1)
   both_back r q s first rest from y k (or_stops one) good = absurd good
 
-  same_tell : (how : Told) (p q u v : ℕ) → raw U u v ≡ raw T p q → tell how U u v ≡ tell how T p q
+  same_tell : (how : Telling) (p q u v : ℕ) → raw U u v ≡ raw T p q → tell how U u v ≡ tell how T p q
   same_tell untold p q u v same = refl
   same_tell as_it_stands p q u v same = ap (λ z. z ∷ []) same
   same_tell bared p q u v same = ap (λ z. bare z ∷ []) same
   same_tell (by text) p q u v same = refl
 
-  token_back : {X : Type 0} (how : Told) (r : Form X) (s : State) →
+  token_back : {X : Type 0} (how : Telling) (r : Form X) (s : State) →
       ((y : Read X) (k : Row Spelled) → may r g s y k → Back r s y k) → a ≤ s.at →
       (y : Read (X × Span)) (k : Row Spelled) → OneToken how g (may r g) s y k → Back (token how r) s y k
   token_back {X = X} how r s first from y k (whole {x = x} {t = t} {k = k1} part) good =

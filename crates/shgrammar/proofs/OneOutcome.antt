@@ -8,7 +8,7 @@ use Rattle.shgrammar.specs.declared.fault.FaultKind.{FaultKind}
 use Rattle.shgrammar.specs.Comments.{span}
 use Rattle.shgrammar.specs.Sights.{Given, State, seen}
 use Rattle.shgrammar.specs.HereDocuments.{changed, own_level, outer_level}
-use Rattle.shgrammar.specs.Form.{Spelled, Read, Comes, Step, again, done, Form, give, see, move, push, stop, both, when, token, loop, ends_as, change, with_bytes, a_level, Just, just, Halts, halted, Then, and_then, or_stops, Either, holds, fails, Told, tell, OneToken, whole, broken_off, leads_on, Turns, last, rests, more, halts, Ending, goes_through, stops_inside, with_end, Changed, changes, cannot, nothing_read, WithBytes, with_its_bytes, without_bytes, OwnLevel, level_read, level_stops, raw, moved_on, may, ◌▸◌, turns, does, in_substitution}
+use Rattle.shgrammar.specs.Form.{Spelled, Read, Comes, Step, again, done, Form, give, see, move, push, stop, both, when, token, loop, ends_as, change, with_bytes, a_level, Just, just, Halts, halted, Then, and_then, or_stops, Either, holds, fails, Telling, tell, OneToken, whole, broken_off, leads_on, Turns, last, rests, more, halts, Ending, goes_through, stops_inside, with_end, Changed, changes, cannot, nothing_read, WithBytes, with_its_bytes, without_bytes, OwnLevel, level_read, level_stops, raw, moved_on, may, ◌▸◌, turns, does, in_substitution}
 use Rattle.shgrammar.proofs.Turns.{turns_on, turns_rest, turns_done, turns_fault}
 
 -- x is what may be read, and nothing else
@@ -62,7 +62,7 @@ module _ {X : Type 0} (r q : Comes X) (s : State) (x y : Read X) (one : Is (r s)
 
 -- ---- one token
 
-module _ {X : Type 0} (how : Told) (g : Given) (r : Comes X) (s : State) where
+module _ {X : Type 0} (how : Telling) (g : Given) (r : Comes X) (s : State) where
   abbrev spanned : Read X → Read (X × Span)
   spanned x = x ▸ λ a t. Ok ((a, span g.offset s.at t.at), t)
 

@@ -11,7 +11,7 @@ use Rattle.shgrammar.specs.declared.mode.Mode.TheVariants.{Plain, Double, Brace,
 use Rattle.shgrammar.specs.declared.mode.Piece.{Piece}
 use Rattle.shgrammar.specs.declared.mode.Piece.TheVariants as pieces
 use Rattle.shgrammar.specs.Standing.{is_byte, at_end, raw_stands}
-use Rattle.shgrammar.specs.Bytes.{ends, past_continuations, byte_at, behind, stands}
+use Rattle.shgrammar.specs.Bytes.{ends, past_continuations, byte_at, past_byte, stands}
 use Rattle.shgrammar.specs.Pieces.{dollar_by, dollar_at, bracket_by, byte_by, piece_by, piece_at, past_taken, past_closer, past_parameter, braces_in, rest_mode}
 use Rattle.shast.specs.Shape.{shape_of_subst}
 use Rattle.shast.specs.Tree.{ASubst}
@@ -125,7 +125,7 @@ module _ {edition : Edition} {T U : List ℕ} {a L : ℕ} {to : ℕ → ℕ} (K 
   dollar_piece : (mode : Mode) (n p b : ℕ) → byte_at T p ≡ Some b → (b == 92) ≡ false → (b == 96) ≡ false →
       (b == 36) ≡ true → Inside p
       → piece_in edition mode (piece_at U mode n (to p))
-      ≡ piece_in edition mode (dollar_by U (to (behind T p)) (byte_at U (to (behind T p))))
+      ≡ piece_in edition mode (dollar_by U (to (past_byte T p)) (byte_at U (to (past_byte T p))))
   unfolding piece_at dollar_at
   dollar_piece mode n p b is e f d i = rw (here_byte K i, is, e, f, d, here_behind K i) refl
 
@@ -156,7 +156,7 @@ module _ {edition : Edition} {T U : List ℕ} {a L : ℕ} {to : ℕ → ℕ} (K 
       p = s.at
 
       abbrev q : ℕ
-      q = behind T s.at
+      q = past_byte T s.at
 
       abbrev n : ℕ
       n = c.nested
@@ -203,7 +203,7 @@ module _ {edition : Edition} {T U : List ℕ} {a L : ℕ} {to : ℕ → ℕ} (K 
           (w : WordSoFar → WordSoFar) → ((d : WordSoFar) → Agree c d → Agree (w c) (w d)) → (x : Piece) →
           (Inside p → From mode q → Told x)
           → ((d : WordSoFar) → does (piece_row inner mode b2 d x) Whole h (over s)
-          ≡ Ok (again (w d), there_at K o o2 (behind U (to p)) s)) → Turn (again (w c)) (placed q s)
+          ≡ Ok (again (w d), there_at K o o2 (past_byte U (to p)) s)) → Turn (again (w c)) (placed q s)
       one_byte_row e lt w same x told row goal =
           let i = clear K p from (omega (arith, goal.0, behind_is T p)) e in
           let next = goal.1 (leads_byte lt) in (
@@ -272,7 +272,7 @@ module _ {edition : Edition} {T U : List ℕ} {a L : ℕ} {to : ℕ → ℕ} (K 
       dollar_quoted : is_byte (byte_at T p) 92 ≡ false → is_byte (byte_at T q) 92 ≡ false →
           (Inside p → Inside q → Told pieces.DollarSingle) → Again pieces.DollarSingle
       dollar_quoted e e2 told =
-          holds_then (Ends K o o2 dollar_single (λ r. Inside r × Inside (behind T r)) s) Turn
+          holds_then (Ends K o o2 dollar_single (λ r. Inside r × Inside (past_byte T r)) s) Turn
           (does dollar_single Whole g s) (λ u v. Ok (again c, v)) (dollar_single_in K o o2 s from e e2)
           (λ u t ends goal. let w = ends goal.0 in (
             inl w.0.0,
@@ -305,14 +305,14 @@ module _ {edition : Edition} {T U : List ℕ} {a L : ℕ} {to : ℕ → ℕ} (K 
       string told = open_row pieces.Double Double tt _ (o2 + past_continuations U (to p)) q q_low
           (λ i. let j = before K p from i in (j, (told j, λ d. rw (here_behind K j) refl)))
 
-      q2_low : a ≤ behind T q
+      q2_low : a ≤ past_byte T q
       q2_low = omega (arith, q_low, behind_low T q)
 
-      arithmetic : (Inside p → Inside q → Inside (behind T q) → Told pieces.Arith) → Again pieces.Arith
+      arithmetic : (Inside p → Inside q → Inside (past_byte T q) → Told pieces.Arith) → Again pieces.Arith
       arithmetic told =
-          open_row pieces.Arith Arith tt _ (o2 + past_continuations U (to p)) (behind T (behind T q))
-          (omega (arith, q2_low, behind_low T (behind T q)))
-          (λ i. let l = before K (behind T q) q2_low i in
+          open_row pieces.Arith Arith tt _ (o2 + past_continuations U (to p)) (past_byte T (past_byte T q))
+          (omega (arith, q2_low, behind_low T (past_byte T q)))
+          (λ i. let l = before K (past_byte T q) q2_low i in
           let k = before K q q_low l in
           let j = before K p from k in
           (j, (told j k l, λ d. rw (here_behind K j, here_behind K k, here_behind K l) refl)))
@@ -330,19 +330,19 @@ module _ {edition : Edition} {T U : List ℕ} {a L : ℕ} {to : ℕ → ℕ} (K 
 
       parameter : (Inside p → Inside q → Told pieces.Param) → Again pieces.Param
       parameter told =
-          let r = past_parameter T (behind T q) in
+          let r = past_parameter T (past_byte T q) in
           open_row pieces.Param (rest_mode T mode r) (rest_closed r) _ (o2 + past_continuations U (to p)) r
-          (omega (arith, q2_low, parameter_low T (behind T q)))
-          (λ i. let w = parameter_in K (behind T q) q2_low i in
+          (omega (arith, q2_low, parameter_low T (past_byte T q)))
+          (λ i. let w = parameter_in K (past_byte T q) q2_low i in
           let k = before K q q_low w.0 in
           let j = before K p from k in
           (j, (told j k, λ d. rw (here_behind K j, here_behind K k, w.1, rest_in K mode r i) refl)))
 
       -- a substitution, from behind its opener on
-      substitution : (Inside p → Inside q → Inside (behind T q) → Told pieces.Subst) → Again pieces.Subst
+      substitution : (Inside p → Inside q → Inside (past_byte T q) → Told pieces.Subst) → Again pieces.Subst
       substitution told =
           let k2 = o2 + past_continuations U (to p) in
-          let inside = placed (behind T q) s in
+          let inside = placed (past_byte T q) s in
           holds_then (Holding (inner.substitution k2) c.substs inside) Turn
           (does (inner.substitution (o + past_continuations T p) c.substs) Whole g inside)
           (λ x t. Ok (again (having c.nested x), t))
@@ -361,12 +361,12 @@ module _ {edition : Edition} {T U : List ℕ} {a L : ℕ} {to : ℕ → ℕ} (K 
           let j = clear K q q_low (omega (arith, goal.0, behind_is T q)) e in
           let i = before K p from j in (
             inl i,
-            λ d so. row_there pieces.Pid (told i j) d so (SameStep Agree (again c)) (placed (behind T q) s)
+            λ d so. row_there pieces.Pid (told i j) d so (SameStep Agree (again c)) (placed (past_byte T q) s)
                 (again d, (rw (here_behind K i, here_behind K j) refl, so)),
           )
 
       -- what closes a construct
-      closer : ((V : List ℕ) (r : ℕ) → past_closer V mode r ≡ behind V r) → is_byte (byte_at T p) 92 ≡ false →
+      closer : ((V : List ℕ) (r : ℕ) → past_closer V mode r ≡ past_byte V r) → is_byte (byte_at T p) 92 ≡ false →
           (Inside p → Told pieces.Closer) → Again pieces.Closer
       closer one e told goal =
           let le = goal.0 in
@@ -376,7 +376,7 @@ module _ {edition : Edition} {T U : List ℕ} {a L : ℕ} {to : ℕ → ℕ} (K 
                 (placed (past_closer T mode p) s) (done d, (rw (one U (to p), one T p, here_behind K i) refl, so)),
           )
 
-      closer_two : ((V : List ℕ) (r : ℕ) → past_closer V mode r ≡ behind V (behind V r)) →
+      closer_two : ((V : List ℕ) (r : ℕ) → past_closer V mode r ≡ past_byte V (past_byte V r)) →
           is_byte (byte_at T q) 92 ≡ false → (Inside p → Inside q → Told pieces.Closer) → Again pieces.Closer
       closer_two two e told goal =
           let le = goal.0 in
@@ -419,7 +419,7 @@ module _ {edition : Edition} {T U : List ℕ} {a L : ℕ} {to : ℕ → ℕ} (K 
               (λ m. twice (rw is2 (grind (arith, nat_tests)))
               (λ i j. dollar_piece mode n p v is e f d i ∙ rw (here_byte K j, is2, m) refl))
               (λ m. cond_both (w == 40) _ _ Known
-              (λ k. cond_both (stands T (behind T q) 40) _ _ Known
+              (λ k. cond_both (stands T (past_byte T q) 40) _ _ Known
               (λ z. arithmetic (λ i j l. dollar_piece mode n p v is e f d i
               ∙ rw (here_byte K j, is2, m, k, here_behind K j, here_stands K l 40, z) refl))
               (λ z. substitution (λ i j l. dollar_piece mode n p v is e f d i
@@ -493,10 +493,10 @@ module _ {edition : Edition} {T U : List ℕ} {a L : ℕ} {to : ℕ → ℕ} (K 
         unfolding stands
         bracket_clear r e = byte_other (byte_at T r) 41 92 refl e
 
-        bracket_row : (m : ℕ) → c.nested ≡ m → (two : Bool) → stands T (behind T s.at) 41 ≡ two → (v == 41) ≡ true →
+        bracket_row : (m : ℕ) → c.nested ≡ m → (two : Bool) → stands T (past_byte T s.at) 41 ≡ two → (v == 41) ≡ true →
             KnownIn Arith (bracket_by m two)
         bracket_row zero none true follows e =
-            closer_two inner local Arith b b2 c s from (λ V r. refl) (bracket_clear (behind T s.at) follows)
+            closer_two inner local Arith b b2 c s from (λ V r. refl) (bracket_clear (past_byte T s.at) follows)
             (λ i j. told Arith i ∙ rw (e, none, here_behind K i, here_stands K j 41, follows) refl)
         bracket_row zero none false follows e = tt
         bracket_row (suc m) some_open x follows e =
@@ -534,7 +534,7 @@ module _ {edition : Edition} {T U : List ℕ} {a L : ℕ} {to : ℕ → ℕ} (K 
             (λ i next. told DoubleBrace i ∙ rw (e, d) refl)))
         by_mode Arith =
             cond_both (v == 41) _ _ (KnownIn Arith)
-            (λ e. bracket_row c.nested refl (stands T (behind T s.at) 41) refl e)
+            (λ e. bracket_row c.nested refl (stands T (past_byte T s.at) 41) refl e)
             (λ e. cond_both (v == 40) _ _ (KnownIn Arith)
             (λ f. opening inner local Arith b b2 c s from clear_here some (λ i next. told Arith i ∙ rw (e, f) refl))
             (λ f. ordinary inner local Arith b b2 c s from clear_here some (λ i next. told Arith i ∙ rw (e, f) refl)))

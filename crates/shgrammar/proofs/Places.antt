@@ -6,7 +6,7 @@ use Rattle.std.proofs.lemmas.List.{length-drop, drop-drop}
 use Rattle.std.proofs.lemmas.Option.{slice_get_within, slice_get-get_or}
 use Rattle.shgrammar.specs.Classes.{is_blank, is_digit, is_name, is_letter, is_special}
 use Rattle.shgrammar.specs.Standing.{is_byte, is_none, raw_stands, raw_in, at_end, raw_past, next_of, passes, count_front, next_newline}
-use Rattle.shgrammar.specs.Bytes.{stands, ends_word, stands_in, past, past_below, past_blanks, count_joined, past_continuations, byte_at, behind}
+use Rattle.shgrammar.specs.Bytes.{stands, ends_word, stands_in, past, past_below, past_blanks, count_joined, past_continuations, byte_at, past_byte}
 use Rattle.shgrammar.specs.declared.mode.Escaping.{Escaping}
 use Rattle.shgrammar.specs.declared.mode.Escaping.TheVariants as escapings
 use Rattle.shgrammar.specs.Pieces.{closes_by, next_escaped, past_parameter}
@@ -99,23 +99,23 @@ end_high T p e = high (slice_get T p) refl e
     high (Some b) is end = absurd cc
 
 -- behind a byte is to the right of it
-pub behind_low : (T : List ℕ) (p : ℕ) → p < behind T p
-unfolding behind
+pub behind_low : (T : List ℕ) (p : ℕ) → p < past_byte T p
+unfolding past_byte
 behind_low T p = omega (arith, place_low T p)
 
 -- past continuations is before the place behind the byte
-pub behind_place : (T : List ℕ) (p : ℕ) → past_continuations T p < behind T p
-unfolding behind
+pub behind_place : (T : List ℕ) (p : ℕ) → past_continuations T p < past_byte T p
+unfolding past_byte
 behind_place T p = omega arith
 
 -- where a byte is read, the place behind it is within the text
-pub behind_high : (T : List ℕ) (p : ℕ) → past_continuations T p < length T → behind T p ≤ length T
-unfolding behind
+pub behind_high : (T : List ℕ) (p : ℕ) → past_continuations T p < length T → past_byte T p ≤ length T
+unfolding past_byte
 behind_high T p lt = omega arith
 
 -- the byte that was read is the last one
-pub behind_back : (T : List ℕ) (p : ℕ) → behind T p - 1 ≡ past_continuations T p
-unfolding behind
+pub behind_back : (T : List ℕ) (p : ℕ) → past_byte T p - 1 ≡ past_continuations T p
+unfolding past_byte
 behind_back T p = omega arith
 
 -- ---- stretches of the text as it stands
@@ -202,7 +202,7 @@ unfolding past_below
 below_low zero test T p = omega arith
 below_low (suc n) test T p =
     cond_both (stands_in test T p) _ _ (λ q. p ≤ q)
-    (λ e. omega (arith, below_low n test T (behind T p), behind_low T p)) (λ e. omega arith)
+    (λ e. omega (arith, below_low n test T (past_byte T p), behind_low T p)) (λ e. omega arith)
 
 -- a stretch does not end before it begins
 pub past_low : (test : ℕ → Bool) (T : List ℕ) (p : ℕ) → p ≤ past test T p
@@ -215,7 +215,7 @@ unfolding past_below
 below_high zero test T p within = within
 below_high (suc n) test T p within =
     cond_both (stands_in test T p) _ _ (λ q. q ≤ length T)
-    (λ e. below_high n test T (behind T p) (behind_high T p (stands_in_low test T p e))) (λ e. within)
+    (λ e. below_high n test T (past_byte T p) (behind_high T p (stands_in_low test T p e))) (λ e. within)
 
 -- nor past the end of the text
 pub past_high : (test : ℕ → Bool) (T : List ℕ) (p : ℕ) → p ≤ length T → past test T p ≤ length T
@@ -231,7 +231,7 @@ below_stops zero test T p low =
     (λ e. let lt = stands_in_low test T p e in let at = place_low T p in absurd (omega arith))
 below_stops (suc n) test T p low =
     cond_both (stands_in test T p) _ _ (λ q. stands_in test T q ≡ false)
-    (λ e. below_stops n test T (behind T p) (omega (arith, behind_low T p))) (λ e. e)
+    (λ e. below_stops n test T (past_byte T p) (omega (arith, behind_low T p))) (λ e. e)
 
 -- behind a stretch no byte of its kind is read
 pub past_stops : (test : ℕ → Bool) (T : List ℕ) (p : ℕ) → stands_in test T (past test T p) ≡ false
@@ -256,7 +256,7 @@ blanks_stop T p = stands_in_past is_blank T (past is_blank T p) ∙ past_stops i
 -- behind a reserved word
 pub reserved_low : (T : List ℕ) (p : ℕ) → p ≤ past_reserved T p
 unfolding past_reserved
-reserved_low T p = omega (arith, behind_low T p, past_low is_name T (behind T p))
+reserved_low T p = omega (arith, behind_low T p, past_low is_name T (past_byte T p))
 
 -- behind digits
 pub digits_low : (T : List ℕ) (p : ℕ) → p ≤ past_digits T p

@@ -4,7 +4,7 @@ use Rattle.shgrammar.specs.declared.mode.Mode.{Mode}
 use Rattle.shgrammar.specs.declared.mode.Mode.TheVariants.{Plain, Double, Brace, DoubleBrace, Arith}
 use Rattle.shgrammar.specs.declared.mode.Piece.TheVariants as pieces
 use Rattle.shgrammar.specs.Standing.{raw_in, passes}
-use Rattle.shgrammar.specs.Bytes.{ends, ends_word, byte_at, behind, past_continuations}
+use Rattle.shgrammar.specs.Bytes.{ends, ends_word, byte_at, past_byte, past_continuations}
 use Rattle.shgrammar.specs.Pieces.{piece_by, piece_at, piece_in, past_closer}
 use Rattle.shgrammar.specs.Comments.{span}
 use Rattle.shgrammar.specs.Sights.{Given, State, Waiting, given}
@@ -128,7 +128,7 @@ module _ (inner : Inner) (keep : Keep) (g : Given) (mode : Mode) (b : ℕ) (ws :
 
   plain_piece : (h : WordSoFar) (p : ℕ) → raw_in (is_plain mode) g.text p ≡ true →
       turn h (placed ws ds p) ≡ Ok (again h, placed ws ds (p + 1))
-  unfolding a_piece piece_at behind
+  unfolding a_piece piece_at past_byte
   plain_piece h p plain =
       let same = stays (is_plain mode) g.text p (no_backslash mode) plain in
       let ordinary : piece_by g.text p mode h.nested (byte_at g.text p) ≡ pieces.Ordinary =
@@ -182,7 +182,7 @@ module _ (inner : Inner) (keep : Keep) (g : Given) (mode : Mode) (b : ℕ) (ws :
 
   ordinary_piece : (h : WordSoFar) (p : ℕ) → piece_in g.edition mode (piece_at g.text mode h.nested p) ≡ pieces.Ordinary
       → turn h (placed ws ds p) ≡ Ok (again h, placed ws ds (past_continuations g.text p + 1))
-  unfolding a_piece behind
+  unfolding a_piece past_byte
   ordinary_piece h p ordinary = rw ordinary refl
 
   -- an ordinary byte, and the plain ones behind it

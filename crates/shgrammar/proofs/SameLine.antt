@@ -11,7 +11,7 @@ use Rattle.shgrammar.specs.declared.token.Next.{Next}
 use Rattle.shgrammar.specs.declared.token.Position.TheVariants.{Command}
 use Rattle.shast.specs.Tree.{AnEntry}
 use Rattle.shgrammar.specs.Standing.{is_byte, passes, raw_in, raw_stands}
-use Rattle.shgrammar.specs.Bytes.{byte_at, behind, past_continuations}
+use Rattle.shgrammar.specs.Bytes.{byte_at, past_byte, past_continuations}
 use Rattle.shgrammar.specs.Sights.{Given, given, State, standing}
 use Rattle.shgrammar.specs.HereDocuments.{bodies_here, changed, first_waiting, own_level}
 use Rattle.shgrammar.specs.Form.{nothing_read, a_level, level_read, level_stops, just, Spelled, Read, ◌▸◌, Form, give, both, may, does, Then, and_then, or_stops}
@@ -66,13 +66,13 @@ module _ {edition : Edition} {T U : List ℕ} {a M : ℕ} {to : ℕ → ℕ} (E 
   abbrev ending : Inner → Row AnEntry → Bool → Bool → Next → Form (Row AnEntry × Bool)
   ending inner es newline end n = both (line_end_by inner newline end n) (λ newline. give (es, newline))
 
-  behind_is : (p : ℕ) → behind T p ≡ past_continuations T p + 1
-  unfolding behind
+  behind_is : (p : ℕ) → past_byte T p ≡ past_continuations T p + 1
+  unfolding past_byte
   behind_is p = refl
 
   -- behind the newline here
   abbrev past : State → State
-  past s = record { at = behind T s.at; waiting = s.waiting; bodies = s.bodies }
+  past s = record { at = past_byte T s.at; waiting = s.waiting; bodies = s.bodies }
 
   ten_goes_not : (x : Option ℕ) → x ≡ Some 10 → passes goes_on x ≡ false
   ten_goes_not x is = rw is refl
@@ -102,8 +102,8 @@ module _ {edition : Edition} {T U : List ℕ} {a M : ℕ} {to : ℕ → ℕ} (E 
       y ≡ line_true es x → Again (ending inner es true end n) s y
   newline_again inner es end n s from newline still (Ok t) is y y_is closed =
       let at_newline : t.at ≡ M + 1 = (subst Closed y_is closed).1 in
-      let onward : behind T s.at ≤ t.at = change_low bodies_here g (past s) t is in
-      let low : a ≤ behind T s.at = omega (arith, from, behind_is s.at, still) in
+      let onward : past_byte T s.at ≤ t.at = change_low bodies_here g (past s) t is in
+      let low : a ≤ past_byte T s.at = omega (arith, from, behind_is s.at, still) in
       let good : Good T a M s.at =
       newline_good s from newline still (omega (arith, at_newline, onward, behind_is s.at, still)) in
       let there_is : changed bodies_here h (there E o o2 off (past s)) ≡ Ok (there E o o2 off t) =

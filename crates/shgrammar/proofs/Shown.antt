@@ -13,7 +13,7 @@ use Rattle.shgrammar.specs.declared.token.Token.TheVariants as tokens
 use Rattle.shtext.specs.Text.{is_newline}
 use Rattle.shgrammar.specs.Classes.{is_blank, is_operator}
 use Rattle.shgrammar.specs.Standing.{is_byte, is_none, passes, raw_stands, at_end}
-use Rattle.shgrammar.specs.Bytes.{byte_at, behind, ends, ends_word, past_blanks, past_continuations, stands, stands_in}
+use Rattle.shgrammar.specs.Bytes.{byte_at, past_byte, ends, ends_word, past_blanks, past_continuations, stands, stands_in}
 use Rattle.shast.specs.declared.tree.RedirectOperator.{RedirectOperator}
 use Rattle.shgrammar.specs.Commands.{is_long, is_strip, redirect_operator_of, takes_here}
 use Rattle.shgrammar.specs.declared.edition.Edition.{Edition}
@@ -44,12 +44,12 @@ no_operator b one two three four five six seven = rw (one, two, three, four, fiv
 abbrev Byte : List ℕ → ℕ → Option ℕ → Token → Type 0
 Byte T p b tokens.End = is_none b ≡ true
 Byte T p b tokens.Newline = is_byte b 10 ≡ true
-Byte T p b tokens.AndIf = IsRead T (behind T p)
-Byte T p b tokens.OrIf = IsRead T (behind T p)
-Byte T p b tokens.DoubleSemicolon = IsRead T (behind T p)
-Byte T p b tokens.SemicolonAmpersand = IsRead T (behind T p)
-Byte T p b (tokens.Redirect o) = (is_long o ≡ true → IsRead T (behind T p))
-    × (is_strip o ≡ true → IsRead T (behind T (behind T p))) × (takes_here o ≡ true → is_byte b 60 ≡ true)
+Byte T p b tokens.AndIf = IsRead T (past_byte T p)
+Byte T p b tokens.OrIf = IsRead T (past_byte T p)
+Byte T p b tokens.DoubleSemicolon = IsRead T (past_byte T p)
+Byte T p b tokens.SemicolonAmpersand = IsRead T (past_byte T p)
+Byte T p b (tokens.Redirect o) = (is_long o ≡ true → IsRead T (past_byte T p))
+    × (is_strip o ≡ true → IsRead T (past_byte T (past_byte T p))) × (takes_here o ≡ true → is_byte b 60 ≡ true)
 Byte T p b (tokens.Reserved r) = ends b ≡ false
 Byte T p b tokens.Assignment = ends b ≡ false
 Byte T p b tokens.Word = ends b ≡ false
@@ -71,53 +71,53 @@ module _ (T : List ℕ) (p : ℕ) where
 
   -- an operator of two bytes or more has a second one
   abbrev Long : RedirectOperator → Type 0
-  Long o = is_long o ≡ true → IsRead T (behind T p)
+  Long o = is_long o ≡ true → IsRead T (past_byte T p)
 
-  less_long : Long (less_at T (behind T p))
+  less_long : Long (less_at T (past_byte T p))
   unfolding less_at
   less_long =
-      cond_both (stands T (behind T p) 60) _ _ Long
-      (λ e. cond_both (stands T (behind T (behind T p)) 45) _ _ Long (λ f l. stands_read T (behind T p) 60 e)
-      (λ f l. stands_read T (behind T p) 60 e))
-      (λ e. cond_both (stands T (behind T p) 38) _ _ Long (λ f l. stands_read T (behind T p) 38 f)
-      (λ f. cond_both (stands T (behind T p) 62) _ _ Long (λ g l. stands_read T (behind T p) 62 g) (λ g l. absurd cc)))
+      cond_both (stands T (past_byte T p) 60) _ _ Long
+      (λ e. cond_both (stands T (past_byte T (past_byte T p)) 45) _ _ Long (λ f l. stands_read T (past_byte T p) 60 e)
+      (λ f l. stands_read T (past_byte T p) 60 e))
+      (λ e. cond_both (stands T (past_byte T p) 38) _ _ Long (λ f l. stands_read T (past_byte T p) 38 f)
+      (λ f. cond_both (stands T (past_byte T p) 62) _ _ Long (λ g l. stands_read T (past_byte T p) 62 g) (λ g l. absurd cc)))
 
   -- `<<-` has a third one
   abbrev Strip : RedirectOperator → Type 0
-  Strip o = is_strip o ≡ true → IsRead T (behind T (behind T p))
+  Strip o = is_strip o ≡ true → IsRead T (past_byte T (past_byte T p))
 
-  less_strip : Strip (less_at T (behind T p))
+  less_strip : Strip (less_at T (past_byte T p))
   unfolding less_at
   less_strip =
-      cond_both (stands T (behind T p) 60) _ _ Strip
-      (λ e. cond_both (stands T (behind T (behind T p)) 45) _ _ Strip
-      (λ f l. stands_read T (behind T (behind T p)) 45 f) (λ f l. absurd cc))
-      (λ e. cond_both (stands T (behind T p) 38) _ _ Strip (λ f l. absurd cc)
-      (λ f. cond_both (stands T (behind T p) 62) _ _ Strip (λ g l. absurd cc) (λ g l. absurd cc)))
+      cond_both (stands T (past_byte T p) 60) _ _ Strip
+      (λ e. cond_both (stands T (past_byte T (past_byte T p)) 45) _ _ Strip
+      (λ f l. stands_read T (past_byte T (past_byte T p)) 45 f) (λ f l. absurd cc))
+      (λ e. cond_both (stands T (past_byte T p) 38) _ _ Strip (λ f l. absurd cc)
+      (λ f. cond_both (stands T (past_byte T p) 62) _ _ Strip (λ g l. absurd cc) (λ g l. absurd cc)))
 
-  greater_strip : Strip (greater_at T (behind T p))
+  greater_strip : Strip (greater_at T (past_byte T p))
   unfolding greater_at
   greater_strip =
-      cond_both (stands T (behind T p) 62) _ _ Strip (λ e l. absurd cc)
-      (λ e. cond_both (stands T (behind T p) 38) _ _ Strip (λ f l. absurd cc)
-      (λ f. cond_both (stands T (behind T p) 124) _ _ Strip (λ g l. absurd cc) (λ g l. absurd cc)))
+      cond_both (stands T (past_byte T p) 62) _ _ Strip (λ e l. absurd cc)
+      (λ e. cond_both (stands T (past_byte T p) 38) _ _ Strip (λ f l. absurd cc)
+      (λ f. cond_both (stands T (past_byte T p) 124) _ _ Strip (λ g l. absurd cc) (λ g l. absurd cc)))
 
-  greater_long : Long (greater_at T (behind T p))
+  greater_long : Long (greater_at T (past_byte T p))
   unfolding greater_at
   greater_long =
-      cond_both (stands T (behind T p) 62) _ _ Long (λ e l. stands_read T (behind T p) 62 e)
-      (λ e. cond_both (stands T (behind T p) 38) _ _ Long (λ f l. stands_read T (behind T p) 38 f)
-      (λ f. cond_both (stands T (behind T p) 124) _ _ Long (λ g l. stands_read T (behind T p) 124 g)
+      cond_both (stands T (past_byte T p) 62) _ _ Long (λ e l. stands_read T (past_byte T p) 62 e)
+      (λ e. cond_both (stands T (past_byte T p) 38) _ _ Long (λ f l. stands_read T (past_byte T p) 38 f)
+      (λ f. cond_both (stands T (past_byte T p) 124) _ _ Long (λ g l. stands_read T (past_byte T p) 124 g)
       (λ g l. absurd cc)))
 
   -- and none that begins with `>` takes a here-document
-  greater_plain : (b : Option ℕ) → takes_here (greater_at T (behind T p)) ≡ true → is_byte b 60 ≡ true
+  greater_plain : (b : Option ℕ) → takes_here (greater_at T (past_byte T p)) ≡ true → is_byte b 60 ≡ true
   unfolding greater_at
   greater_plain b =
       let Plain : RedirectOperator → Type 0 = λ o. takes_here o ≡ true → is_byte b 60 ≡ true in
-      cond_both (stands T (behind T p) 62) _ _ Plain (λ e l. absurd cc)
-      (λ e. cond_both (stands T (behind T p) 38) _ _ Plain (λ f l. absurd cc)
-      (λ f. cond_both (stands T (behind T p) 124) _ _ Plain (λ g l. absurd cc) (λ g l. absurd cc)))
+      cond_both (stands T (past_byte T p) 62) _ _ Plain (λ e l. absurd cc)
+      (λ e. cond_both (stands T (past_byte T p) 38) _ _ Plain (λ f l. absurd cc)
+      (λ f. cond_both (stands T (past_byte T p) 124) _ _ Plain (λ g l. absurd cc) (λ g l. absurd cc)))
 
   -- by the byte
   token_byte : (position : Position) (b : Option ℕ) → passes is_blank b ≡ false → Byte T p b (token_of position T p b)
@@ -126,12 +126,12 @@ module _ (T : List ℕ) (p : ℕ) where
       let P = Byte T p (Some b) in
       cond_both (is_newline b) _ _ P (λ e. e)
       (λ n. cond_both (b == 59) _ _ P
-      (λ e. cond_both (stands T (behind T p) 59) _ _ P (λ f. stands_read T (behind T p) 59 f)
-      (λ f. cond_both (stands T (behind T p) 38) _ _ P (λ g. stands_read T (behind T p) 38 g) (λ g. tt)))
+      (λ e. cond_both (stands T (past_byte T p) 59) _ _ P (λ f. stands_read T (past_byte T p) 59 f)
+      (λ f. cond_both (stands T (past_byte T p) 38) _ _ P (λ g. stands_read T (past_byte T p) 38 g) (λ g. tt)))
       (λ e. cond_both (b == 38) _ _ P
-      (λ f. cond_both (stands T (behind T p) 38) _ _ P (λ g. stands_read T (behind T p) 38 g) (λ g. tt))
+      (λ f. cond_both (stands T (past_byte T p) 38) _ _ P (λ g. stands_read T (past_byte T p) 38 g) (λ g. tt))
       (λ f. cond_both (b == 124) _ _ P
-      (λ g. cond_both (stands T (behind T p) 124) _ _ P (λ h. stands_read T (behind T p) 124 h) (λ h. tt))
+      (λ g. cond_both (stands T (past_byte T p) 124) _ _ P (λ h. stands_read T (past_byte T p) 124 h) (λ h. tt))
       (λ i. cond_both (b == 40) _ _ P (λ g. tt)
       (λ j. cond_both (b == 41) _ _ P (λ g. tt)
       (λ k. cond_both (b == 60) _ _ P (λ g. (less_long, less_strip, λ h. g))
@@ -158,14 +158,14 @@ module _ (T : List ℕ) (p : ℕ) where
       absurd cc
   no_hash position b false is e = is
 
-redirect_read : (T : List ℕ) (p : ℕ) (o : RedirectOperator) → (is_long o ≡ true → IsRead T (behind T p)) →
+redirect_read : (T : List ℕ) (p : ℕ) (o : RedirectOperator) → (is_long o ≡ true → IsRead T (past_byte T p)) →
     (z : RedirectOperator) → redirect_operator_of (tokens.Redirect o) ≡ Some z → is_long z ≡ true →
-    IsRead T (behind T p)
+    IsRead T (past_byte T p)
 redirect_read T p o so z is long = let same : o ≡ z = cc in so (rw same long)
 
-strip_read : (T : List ℕ) (p : ℕ) (o : RedirectOperator) → (is_strip o ≡ true → IsRead T (behind T (behind T p))) →
+strip_read : (T : List ℕ) (p : ℕ) (o : RedirectOperator) → (is_strip o ≡ true → IsRead T (past_byte T (past_byte T p))) →
     (z : RedirectOperator) → redirect_operator_of (tokens.Redirect o) ≡ Some z → is_strip z ≡ true →
-    IsRead T (behind T (behind T p))
+    IsRead T (past_byte T (past_byte T p))
 strip_read T p o so z is strip = let same : o ≡ z = cc in so (rw same strip)
 
 here_read : (T : List ℕ) (p : ℕ) (o : RedirectOperator) → (takes_here o ≡ true → raw_stands T p 60 ≡ true) →

@@ -18,7 +18,7 @@ use Rattle.shast.specs.Shape.{bare, bare_at, text_at, shape_of, shape_of_entry, 
 use Rattle.shast.specs.Spelling.{Tokens, and_or_text, redirect_text, spell_number, spell_background, spell_bang, spell_word, spell_item, spell_items, spelling, spell_entry, spell_and_or, spell_and_or_parts, spell_pipeline, spell_pipes, spell_command, spell_form, spell_branch, spell_branches, spell_else, spell_loop, spell_for_words, spell_patterns, spell_first_pattern, spell_cases, spell_case}
 use Rattle.shgrammar.specs.Comments.{span}
 use Rattle.shgrammar.specs.Sights.{Given, given, State, standing, Sight, Move}
-use Rattle.shgrammar.specs.Form.{change, with_bytes, a_level, Changed, changes, cannot, WithBytes, with_its_bytes, without_bytes, OwnLevel, level_read, level_stops, Spelled, Read, Step, again, done, step_if, Form, give, see, move, push, stop, both, Told, by, tell, token, many, Just, just, Halts, halted, Then, and_then, or_stops, OneToken, whole, broken_off, Turns, last, rests, more, halts, raw, may}
+use Rattle.shgrammar.specs.Form.{change, with_bytes, a_level, Changed, changes, cannot, WithBytes, with_its_bytes, without_bytes, OwnLevel, level_read, level_stops, Spelled, Read, Step, again, done, step_if, Form, give, see, move, push, stop, both, Telling, by, tell, token, many, Just, just, Halts, halted, Then, and_then, or_stops, OneToken, whole, broken_off, Turns, last, rests, more, halts, raw, may}
 use Rattle.shgrammar.specs.Words.{Inner, a_word}
 use Rattle.shgrammar.specs.Commands.{pick, next_token, is_newline_token, is_semicolon, a_semicolon, is_pipe, is_bang, begins_simple, begins_word, begins_redirect, begins_pipeline, opener_of, compound_by, and_or_operator_of, Items, so_many, behind_word, is_number_token, redirect_operator_of, takes_here, is_strip, document_by, a_document, none_waits, nothing_waits, a_number, an_operator, operator_by, a_target, one_redirect, behind_redirect, redirect_turn, with_redirect_list, as_item, breaks, an_item, item_by, item_turn, a_simple, unexpected, comment_by, a_comment, a_newline, with_comment, JoinSo, join_turn, a_join, a_command, a_bang, Piped, piped, one_command, pipe_turn, a_pipeline, Joined, joined_so, one_pipeline, joined_by, join_pipeline, an_and_or, separator_of, told_separator, separator_by, a_separator, is_background, an_entry, a_word_command, is_word, is_paren, ends_item, falls_through}
 use Rattle.shgrammar.specs.Lists.{ListSo, list_so, none_listed, is_blank_next, one_entry, entry_turn, remark_by, a_remark, on_line, list_turn, a_list}
@@ -217,13 +217,13 @@ module _ (g : Given) where
       (λ ys t k so. subst (λ (m : Row Spelled). Passing (q ys) (λ y l. Q y (m ++ l)) t) (sym so.1)
       (subst (λ zs. Passing (q zs) Q t) (sym so.0) (rest t)))
 
-  token_of : {X : Type 0} (P : X × Span → Row Spelled → Type 0) (how : Told) (r : Form X) (s : State) →
+  token_of : {X : Type 0} (P : X × Span → Row Spelled → Type 0) (how : Telling) (r : Form X) (s : State) →
       ((x : X) (t : State) → P (x, span g.offset s.at t.at) (tell how g.text s.at t.at))
       → (y : Read (X × Span)) (k : Row Spelled) → OneToken how g (may r g) s y k → Of P y k
   token_of P how r s so y k (whole {x = x} {t = t} part) = so x t
   token_of P how r s so y k (broken_off part) = tt
 
-  pass_token : {X : Type 0} {P : X × Span → Row Spelled → Type 0} {how : Told} {r : Form X} {s : State} →
+  pass_token : {X : Type 0} {P : X × Span → Row Spelled → Type 0} {how : Telling} {r : Form X} {s : State} →
       ((x : X) (t : State) → P (x, span g.offset s.at t.at) (tell how g.text s.at t.at)) → Passing (token how r) P s
   pass_token {P = P} {how = how} {r = r} {s = s} so = record { passing = token_of P how r s so }
 

@@ -3,7 +3,7 @@ use Rattle.std.proofs.Common.{◌≡◌, ℕ, zero, suc, ◌+◌, ◌-◌, ◌<�
 use Rattle.std.proofs.Math.Seq.{drop-length}
 use Rattle.std.proofs.lemmas.Option.{slice_get_within, slice_get_past}
 use Rattle.shgrammar.specs.Standing.{raw_stands, raw_in, passes, is_byte, count_front, raw_past, before_blanks, continues}
-use Rattle.shgrammar.specs.Bytes.{stands, stands_in, past, past_below, ends_word, count_joined, past_continuations, byte_at, behind}
+use Rattle.shgrammar.specs.Bytes.{stands, stands_in, past, past_below, ends_word, count_joined, past_continuations, byte_at, past_byte}
 use Rattle.shgrammar.specs.Classes.{is_blank}
 use Rattle.shgrammar.specs.Tokens.{is_word_at}
 
@@ -129,7 +129,7 @@ turn test T p false x y same = refl
 -- with enough turns, how many they are does not matter
 enough : (test : ℕ → Bool) (T : List ℕ) (n m p : ℕ) → length T - p ≤ n → length T - p ≤ m →
     past_below n test T p ≡ past_below m test T p
-unfolding past_below behind
+unfolding past_below past_byte
 enough test T zero zero p low_n low_m = refl
 enough test T zero (suc m) p low_n low_m = rw (none_left test T p (omega arith)) refl
 enough test T (suc n) zero p low_n low_m = rw (none_left test T p (omega arith)) refl
@@ -139,8 +139,8 @@ enough test T (suc n) (suc m) p low_n low_m =
     (omega (arith, place_low T p)))
 
 pub past_more : (test : ℕ → Bool) (T : List ℕ) (p : ℕ) → stands_in test T p ≡ true →
-    past test T p ≡ past test T (behind T p)
-unfolding past past_below behind
+    past test T p ≡ past test T (past_byte T p)
+unfolding past past_below past_byte
 past_more test T p e =
     let inside : past_continuations T p < length T = stands_in_low test T p e in
     let one : length T - p ≡ suc (length T - p - 1) = omega (arith, inside, place_low T p) in
@@ -180,7 +180,7 @@ nothing_before T q e = rw e refl
 -- ---- words spelled out
 
 pub word_more : (T : List ℕ) (p : ℕ) (word : List ℕ) (i : ℕ) → i < length word → stands T p (get_or word i 0) ≡ true →
-    is_word_at T p (drop i word) ≡ is_word_at T (behind T p) (drop (i + 1) word)
+    is_word_at T p (drop i word) ≡ is_word_at T (past_byte T p) (drop (i + 1) word)
 unfolding is_word_at
 word_more T p word i lt e = rw (drop-cons word i 0, add-one i, e) refl
 
@@ -207,7 +207,7 @@ raw_letter T p c e = ap (λ q. is_byte (slice_get T q) c) (raw_stays T p e)
 pub letter_more : (T : List ℕ) (p : ℕ) (word : List ℕ) (i : ℕ) → i < length word → raw_stands T p 92 ≡ false →
     raw_stands T p (get_or word i 0) ≡ true
     → is_word_at T p (drop i word) ≡ is_word_at T (p + 1) (drop (i + 1) word)
-unfolding behind
+unfolding past_byte
 letter_more T p word i lt e is =
     word_more T p word i lt (raw_letter T p _ e ∙ is)
     ∙ ap (λ q. is_word_at T (q + 1) (drop (i + 1) word)) (raw_stays T p e)

@@ -18,7 +18,7 @@ use Rattle.shast.specs.declared.tree.Span.{Span}
 use Rattle.shast.specs.Nodes.{word_span}
 use Rattle.shast.specs.Tree.{ACommand, AnItem, AWord}
 use Rattle.shtext.specs.Text.{is_newline}
-use Rattle.shgrammar.specs.Bytes.{byte_at, behind, past_continuations, stands}
+use Rattle.shgrammar.specs.Bytes.{byte_at, past_byte, past_continuations, stands}
 use Rattle.shgrammar.specs.Comments.{comment_at}
 use Rattle.shgrammar.specs.Tokens.{begins_assignment, first_word, is_number, reserved_at, is_later, token_at, token_in, token_of, word_by, word_of}
 use Rattle.shgrammar.specs.Sights.{Given, State}
@@ -563,12 +563,12 @@ close_byte position T p None is = absurd cc
 close_byte position T p (Some b) is =
     let newline = paren_else (is_newline b) _ _ (λ e. absurd cc) is in
     let semicolon = paren_else (b == 59) _ _
-    (λ e. paren_both (stands T (behind T p) 59) _ _ (λ f. absurd cc)
-    (λ f. paren_both (stands T (behind T p) 38) _ _ (λ g. absurd cc) (λ g. absurd cc) f) e) newline.1 in
+    (λ e. paren_both (stands T (past_byte T p) 59) _ _ (λ f. absurd cc)
+    (λ f. paren_both (stands T (past_byte T p) 38) _ _ (λ g. absurd cc) (λ g. absurd cc) f) e) newline.1 in
     let ampersand = paren_else (b == 38) _ _
-    (λ e. paren_both (stands T (behind T p) 38) _ _ (λ f. absurd cc) (λ f. absurd cc) e) semicolon.1 in
+    (λ e. paren_both (stands T (past_byte T p) 38) _ _ (λ f. absurd cc) (λ f. absurd cc) e) semicolon.1 in
     let bar = paren_else (b == 124) _ _
-    (λ e. paren_both (stands T (behind T p) 124) _ _ (λ f. absurd cc) (λ f. absurd cc) e) ampersand.1 in
+    (λ e. paren_both (stands T (past_byte T p) 124) _ _ (λ f. absurd cc) (λ f. absurd cc) e) ampersand.1 in
     let open_paren = paren_else (b == 40) _ _ (λ e. absurd cc) bar.1 in
     let here = paren_by (b == 41) _
     (λ e. paren_both (b == 60) _ _ (λ f. absurd cc) (λ f. paren_both (b == 62) _ _ (λ h. absurd cc)
@@ -632,12 +632,12 @@ newline_byte : (position : Position) (T : List ℕ) (p : ℕ) (x : Option ℕ) �
 newline_byte position T p None is = absurd cc
 newline_byte position T p (Some b) is =
     let here : (b == 10) ≡ true = newline_else (is_newline b) _ is (λ e.
-    newline_both (b == 59) _ _ (λ f. newline_both (stands T (behind T p) 59) _ _ (λ h. absurd cc)
-    (λ h. newline_both (stands T (behind T p) 38) _ _ (λ i. absurd cc) (λ i. absurd cc) h) f)
+    newline_both (b == 59) _ _ (λ f. newline_both (stands T (past_byte T p) 59) _ _ (λ h. absurd cc)
+    (λ h. newline_both (stands T (past_byte T p) 38) _ _ (λ i. absurd cc) (λ i. absurd cc) h) f)
     (λ f. newline_both (b == 38) _ _
-    (λ h. newline_both (stands T (behind T p) 38) _ _ (λ i. absurd cc) (λ i. absurd cc) h)
+    (λ h. newline_both (stands T (past_byte T p) 38) _ _ (λ i. absurd cc) (λ i. absurd cc) h)
     (λ h. newline_both (b == 124) _ _
-    (λ i. newline_both (stands T (behind T p) 124) _ _ (λ j. absurd cc) (λ j. absurd cc) i)
+    (λ i. newline_both (stands T (past_byte T p) 124) _ _ (λ j. absurd cc) (λ j. absurd cc) i)
     (λ i. newline_both (b == 40) _ _ (λ j. absurd cc)
     (λ j. newline_both (b == 41) _ _ (λ k. absurd cc)
     (λ k. newline_both (b == 60) _ _ (λ l. absurd cc)

@@ -4,7 +4,7 @@ use Rattle.std.proofs.lemmas.Bool.{eqb-true}
 use Rattle.shgrammar.specs.declared.class.Class.{Class}
 use Rattle.shgrammar.specs.declared.class.Class.TheVariants.{Blank, Digit, Name, Tab}
 use Rattle.shgrammar.specs.Standing.{passes, is_byte, raw_stands, raw_in, raw_past, continues}
-use Rattle.shgrammar.specs.Bytes.{stands_in, past, past_blanks, past_continuations, behind}
+use Rattle.shgrammar.specs.Bytes.{stands_in, past, past_blanks, past_continuations, past_byte}
 use Rattle.shgrammar.specs.Classes.{is_blank, in_class}
 use Rattle.shgrammar.proofs.Stretches.{raw_more, raw_none, joined_none, passes_low, past_more, past_none}
 use Rattle.shgrammar.proofs.Places.{place_same, stands_in_past, raw_past_stops}
@@ -36,7 +36,7 @@ raw_in_low test T p passed = passes_low test T p (slice_get T p) refl (unfold ra
 turn : (test : ℕ → Bool) (T : List ℕ) (p : ℕ) (x : Bool) → raw_in test T p ≡ x → test 92 ≡ false
     → (raw_in test T p ≡ true → past test T (p + 1) ≡ past test T (raw_past test T (p + 1))) →
     past test T p ≡ past test T (raw_past test T p)
-unfolding stands_in behind raw_in
+unfolding stands_in past_byte raw_in
 turn test T p true is other rest =
     let here : past_continuations T p ≡ p = stays test T p other is in
     past_more test T p (rw here is) ∙ rw here (rest is) ∙ ap (past test T) (sym (raw_more test T p is))
@@ -88,7 +88,7 @@ joined_here class T p x is = is
 -- a stretch goes on past continuations, where a byte of it stands there
 pub joined_on : (class : Class) (T : List ℕ) (p : ℕ) → raw_in (in_class class) T (past_continuations T p) ≡ true
     → past (in_class class) T p ≡ past (in_class class) T (raw_past (in_class class) T (past_continuations T p))
-unfolding behind
+unfolding past_byte
 joined_on class T p some =
     let here : stands_in (in_class class) T p ≡ true = joined_here class T p true some in
     past_more (in_class class) T p here

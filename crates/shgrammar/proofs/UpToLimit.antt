@@ -11,7 +11,7 @@ use Rattle.shgrammar.specs.Standing.{raw_stands, next_newline, before_blanks}
 use Rattle.shgrammar.specs.Comments.{span, comment_at, past_comment}
 use Rattle.shgrammar.specs.Sights.{Given, Move, Sight, State, here, seen}
 use Rattle.shgrammar.specs.HereDocuments.{own_level}
-use Rattle.shgrammar.specs.Form.{Form, Read, Told, a_level, both, does, ends_as, give, many, move, moved_on, push, see, stop, token, with_bytes, Step, again, done, step_if, in_substitution}
+use Rattle.shgrammar.specs.Form.{Form, Read, Telling, a_level, both, does, ends_as, give, many, move, moved_on, push, see, stop, token, with_bytes, Step, again, done, step_if, in_substitution}
 use Rattle.shgrammar.specs.Commands.{pick}
 use Rattle.shgrammar.proofs.Places.{next_newline_low}
 use Rattle.shgrammar.proofs.Holds.{Holds, Tells, Turned, low, tells_ending, tells_level, tells_so, tells_then, tells_token, tells_until, tells_with_bytes, tells_inside}
@@ -130,7 +130,7 @@ module _ {g : Given} {limit : ℕ} where
   pushes P {xs = xs} {x = x} all one = adds (All-push P xs x all one)
 
   -- one token
-  pub tokens : {X : Type 0} {P : X → Type 0} {how : Told} {r : Form X} {s : State} → UpTo g limit r P s →
+  pub tokens : {X : Type 0} {P : X → Type 0} {how : Telling} {r : Form X} {s : State} → UpTo g limit r P s →
       UpTo g limit (token how r) (λ x. P x.0 × IsSpanWithin limit x.1) s
   tokens {P = P} {r = r} {s = s} one =
       record {
@@ -144,7 +144,7 @@ module _ {g : Given} {limit : ℕ} where
       }
 
   -- of which nothing but its span is told
-  pub bare_token : {X : Type 0} {how : Told} {r : Form X} {s : State} →
+  pub bare_token : {X : Type 0} {how : Telling} {r : Form X} {s : State} →
       UpTo g limit (token how r) (λ x. IsSpanWithin limit x.1) s
   bare_token {r = r} {s = s} = follows
       (tokens {P = λ x. Unit {0}} (record { told = tells_so Whole g (low r Whole g s) (λ x t on. λ b. tt) }))

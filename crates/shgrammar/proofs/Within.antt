@@ -26,12 +26,12 @@ use Rattle.shast.proofs.Going.{row_filled}
 use Rattle.shast.proofs.OpenSame.{filled_within}
 use Rattle.shast.proofs.Reach.{Nodes, CommentFits, SubstFits, WordFits, ItemFits, CommandFits, PipelineFits, PipeFits, PartFits, EntryFits, BranchFits, both as fits_both, fits_subst, fits_substs, fits_items, fits_word, fits_entries, fits_branches, fits_assign, fits_argument, fits_simple, fits_redirect, fits_compound, fits_pipeline, fits_and_or, fits_command, fits_remark, span_fits_more, within_append, fits_function, CaseFits, fits_case, fits_case_in, fits_end}
 use Rattle.shgrammar.specs.Standing.{raw_stands, raw_in, next_newline, before_blanks}
-use Rattle.shgrammar.specs.Bytes.{past_continuations, behind}
+use Rattle.shgrammar.specs.Bytes.{past_continuations, past_byte}
 use Rattle.shgrammar.specs.Comments.{span, comment_at, past_comment}
 use Rattle.shgrammar.specs.Classes.{is_blank}
 use Rattle.shgrammar.specs.Sights.{Given, given, State, standing, here, one_byte, the_digits}
 use Rattle.shgrammar.specs.HereDocuments.{own_level}
-use Rattle.shgrammar.specs.Form.{with_bytes, a_level, Spelled, Told, Read, Form, give, move, push, both, many, token, ends_as, does, Step, again, done, step_if, pushed, see, grows, inside}
+use Rattle.shgrammar.specs.Form.{with_bytes, a_level, Spelled, Telling, Read, Form, give, move, push, both, many, token, ends_as, does, Step, again, done, step_if, pushed, see, grows, inside}
 use Rattle.shgrammar.specs.Words.{Inner, WordSoFar, having, opened, piece_row, a_piece, contents, a_word}
 use Rattle.shgrammar.specs.Commands.{pick, is_pipe, is_bang, begins_simple, begins_word, begins_redirect, begins_pipeline, opener_of, compound_by, and_or_operator_of, breaks, Items, so_many, behind_word, is_number_token, redirect_operator_of, is_strip, a_number, an_operator, operator_by, a_target, one_redirect, behind_redirect, redirect_turn, with_redirect_list, as_item, an_item, item_by, item_turn, a_simple, a_bang, a_comment, comment_by, unexpected, with_comment, JoinSo, join_turn, a_join, a_command, Piped, piped, one_command, pipe_turn, a_pipeline, Joined, joined_so, one_pipeline, joined_by, join_pipeline, an_and_or, is_background, an_entry, a_word_command, is_word, is_paren, separator_of, separator_by, a_separator, past_separator, ends_item, falls_through}
 use Rattle.shgrammar.specs.Lists.{ListSo, list_so, none_listed, is_blank_next, one_entry, entry_turn, remark_by, a_remark, on_line, list_turn, a_list, Listed}
@@ -115,7 +115,7 @@ module _ (keep : Keep) (g : Given) (limit : ℕ) where
   pushes P {xs = xs} {x = x} all one = record { told = λ b. pushed_all P (grows keep) xs x all one }
 
   -- one token
-  tokens : {X : Type 0} {P : X → Type 0} {how : Told} {r : Form X} {s : State} → R r P s →
+  tokens : {X : Type 0} {P : X → Type 0} {how : Telling} {r : Form X} {s : State} → R r P s →
       R (token how r) (λ x. P x.0 × IsSpanWithin limit x.1) s
   tokens {P = P} {r = r} {s = s} one =
       tells_token keep g {P = λ a t. (Before t → P a) × (s.at ≤ t.at)}
@@ -198,8 +198,8 @@ module _ (keep : Keep) (g : Given) (limit : ℕ) where
     piece_fits_by mode b h pieces.Pid s so = after (λ x t. after (λ y u. gives so))
     piece_fits_by mode b h pieces.Subst s so =
         let p = s.at in
-        let low_p : g.offset + past_continuations g.text p ≤ g.offset + behind g.text (behind g.text p) =
-        omega (arith, behind_is g.text p, behind_low g.text (behind g.text p)) in
+        let low_p : g.offset + past_continuations g.text p ≤ g.offset + past_byte g.text (past_byte g.text p) =
+        omega (arith, behind_is g.text p, behind_low g.text (past_byte g.text p)) in
         tells_seen keep g (tells_moved keep g
         (tells_moved keep g (first (fine.substitution (g.offset + past_continuations g.text p) h.substs _ low_p so)
         (λ zs t good. gives good))))

@@ -14,7 +14,7 @@ use Rattle.shast.specs.declared.tree.Span.{Span}
 use Rattle.shast.specs.Shape.{shape_of, shape_of_subst, shape_of_substs, text_at}
 use Rattle.shast.specs.Tree.{ASubst, AWord, Entries, entries_of, subst as a_subst, substs_of, word}
 use Rattle.shgrammar.specs.Standing.{is_byte}
-use Rattle.shgrammar.specs.Bytes.{ends, ends_word, byte_at, behind, past_blanks, past_continuations}
+use Rattle.shgrammar.specs.Bytes.{ends, ends_word, byte_at, past_byte, past_blanks, past_continuations}
 use Rattle.shgrammar.specs.Comments.{span}
 use Rattle.shgrammar.specs.Tokens.{next_at, next_in}
 use Rattle.shgrammar.specs.Sights.{Given, given, State, one_byte}
@@ -249,7 +249,7 @@ module _ (room : ℕ) (all : Everywhere (level room)) where
               at_limit
 
           abbrev last : State
-          last = record { at = behind T M; waiting = u.waiting; bodies = u.bodies }
+          last = record { at = past_byte T M; waiting = u.waiting; bodies = u.bodies }
 
           abbrev k : ListSo
           k = same_lines.0
@@ -298,26 +298,26 @@ module _ (room : ℕ) (all : Everywhere (level room)) where
           found : (zs : Row ASubst) → SameSubsts K o o2 B B2 ss zs
               → (y : Row ASubst) × ((does (a_substitution inner b2 zs) Whole h (over_there outer)
               ≡ Ok (y, over_there (outer_level outer last)))
-              × SameSubsts K o o2 B B2 (ss ++ one_more (filled u.bodies (entries_of l.list.entries)) b (o + behind T M)
+              × SameSubsts K o o2 B B2 (ss ++ one_more (filled u.bodies (entries_of l.list.entries)) b (o + past_byte T M)
               ∷ []) y)
           unfolding a_substitution one_substitution
           found zs same = (
             zs ++ one_more (filled (map (move_span E o o2) u.bodies) (entries_of k.list.entries)) b2
-                (o2 + to (behind T M)) ∷ [],
+                (o2 + to (past_byte T M)) ∷ [],
             (
               ap (λ (z : Read Entries). ◌▸◌ {Y = Row ASubst}
                   (◌▸◌ {Y = Entries × Row Span} (with_end UnclosedSubst b2 z)
                   (λ es t. Ok ((es, t.bodies), outer_level (over_there outer) t)))
                   (λ es t. Ok (zs ++ one_more (filled es.1 es.0) b2 (o2 + t.at) ∷ [], t))) same_inside,
               rows_more (shape_of_subst B) (shape_of_subst B2) ss
-                  (one_more (filled u.bodies (entries_of l.list.entries)) b (o + behind T M)) zs
+                  (one_more (filled u.bodies (entries_of l.list.entries)) b (o + past_byte T M)) zs
                   (one_more (filled (map (move_span E o o2) u.bodies) (entries_of k.list.entries)) b2
-                  (o2 + to (behind T M))) same
+                  (o2 + to (past_byte T M))) same
                   (ap (λ es. a_subst es tt) filled_same),
             ),
           )
 
-      ends_high : (M : ℕ) → past_continuations T M ≡ M → behind T M ≤ L → M + 1 ≤ L
+      ends_high : (M : ℕ) → past_continuations T M ≡ M → past_byte T M ≤ L → M + 1 ≤ L
       ends_high M still le = omega (arith, le, behind_is T M, still)
 
       -- what is read of a level, as one more substitution

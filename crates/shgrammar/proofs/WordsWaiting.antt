@@ -12,7 +12,7 @@ use Rattle.shast.specs.Tree.{ASubst, AWord}
 use Rattle.shgrammar.specs.Comments.{span}
 use Rattle.shgrammar.specs.HereDocuments.{own_level, outer_level}
 use Rattle.shgrammar.specs.Sights.{Given, State, standing, Sight, seen, Move}
-use Rattle.shgrammar.specs.Form.{Form, give, see, move, push, stop, both, when, token, many, a_level, Told, Step, again, done, Read, ◌▸◌, does, may, moved_on, leads_on, turns, turns_below, next, Spelled, in_substitution}
+use Rattle.shgrammar.specs.Form.{Form, give, see, move, push, stop, both, when, token, many, a_level, Telling, Step, again, done, Read, ◌▸◌, does, may, moved_on, leads_on, turns, turns_below, next, Spelled, in_substitution}
 use Rattle.shgrammar.specs.Words.{WordSoFar, having, opened, piece_row, a_piece, single, escaped_turn, backquoted_text, Inner, contents, a_word}
 use Rattle.shgrammar.specs.Substitutions.{a_substitution, one_substitution}
 use Rattle.shgrammar.specs.Levels.{level}
@@ -81,7 +81,7 @@ module _ (g : Given) where
       by_test s t true = one.alike s t
       by_test s t false = two.alike s t
 
-  blind_token : {X : Type 0} {told : Told} {r : Form X} → Blind r → Blind (token told r)
+  blind_token : {X : Type 0} {told : Telling} {r : Form X} → Blind r → Blind (token told r)
   blind_token {X = X} {told = told} {r = r} one =
       record {
         alike = λ s t. ap (λ y. y ▸ λ x u. Ok ((x, span g.offset s.at u.at), u)) (one.alike s t)

@@ -12,7 +12,7 @@ use Rattle.shgrammar.specs.declared.mode.Piece.TheVariants as pieces
 use Rattle.shgrammar.specs.declared.token.Closing.TheVariants as closings
 use Rattle.shgrammar.specs.declared.token.Position.TheVariants.{Command}
 use Rattle.shgrammar.specs.Standing.{raw_stands, at_end}
-use Rattle.shgrammar.specs.Bytes.{ends, ends_word, past_continuations, byte_at, behind, stands}
+use Rattle.shgrammar.specs.Bytes.{ends, ends_word, past_continuations, byte_at, past_byte, stands}
 use Rattle.shgrammar.specs.Pieces.{dollar_by, dollar_at, bracket_by, byte_by, piece_by, piece_at, end_by, past_taken, past_closer, past_parameter, next_quote, is_last_backslash, rest_mode}
 use Rattle.shast.specs.Tree.{ASubst, entries_of}
 use Rattle.shgrammar.specs.Sights.{Given, State, standing, one_byte}
@@ -96,12 +96,12 @@ module _ (g : Given) where
   single_on s =
       cond_both (at_end T q) _ _ (Holds (On s)) (λ e. tt)
       (λ e. let lt = not_end_low T q e in
-      let clear = quote_clear T (behind T s.at) in
+      let clear = quote_clear T (past_byte T s.at) in
       let w = taken_on T q lt (λ f. absurd (let no : true ≡ false = sym f ∙ clear in cc)) in
-      (omega (arith, w.0, behind_low T s.at, next_of_low 39 T (behind T s.at)), w.1))
+      (omega (arith, w.0, behind_low T s.at, next_of_low 39 T (past_byte T s.at)), w.1))
     where
       q : ℕ
-      q = next_quote T (behind T s.at)
+      q = next_quote T (past_byte T s.at)
 
   module _ (s0 : State) (how : Escaping) (b : ℕ) where
     abbrev LaterEnds : Step (Unit {0}) → State → Type 0
@@ -131,16 +131,16 @@ module _ (g : Given) where
   backquoted_text_on s lt =
       let b = g.offset + past_continuations T s.at in
       (tells_many Whole g (escaped_turn escapings.Backquotes b) (On s) (escaped_each s escapings.Backquotes b) tt
-      (placed (behind T s.at) s) (behind_low T s.at, behind_high T s.at lt)).told
+      (placed (past_byte T s.at) s) (behind_low T s.at, behind_high T s.at lt)).told
 
-  dollar_single_on : (s : State) → past_continuations T (behind T s.at) < length T →
+  dollar_single_on : (s : State) → past_continuations T (past_byte T s.at) < length T →
       Holds (On s) (does dollar_single Whole g s)
   unfolding dollar_single
   dollar_single_on s lt =
       let b = g.offset + past_continuations T s.at in
       (tells_many Whole g (escaped_turn escapings.DollarSingle b) (On s) (escaped_each s escapings.DollarSingle b) tt
-      (placed (behind T (behind T s.at)) s)
-      (omega (arith, behind_low T s.at, behind_low T (behind T s.at)), behind_high T (behind T s.at) lt)).told
+      (placed (past_byte T (past_byte T s.at)) s)
+      (omega (arith, behind_low T s.at, behind_low T (past_byte T s.at)), behind_high T (past_byte T s.at) lt)).told
 
   -- ---- pieces
 
@@ -157,7 +157,7 @@ module _ (g : Given) where
   -- what is there where something closes
   abbrev Closes : Mode → ℕ → Type 0
   Closes Plain p = ends_word T p ≡ true
-  Closes Arith p = past_continuations T (behind T p) < length T
+  Closes Arith p = past_continuations T (past_byte T p) < length T
   Closes _ p = past_continuations T p < length T
 
   -- which bytes there are where this piece begins
@@ -167,22 +167,22 @@ module _ (g : Given) where
   Needs mode p pieces.LoneBackslash = Unit {0}
   Needs mode p pieces.Escape = past_continuations T p + 1 < length T
   Needs mode p pieces.Single = past_continuations T p < length T
-  Needs mode p pieces.DollarSingle = past_continuations T (behind T p) < length T
+  Needs mode p pieces.DollarSingle = past_continuations T (past_byte T p) < length T
   Needs mode p pieces.Double = past_continuations T p < length T
   Needs mode p pieces.Backquote = past_continuations T p < length T
-  Needs mode p pieces.Pid = past_continuations T (behind T p) < length T
+  Needs mode p pieces.Pid = past_continuations T (past_byte T p) < length T
   Needs mode p pieces.Subst = Unit {0}
-  Needs mode p pieces.Arith = past_continuations T (behind T (behind T p)) < length T
-  Needs mode p pieces.Param = past_continuations T (behind T p) < length T
+  Needs mode p pieces.Arith = past_continuations T (past_byte T (past_byte T p)) < length T
+  Needs mode p pieces.Param = past_continuations T (past_byte T p) < length T
   Needs mode p pieces.Open = past_continuations T p < length T
   Needs mode p pieces.Close = past_continuations T p < length T
   Needs mode p pieces.BadClose = Unit {0}
   Needs mode p pieces.Ordinary = past_continuations T p < length T
 
   module _ (mode : Mode) (n p : ℕ) where
-    bracket_needs : (m : ℕ) (two : Bool) → stands T (behind T p) 41 ≡ two → past_continuations T p < length T →
+    bracket_needs : (m : ℕ) (two : Bool) → stands T (past_byte T p) 41 ≡ two → past_continuations T p < length T →
         Needs Arith p (bracket_by m two)
-    bracket_needs zero true e lt = stands_low T (behind T p) 41 e
+    bracket_needs zero true e lt = stands_low T (past_byte T p) 41 e
     bracket_needs zero false e lt = tt
     bracket_needs (suc m) two e lt = lt
 
@@ -194,15 +194,15 @@ module _ (g : Given) where
     end_needs DoubleBrace is = tt
     end_needs Arith is = tt
 
-    dollar_needs : (x : Option ℕ) → byte_at T (behind T p) ≡ x → past_continuations T p < length T →
-        Needs mode p (dollar_by T (behind T p) x)
+    dollar_needs : (x : Option ℕ) → byte_at T (past_byte T p) ≡ x → past_continuations T p < length T →
+        Needs mode p (dollar_by T (past_byte T p) x)
     dollar_needs None is lt = lt
     dollar_needs (Some v) is lt =
-        let next = slice_get_within T (past_continuations T (behind T p)) v is in
+        let next = slice_get_within T (past_continuations T (past_byte T p)) v is in
         cond_both (v == 36) _ _ (Needs mode p) (λ e. next)
         (λ e. cond_both (v == 40) _ _ (Needs mode p)
-        (λ f. cond_both (stands T (behind T (behind T p)) 40) _ _ (Needs mode p)
-        (λ d. stands_low T (behind T (behind T p)) 40 d) (λ d. tt))
+        (λ f. cond_both (stands T (past_byte T (past_byte T p)) 40) _ _ (Needs mode p)
+        (λ d. stands_low T (past_byte T (past_byte T p)) 40 d) (λ d. tt))
         (λ f. cond_both (v == 123) _ _ (Needs mode p) (λ d. next)
         (λ d. cond_both (v == 39) _ _ (Needs mode p) (λ z. next) (λ z. lt))))
 
@@ -222,7 +222,7 @@ module _ (g : Given) where
         cond_both (v == 125) _ _ (Needs DoubleBrace p) (λ e. lt)
         (λ e. cond_both (v == 34) _ _ (Needs DoubleBrace p) (λ f. lt) (λ f. lt))
     byte_needs Arith v is lt =
-        cond_both (v == 41) _ _ (Needs Arith p) (λ e. bracket_needs n (stands T (behind T p) 41) refl lt)
+        cond_both (v == 41) _ _ (Needs Arith p) (λ e. bracket_needs n (stands T (past_byte T p) 41) refl lt)
         (λ e. cond_both (v == 40) _ _ (Needs Arith p) (λ f. lt) (λ f. lt))
 
     needs_by : (x : Option ℕ) → byte_at T p ≡ x → Needs mode p (piece_by T p mode n x)
@@ -231,10 +231,10 @@ module _ (g : Given) where
     needs_by (Some v) is =
         let lt = slice_get_within T (past_continuations T p) v is in
         cond_both (v == 92) _ _ (Needs mode p)
-        (λ e. cond_both (at_end T (behind T p)) _ _ (Needs mode p) (λ f. tt)
-        (λ f. omega (arith, not_end_low T (behind T p) f, behind_is T p)))
+        (λ e. cond_both (at_end T (past_byte T p)) _ _ (Needs mode p) (λ f. tt)
+        (λ f. omega (arith, not_end_low T (past_byte T p) f, behind_is T p)))
         (λ e. cond_both (v == 96) _ _ (Needs mode p) (λ f. lt)
-        (λ f. cond_both (v == 36) _ _ (Needs mode p) (λ d. dollar_needs (byte_at T (behind T p)) refl lt)
+        (λ f. cond_both (v == 36) _ _ (Needs mode p) (λ d. dollar_needs (byte_at T (past_byte T p)) refl lt)
         (λ d. byte_needs mode v is lt)))
 
     needs : Needs mode p (piece_at T mode n p)
@@ -245,7 +245,7 @@ module _ (g : Given) where
     needs_known : (x : Piece) → Needs mode p x → Needs mode p (piece_in g.edition mode x)
     needs_known pieces.DollarSingle so =
         cond_both (is_later g.edition && quotes_singly mode) _ _ (Needs mode p) (λ e. so)
-        (λ e. omega (arith, so, place_low T (behind T p), behind_is T p))
+        (λ e. omega (arith, so, place_low T (past_byte T p), behind_is T p))
     needs_known pieces.Closer so = so
     needs_known pieces.Missing so = so
     needs_known pieces.LoneBackslash so = so
@@ -268,7 +268,7 @@ module _ (g : Given) where
   closer_last Double p le so = (behind_high T p so, λ e. absurd cc)
   closer_last Brace p le so = (behind_high T p so, λ e. absurd cc)
   closer_last DoubleBrace p le so = (behind_high T p so, λ e. absurd cc)
-  closer_last Arith p le so = (behind_high T (behind T p) so, λ e. absurd cc)
+  closer_last Arith p le so = (behind_high T (past_byte T p) so, λ e. absurd cc)
 
   module _ (inner : Inner) (stays : Stays inner) (mode : Mode) (b : ℕ) (c : WordSoFar) (s : State)
       (le : s.at ≤ length T) where
@@ -295,25 +295,25 @@ module _ (g : Given) where
         (λ u t on. on)
     row pieces.DollarSingle so = holds_then (On s) Turn (does dollar_single Whole g s) (λ u t. Ok (again c, t))
         (dollar_single_on s so) (λ u t on. on)
-    row pieces.Double so = opens Double _ (placed (behind T p) s) (behind_low T p) (behind_high T p so)
+    row pieces.Double so = opens Double _ (placed (past_byte T p) s) (behind_low T p) (behind_high T p so)
     row pieces.Backquote so = holds_then (On s) Turn (does backquoted_text Whole g s) (λ u t. Ok (again c, t))
         (backquoted_text_on s so) (λ u t on. on)
-    row pieces.Pid so = (omega (arith, behind_low T p, behind_low T (behind T p)), behind_high T (behind T p) so)
+    row pieces.Pid so = (omega (arith, behind_low T p, behind_low T (past_byte T p)), behind_high T (past_byte T p) so)
     row pieces.Subst so =
-        holds_then (λ x t. (behind T (behind T p) ≤ t.at) × (t.at ≤ length T)) Turn
-        (does (inner.substitution _ c.substs) Whole g (placed (behind T (behind T p)) s))
+        holds_then (λ x t. (past_byte T (past_byte T p) ≤ t.at) × (t.at ≤ length T)) Turn
+        (does (inner.substitution _ c.substs) Whole g (placed (past_byte T (past_byte T p)) s))
         (λ x t. Ok (again (having c.nested x), t))
-        (stays.substitution _ c.substs (placed (behind T (behind T p)) s))
-        (λ x t on. (omega (arith, on.0, behind_low T p, behind_low T (behind T p)), on.1))
+        (stays.substitution _ c.substs (placed (past_byte T (past_byte T p)) s))
+        (λ x t on. (omega (arith, on.0, behind_low T p, behind_low T (past_byte T p)), on.1))
     row pieces.Arith so =
-        opens Arith _ (placed (behind T (behind T (behind T p))) s)
-        (omega (arith, behind_low T p, behind_low T (behind T p), behind_low T (behind T (behind T p))))
-        (behind_high T (behind T (behind T p)) so)
+        opens Arith _ (placed (past_byte T (past_byte T (past_byte T p))) s)
+        (omega (arith, behind_low T p, behind_low T (past_byte T p), behind_low T (past_byte T (past_byte T p))))
+        (behind_high T (past_byte T (past_byte T p)) so)
     row pieces.Param so =
-        opens (rest_mode T mode (past_parameter T (behind T (behind T p)))) _
-        (placed (past_parameter T (behind T (behind T p))) s)
-        (omega (arith, behind_low T p, behind_low T (behind T p), parameter_low T (behind T (behind T p))))
-        (parameter_high T (behind T (behind T p)) (behind_high T (behind T p) so))
+        opens (rest_mode T mode (past_parameter T (past_byte T (past_byte T p)))) _
+        (placed (past_parameter T (past_byte T (past_byte T p))) s)
+        (omega (arith, behind_low T p, behind_low T (past_byte T p), parameter_low T (past_byte T (past_byte T p))))
+        (parameter_high T (past_byte T (past_byte T p)) (behind_high T (past_byte T p) so))
     row pieces.Open so = (behind_low T p, behind_high T p so)
     row pieces.Close so = (behind_low T p, behind_high T p so)
     row pieces.BadClose so = tt
@@ -373,7 +373,7 @@ module _ (g : Given) where
             let high = behind_high T u.at
             (slice_get_within T (past_continuations T u.at) 41 (paren_here g l.next u so e).0) in
             tells_then Whole g (still u)
-            (λ w t same. record { told = subst (λ (v : State). behind T v.at ≤ length T) (sym same) high })
+            (λ w t same. record { told = subst (λ (v : State). past_byte T v.at ≤ length T) (sym same) high })
         closed_by false l u e so = tells_after Whole g (λ w t. record { told = tt })
 
     substitution_high : (b : ℕ) (ss : Row ASubst) (s : State) →

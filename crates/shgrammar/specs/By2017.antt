@@ -10,7 +10,7 @@ use Rattle.shgrammar.specs.declared.token.Position.{Position}
 use Rattle.shgrammar.specs.declared.token.Token.{Token}
 use Rattle.shgrammar.specs.declared.token.Token.TheVariants as tokens
 use Rattle.shtext.specs.Text.{is_newline}
-use Rattle.shgrammar.specs.Bytes.{behind, byte_at, is_broken_at, past_blanks, stands}
+use Rattle.shgrammar.specs.Bytes.{byte_at, is_broken_at, past_blanks, past_byte, stands}
 use Rattle.shgrammar.specs.Pieces.{byte_by, end_by}
 use Rattle.shgrammar.specs.Standing.{at_end}
 use Rattle.shgrammar.specs.Tokens.{greater_at, is_number, less_at, word_by}
@@ -21,13 +21,13 @@ use Rattle.shgrammar.specs.Tokens.{greater_at, is_number, less_at, word_by}
 abbrev pub token_2017 : Position → List ℕ → ℕ → Option ℕ → Token
 token_2017 position T p None = tokens.End
 token_2017 position T p (Some b) = if is_newline b then tokens.Newline
-    else (if b == 59 then (if stands T (behind T p) 59 then tokens.DoubleSemicolon else tokens.Semicolon)
-    else (if b == 38 then (if stands T (behind T p) 38 then tokens.AndIf else tokens.Ampersand)
-    else (if b == 124 then (if stands T (behind T p) 124 then tokens.OrIf else tokens.Pipe)
+    else (if b == 59 then (if stands T (past_byte T p) 59 then tokens.DoubleSemicolon else tokens.Semicolon)
+    else (if b == 38 then (if stands T (past_byte T p) 38 then tokens.AndIf else tokens.Ampersand)
+    else (if b == 124 then (if stands T (past_byte T p) 124 then tokens.OrIf else tokens.Pipe)
     else (if b == 40 then tokens.OpenParen
     else (if b == 41 then tokens.CloseParen
-    else (if b == 60 then tokens.Redirect (less_at T (behind T p))
-    else (if b == 62 then tokens.Redirect (greater_at T (behind T p))
+    else (if b == 60 then tokens.Redirect (less_at T (past_byte T p))
+    else (if b == 62 then tokens.Redirect (greater_at T (past_byte T p))
     else (if b == 35 then tokens.Comment
     else (if is_number T p then tokens.Number else word_by position T p)))))))))
 
@@ -44,16 +44,16 @@ next_2017 position T p = record {
 abbrev pub dollar_2017 : List ℕ → ℕ → Option ℕ → Piece
 dollar_2017 T q None = pieces.Ordinary
 dollar_2017 T q (Some b) = if b == 36 then pieces.Pid
-    else (if b == 40 then (if stands T (behind T q) 40 then pieces.Arith else pieces.Subst)
+    else (if b == 40 then (if stands T (past_byte T q) 40 then pieces.Arith else pieces.Subst)
     else (if b == 123 then pieces.Param else pieces.Ordinary))
 
 -- by the byte at p, or none
 abbrev pub piece_by_2017 : List ℕ → ℕ → Mode → ℕ → Option ℕ → Piece
 piece_by_2017 T p mode n None = end_by mode
 piece_by_2017 T p mode n (Some b) = if b == 92
-    then (if at_end T (behind T p) then pieces.LoneBackslash else pieces.Escape)
+    then (if at_end T (past_byte T p) then pieces.LoneBackslash else pieces.Escape)
     else (if b == 96 then pieces.Backquote
-    else (if b == 36 then dollar_2017 T (behind T p) (byte_at T (behind T p))
+    else (if b == 36 then dollar_2017 T (past_byte T p) (byte_at T (past_byte T p))
     else byte_by T p mode n b))
 
 -- the piece at p, with n brackets open in arithmetic

@@ -19,8 +19,8 @@ abbrev pub byte_at : List ℕ → ℕ → Option ℕ
 byte_at T p = slice_get T (past_continuations T p)
 
 -- the place behind that byte
-unfoldable pub behind : List ℕ → ℕ → ℕ
-behind T p = past_continuations T p + 1
+unfoldable pub past_byte : List ℕ → ℕ → ℕ
+past_byte T p = past_continuations T p + 1
 
 -- the byte c is read at p
 unfoldable pub stands : List ℕ → ℕ → ℕ → Bool
@@ -40,7 +40,7 @@ ends_word T p = ends (byte_at T p)
 
 unfoldable pub past_below : ℕ → (ℕ → Bool) → List ℕ → ℕ → ℕ
 past_below zero test T p = p
-past_below (suc n) test T p = if stands_in test T p then past_below n test T (behind T p) else p
+past_below (suc n) test T p = if stands_in test T p then past_below n test T (past_byte T p) else p
 
 -- the place behind the bytes that are read from p on and pass the test
 unfoldable pub past : (ℕ → Bool) → List ℕ → ℕ → ℕ

@@ -22,7 +22,7 @@ use Rattle.shast.specs.Nodes.{word_span}
 use Rattle.shast.specs.Spelling.{and_or_text, redirect_text}
 use Rattle.shgrammar.specs.Sights.{Waiting, here, the_token, the_comment, is_a_name, a_document_waits, the_delimiter, blanks, one_byte, a_comment_on, the_digits}
 use Rattle.shgrammar.specs.HereDocuments.{ADelimiter, waits, bodies_here}
-use Rattle.shgrammar.specs.Form.{Form, give, see, move, push, stop, Told, untold, bared, by, token, many, change, with_bytes, Spelled, ◌>>=◌, ◌>>◌, Step, again, done, step_if}
+use Rattle.shgrammar.specs.Form.{Form, give, see, move, push, stop, Telling, untold, bared, by, token, many, change, with_bytes, Spelled, ◌>>=◌, ◌>>◌, Step, again, done, step_if}
 use Rattle.shgrammar.specs.Tokens.{is_end}
 use Rattle.shgrammar.specs.Words.{Inner, a_word}
 
@@ -431,7 +431,7 @@ separator_of tokens.Ampersand = Some Ampersand
 separator_of _ = None
 
 -- a tree does not tell a `;`
-abbrev pub told_separator : Separator → Told
+abbrev pub told_separator : Separator → Telling
 told_separator Semicolon = untold
 told_separator Ampersand = by (codes "&")
 

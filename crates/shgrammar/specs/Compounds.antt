@@ -16,7 +16,7 @@ use Rattle.shast.specs.declared.tree.Span.{Span}
 use Rattle.shast.specs.Nodes.{through, commands_end}
 use Rattle.shast.specs.Tree.{Entries, entry, remark, more_entries, ACommand, simple, compound, function, formed, AForm, brace, subshell, if_then, while_do, until_do, for_in, AWord, ForWords, no_in, in_words, items_of, ABranch, branch, branches_of, Otherwise, no_else, otherwise, no_item, case_in, ACaseItem, case_item, cases_of, patterns_of, entries_of}
 use Rattle.shgrammar.specs.Sights.{here, is_a_name, Move, one_byte, the_reserved}
-use Rattle.shgrammar.specs.Form.{Form, Spelled, Told, untold, give, see, move, push, stop, by, token, many, ◌>>=◌, ◌>>◌, Step, again, done}
+use Rattle.shgrammar.specs.Form.{Form, Spelled, Telling, untold, give, see, move, push, stop, by, token, many, ◌>>=◌, ◌>>◌, Step, again, done}
 use Rattle.shgrammar.specs.Words.{Inner, a_word}
 use Rattle.shgrammar.specs.Commands.{next_token, pick, begins_word, opener_of, compound_by, unexpected, a_semicolon, JoinSo, join_so, a_join_of, join_turn, Items, so_many, an_item, is_word, is_pipe, is_paren, ends_item, falls_through}
 use Rattle.shgrammar.specs.Lists.{a_list, Listed, ListSo, list_so, none_listed, list_turn}
@@ -273,7 +273,7 @@ abbrev pub item_end : ℕ → Row Span → Next → ItemEnd
 item_end p cs n = record { at = p; comments = cs; next = n }
 
 -- a `;;` is not told, a `;&` is
-abbrev pub ender_told : Bool → Told
+abbrev pub ender_told : Bool → Telling
 ender_told true = by (codes ";&")
 ender_told false = untold
 

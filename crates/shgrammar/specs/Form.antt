@@ -21,11 +21,11 @@ abbrev pub Spelled : Type 0
 Spelled = List ℕ
 
 -- how what was passed is told: not at all, as it stands, without its continuations, or by a text
-pub data Told : Type 0 where
-  untold : Told
-  as_it_stands : Told
-  bared : Told
-  by : Spelled → Told
+pub data Telling : Type 0 where
+  untold : Telling
+  as_it_stands : Telling
+  bared : Telling
+  by : Spelled → Telling
 
 -- what was read, and the state behind it; or the fault that stopped the reading
 abbrev pub Read : Type 0 → Type 0
@@ -56,7 +56,7 @@ pub data Form : Type 0 → Type 1 where
   -- one form where what is seen holds, and another where it does not
   when : {X : Type 0} → Sight Bool → Form X → Form X → Form X
   -- what is read is one token: with its span, and told so
-  token : {X : Type 0} → Told → Form X → Form (X × Span)
+  token : {X : Type 0} → Telling → Form X → Form (X × Span)
   -- turns until one is the last
   loop : {A : Type 0} → (A → Form (Step A)) → A → Form A
   -- where the text ends in it, the fault is this one, at this offset
@@ -108,14 +108,14 @@ pub data Either {X : Type 0} (test : Bool) (r q : Comes X) (s : State) (x : Read
 abbrev pub raw : List ℕ → ℕ → ℕ → Spelled
 raw T p q = take (q - p) (drop p T)
 
-abbrev pub tell : Told → List ℕ → ℕ → ℕ → Row Spelled
+abbrev pub tell : Telling → List ℕ → ℕ → ℕ → Row Spelled
 tell untold T p q = []
 tell as_it_stands T p q = raw T p q ∷ []
 tell bared T p q = bare (raw T p q) ∷ []
 tell (by text) T p q = text ∷ []
 
 -- the tokens passed inside are not told
-pub data OneToken {X : Type 0} (told : Told) (g : Given) (r : Comes X) (s : State) : Read (X × Span) → Row Spelled →
+pub data OneToken {X : Type 0} (told : Telling) (g : Given) (r : Comes X) (s : State) : Read (X × Span) → Row Spelled →
     Type 0 where
   whole : {x : X} {t : State} {k : Row Spelled} → r s (Ok (x, t)) k →
       OneToken told g r s (Ok ((x, span g.offset s.at t.at), t)) (tell told g.text s.at t.at)

@@ -12,7 +12,7 @@ use Rattle.shgrammar.specs.declared.mode.Piece.{Piece}
 use Rattle.shgrammar.specs.declared.mode.Piece.TheVariants as pieces
 use Rattle.shgrammar.specs.Classes.{is_digit, is_letter, is_name, is_special}
 use Rattle.shgrammar.specs.Standing.{raw_stands, at_end, next_such, next_of}
-use Rattle.shgrammar.specs.Bytes.{byte_at, behind, stands, stands_in, ends, past}
+use Rattle.shgrammar.specs.Bytes.{byte_at, past_byte, stands, stands_in, ends, past}
 
 -- ---- what a byte begins in a mode
 
@@ -20,13 +20,13 @@ use Rattle.shgrammar.specs.Bytes.{byte_at, behind, stands, stands_in, ends, past
 abbrev pub dollar_by : List ℕ → ℕ → Option ℕ → Piece
 dollar_by T q None = pieces.Ordinary
 dollar_by T q (Some b) = if b == 36 then pieces.Pid
-    else (if b == 40 then (if stands T (behind T q) 40 then pieces.Arith else pieces.Subst)
+    else (if b == 40 then (if stands T (past_byte T q) 40 then pieces.Arith else pieces.Subst)
     else (if b == 123 then pieces.Param
     else (if b == 39 then pieces.DollarSingle else pieces.Ordinary)))
 
 -- what the `$` at p begins
 unfoldable pub dollar_at : List ℕ → ℕ → Piece
-dollar_at T p = dollar_by T (behind T p) (byte_at T (behind T p))
+dollar_at T p = dollar_by T (past_byte T p) (byte_at T (past_byte T p))
 
 -- a `)` in arithmetic, with n brackets open in it (XCU 2.6.4)
 abbrev pub bracket_by : ℕ → Bool → Piece
@@ -42,7 +42,7 @@ byte_by T p Double n b = if b == 34 then pieces.Closer else pieces.Ordinary
 byte_by T p Brace n b = if b == 125 then pieces.Closer
     else (if b == 39 then pieces.Single else (if b == 34 then pieces.Double else pieces.Ordinary))
 byte_by T p DoubleBrace n b = if b == 125 then pieces.Closer else (if b == 34 then pieces.Double else pieces.Ordinary)
-byte_by T p Arith n b = if b == 41 then bracket_by n (stands T (behind T p) 41)
+byte_by T p Arith n b = if b == 41 then bracket_by n (stands T (past_byte T p) 41)
     else (if b == 40 then pieces.Open else pieces.Ordinary)
 
 -- at the end of the text a word ends, and nothing else may
@@ -54,7 +54,7 @@ end_by _ = pieces.Missing
 -- where it does not quote it (XCU 2.2.3), that byte begins nothing either.
 abbrev pub piece_by : List ℕ → ℕ → Mode → ℕ → Option ℕ → Piece
 piece_by T p mode n None = end_by mode
-piece_by T p mode n (Some b) = if b == 92 then (if at_end T (behind T p) then pieces.LoneBackslash else pieces.Escape)
+piece_by T p mode n (Some b) = if b == 92 then (if at_end T (past_byte T p) then pieces.LoneBackslash else pieces.Escape)
     else (if b == 96 then pieces.Backquote
     else (if b == 36 then dollar_at T p
     else byte_by T p mode n b))
@@ -87,10 +87,10 @@ past_taken T p = p + (if raw_stands T p 92 then 2 else 1)
 -- behind what closes a construct; nothing closes a word
 abbrev pub past_closer : List ℕ → Mode → ℕ → ℕ
 past_closer T Plain p = p
-past_closer T Double p = behind T p
-past_closer T Brace p = behind T p
-past_closer T DoubleBrace p = behind T p
-past_closer T Arith p = behind T (behind T p)
+past_closer T Double p = past_byte T p
+past_closer T Brace p = past_byte T p
+past_closer T DoubleBrace p = past_byte T p
+past_closer T Arith p = past_byte T (past_byte T p)
 
 -- the fault of a construct in which the text ends
 abbrev pub unclosed : Mode → FaultKind
@@ -131,7 +131,7 @@ is_last_backslash T p = raw_stands T p 92 && at_end T (p + 1)
 unfoldable pub past_parameter : List ℕ → ℕ → ℕ
 past_parameter T p = if stands_in is_letter T p then past is_name T p
     else (if stands_in is_digit T p then past is_digit T p
-    else (if stands_in is_special T p then behind T p else p))
+    else (if stands_in is_special T p then past_byte T p else p))
 
 -- how an expansion is read that opened in this mode, unless its rest is a pattern
 abbrev pub braces_in : Mode → Mode

@@ -5,7 +5,7 @@ use Rattle.shgrammar.specs.declared.token.Token.TheVariants as tokens
 use Rattle.shast.specs.declared.tree.AndOrOperator.{AndOrOperator}
 use Rattle.shast.specs.declared.tree.RedirectOperator.{RedirectOperator}
 use Rattle.shgrammar.specs.Standing.{raw_stands, at_end}
-use Rattle.shgrammar.specs.Bytes.{behind, past_continuations, ends_word}
+use Rattle.shgrammar.specs.Bytes.{past_byte, past_continuations, ends_word}
 use Rattle.shgrammar.specs.Tokens.{is_comment, is_end}
 use Rattle.shgrammar.specs.Commands.{and_or_operator_of, begins_word, ends_item, is_long, is_strip, redirect_operator_of, takes_here}
 use Rattle.shgrammar.specs.Compounds.{begins_pattern}
@@ -19,12 +19,12 @@ Shows token T p =
     (begins_word token ≡ true → ends_word T p ≡ false)
     × (is_end token ≡ false → IsRead T p) × (token ≡ tokens.Newline → raw_stands T p 10 ≡ true)
     × (token ≡ tokens.End → at_end T p ≡ true)
-    × ((operator : AndOrOperator) → and_or_operator_of token ≡ Some operator → IsRead T (behind T p))
+    × ((operator : AndOrOperator) → and_or_operator_of token ≡ Some operator → IsRead T (past_byte T p))
     × (is_comment token ≡ false → raw_stands T p 35 ≡ false) × (past_continuations T p ≡ p)
-    × (begins_pattern token ≡ true → ends_word T p ≡ false) × (ends_item token ≡ true → IsRead T (behind T p))
+    × (begins_pattern token ≡ true → ends_word T p ≡ false) × (ends_item token ≡ true → IsRead T (past_byte T p))
     × ((operator : RedirectOperator) → redirect_operator_of token ≡ Some operator → is_long operator ≡ true →
-    IsRead T (behind T p))
+    IsRead T (past_byte T p))
     × ((operator : RedirectOperator) → redirect_operator_of token ≡ Some operator → is_strip operator ≡ true →
-    IsRead T (behind T (behind T p)))
+    IsRead T (past_byte T (past_byte T p)))
     × ((operator : RedirectOperator) → redirect_operator_of token ≡ Some operator → takes_here operator ≡ true →
     raw_stands T p 60 ≡ true)

@@ -9,7 +9,7 @@ use Rattle.shgrammar.specs.declared.token.Next.{Next}
 use Rattle.shgrammar.specs.declared.token.Position.{Position}
 use Rattle.shast.specs.declared.tree.Span.{Span}
 use Rattle.shgrammar.specs.Standing.{raw_stands, at_end}
-use Rattle.shgrammar.specs.Bytes.{past_continuations, behind, past_blanks}
+use Rattle.shgrammar.specs.Bytes.{past_continuations, past_byte, past_blanks}
 use Rattle.shgrammar.specs.Tokens.{next_at, next_in, past_reserved, past_digits, is_name_at}
 use Rattle.shgrammar.specs.Pieces.{piece_at, piece_in, past_taken, past_closer, next_quote, next_escaped, is_last_backslash, past_parameter, rest_mode}
 use Rattle.shgrammar.specs.Comments.{comment_at, past_comment}
@@ -83,7 +83,7 @@ pub data Move : Type 0 where
   the_digits : Move
 
 abbrev pub to : Move → List ℕ → ℕ → ℕ
-to one_byte T p = behind T p
+to one_byte T p = past_byte T p
 to continuations T p = past_continuations T p
 to one_taken T p = past_taken T p
 to (the_closer mode) T p = past_closer T mode p

@@ -13,14 +13,14 @@ use Rattle.shast.specs.declared.tree.RedirectOperator.{RedirectOperator}
 use Rattle.shast.specs.declared.tree.RedirectOperator.TheVariants as redirects
 use Rattle.shtext.specs.Text.{is_newline}
 use Rattle.shgrammar.specs.Classes.{is_digit, is_letter, is_name}
-use Rattle.shgrammar.specs.Bytes.{byte_at, behind, stands, stands_in, ends_word, past, past_blanks, is_broken_at}
+use Rattle.shgrammar.specs.Bytes.{byte_at, past_byte, stands, stands_in, ends_word, past, past_blanks, is_broken_at}
 
 -- ---- words
 
 -- the word that is spelled so stands at p
 unfoldable pub is_word_at : List ℕ → ℕ → List ℕ → Bool
 is_word_at T p [] = ends_word T p
-is_word_at T p (c ∷ cs) = stands T p c && is_word_at T (behind T p) cs
+is_word_at T p (c ∷ cs) = stands T p c && is_word_at T (past_byte T p) cs
 
 abbrev pub Spelling : Type 0
 Spelling = List ℕ × Reserved
@@ -45,7 +45,7 @@ reserved_at T p = first_of_words T p reserved_words
 
 -- the place behind the reserved word that stands at p
 unfoldable pub past_reserved : List ℕ → ℕ → ℕ
-past_reserved T p = past is_name T (behind T p)
+past_reserved T p = past is_name T (past_byte T p)
 
 -- a NAME and `=` stand at p (XCU 2.10.2, rule 7)
 unfoldable pub begins_assignment : List ℕ → ℕ → Bool
@@ -84,7 +84,7 @@ word_by Suffix T p = tokens.Word
 -- The operator of a redirection that begins with `<`, or with `>`; what stands behind
 -- that byte stands at p (XCU 2.7).
 unfoldable pub less_at : List ℕ → ℕ → RedirectOperator
-less_at T p = if stands T p 60 then (if stands T (behind T p) 45 then redirects.HereStripped else redirects.Here)
+less_at T p = if stands T p 60 then (if stands T (past_byte T p) 45 then redirects.HereStripped else redirects.Here)
     else (if stands T p 38 then redirects.DuplicateInput
     else (if stands T p 62 then redirects.ReadWrite else redirects.Input))
 
@@ -102,13 +102,13 @@ semicolon_at T p = if stands T p 59 then tokens.DoubleSemicolon
 abbrev pub token_of : Position → List ℕ → ℕ → Option ℕ → Token
 token_of position T p None = tokens.End
 token_of position T p (Some b) = if is_newline b then tokens.Newline
-    else (if b == 59 then semicolon_at T (behind T p)
-    else (if b == 38 then (if stands T (behind T p) 38 then tokens.AndIf else tokens.Ampersand)
-    else (if b == 124 then (if stands T (behind T p) 124 then tokens.OrIf else tokens.Pipe)
+    else (if b == 59 then semicolon_at T (past_byte T p)
+    else (if b == 38 then (if stands T (past_byte T p) 38 then tokens.AndIf else tokens.Ampersand)
+    else (if b == 124 then (if stands T (past_byte T p) 124 then tokens.OrIf else tokens.Pipe)
     else (if b == 40 then tokens.OpenParen
     else (if b == 41 then tokens.CloseParen
-    else (if b == 60 then tokens.Redirect (less_at T (behind T p))
-    else (if b == 62 then tokens.Redirect (greater_at T (behind T p))
+    else (if b == 60 then tokens.Redirect (less_at T (past_byte T p))
+    else (if b == 62 then tokens.Redirect (greater_at T (past_byte T p))
     else (if b == 35 then tokens.Comment
     else (if is_number T p then tokens.Number else word_by position T p)))))))))
 

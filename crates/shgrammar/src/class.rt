@@ -2,7 +2,7 @@
 ghost use Rattle.std.specs.Prelude.{◌≡◌};
 ghost use Rattle.shgrammar.specs.Classes.{in_class};
 
-use crate::marks::is_in_names;
+use crate::byte_kinds::is_in_names;
 
 /// A set of bytes.
 #[derive(Clone, Copy)]

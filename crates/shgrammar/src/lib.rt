@@ -6,22 +6,22 @@
 //! [`Fault`], and [`Keep`]. No reader stands here: that is the crate `shread`.
 #![tactic(auto)]
 
+mod byte_kinds;
 mod class;
 mod delimiter;
 mod edition;
 mod fault;
 mod keep;
-mod marks;
 mod mode;
 mod script;
 mod token;
 
+pub use byte_kinds::{begins_a_word, ends_words};
 pub use class::Class;
 pub use delimiter::{Delimiter, delimiter_in, delimiter_of, plain_part};
 pub use edition::Edition;
 pub use fault::{Fault, FaultKind};
 pub use keep::Keep;
-pub use marks::{begins_a_word, ends_words};
 pub use mode::{Escaping, Mode, Piece};
 pub use script::Script;
 pub use token::{Closing, Next, Opener, Position, Reserved, Separator, Token};

@@ -20,12 +20,12 @@ use Rattle.shgrammar.specs.declared.token.Position.TheVariants.{Command, Suffix}
 use Rattle.shgrammar.specs.declared.token.Separator.{Separator}
 use Rattle.shgrammar.specs.declared.token.Token.{Token}
 use Rattle.shgrammar.specs.declared.token.Token.TheVariants as tokens
-use Rattle.shgrammar.specs.Bytes.{behind}
+use Rattle.shgrammar.specs.Bytes.{past_byte}
 use Rattle.shgrammar.specs.Classes.{is_digit, is_name}
 use Rattle.shgrammar.specs.Commands.{pick, next_token, is_newline_token, is_semicolon, a_semicolon, is_pipe, is_bang, begins_simple, begins_word, begins_redirect, begins_pipeline, opener_of, compound_by, and_or_operator_of, Items, so_many, breaks, behind_word, one_redirect, behind_redirect, redirect_turn, with_redirect_list, an_item, item_by, item_turn, a_simple, unexpected, comment_by, a_comment, a_newline, with_comment, JoinSo, join_turn, a_join, a_command, a_bang, Piped, piped, one_command, pipe_turn, a_pipeline, Joined, one_pipeline, joined_by, join_pipeline, an_and_or, separator_of, separator_by, a_separator, an_entry, is_paren, is_word, a_word_command, ends_item, falls_through, is_long, is_number_token, is_strip, redirect_operator_of, a_number, an_operator, operator_by, a_target, a_document, document_by, takes_here}
 use Rattle.shgrammar.specs.Comments.{comment_at, past_comment}
 use Rattle.shgrammar.specs.Compounds.{Branched, branched, Closed, is_closing, is_open_paren, is_close_paren, past_opener, reserved_or_paren, closing, a_branch, elif_turn, an_else, an_if, a_loop, a_group, a_for_name, a_linebreak, a_sequential_sep, begins_words, Headed, word_turn, for_words, a_for_head, a_for, a_form, a_compound, a_function, a_case_word, begins_pattern, Patterned, a_pattern, one_pattern, pattern_turn, a_pattern_list, an_open_bracket, a_body, ItemEnd, an_ender, an_item_end, CasesSo, cases_so, one_case, case_turn, a_case_head, a_case}
-use Rattle.shgrammar.specs.Form.{Form, Spelled, Told, give, see, move, push, both, change, many, step_if, token}
+use Rattle.shgrammar.specs.Form.{Form, Spelled, Telling, give, see, move, push, both, change, many, step_if, token}
 use Rattle.shgrammar.specs.HereDocuments.{ADelimiter, bodies_from, bodies_here, changed, state_by, waits, with_waiting}
 use Rattle.shgrammar.specs.Levels.{level}
 use Rattle.shgrammar.specs.Lists.{ListSo, list_so, none_listed, one_entry, entry_turn, remark_by, a_remark, on_line, list_turn, a_list}
@@ -99,12 +99,12 @@ module _ (g : Given) where
   moved_on : (m : Move) {s : State} → to m T s.at ≤ length T → N (move m) InText s
   moved_on m le = record { told = le }
 
-  token_on : {X : Type 0} {r : Form X} {how : Told} {s : State} → N r InText s → N (token how r) InText s
+  token_on : {X : Type 0} {r : Form X} {how : Telling} {s : State} → N r InText s → N (token how r) InText s
   token_on one = tells_token Whole g one (λ a t le. le)
 
-  two_on : {how : Told} (s : State) → IsRead T (behind T s.at)
+  two_on : {how : Telling} (s : State) → IsRead T (past_byte T s.at)
       → N (token how (both (move one_byte) (λ x. move one_byte))) InText s
-  two_on s is = token_on (record { told = behind_high T (behind T s.at) is })
+  two_on s is = token_on (record { told = behind_high T (past_byte T s.at) is })
 
   -- a byte is read where the token is not the end
   read : (n : Next) (s : State) → Handed n s → (test : Token → Bool) → test tokens.End ≡ false
@@ -112,7 +112,7 @@ module _ (g : Given) where
   read n s so test none e = so.shows.1 (other test none n.token e)
 
   pub read_on : (n : Next) (s : State) → Handed n s → (test : Token → Bool) → test tokens.End ≡ false
-      → test n.token ≡ true → behind T s.at ≤ length T
+      → test n.token ≡ true → past_byte T s.at ≤ length T
   read_on n s so test none e = behind_high T s.at (read n s so test none e)
 
   -- on to the next token
@@ -227,15 +227,15 @@ module _ (g : Given) where
       (gives so)
 
   operator_ends : (o : RedirectOperator) (s : State) → IsRead T s.at
-      → (is_long o ≡ true → IsRead T (behind T s.at))
-      → (is_strip o ≡ true → IsRead T (behind T (behind T s.at)))
+      → (is_long o ≡ true → IsRead T (past_byte T s.at))
+      → (is_strip o ≡ true → IsRead T (past_byte T (past_byte T s.at)))
       → N (an_operator o) InText s
   unfolding an_operator
   operator_ends redirects.Input s one two three = token_on (record { told = behind_high T s.at one })
   operator_ends redirects.Output s one two three = token_on (record { told = behind_high T s.at one })
   operator_ends redirects.HereStripped s one two three =
-      token_on (record { told = behind_high T (behind T (behind T s.at)) (three refl) })
-  operator_ends _ s one two three = token_on (record { told = behind_high T (behind T s.at) (two refl) })
+      token_on (record { told = behind_high T (past_byte T (past_byte T s.at)) (three refl) })
+  operator_ends _ s one two three = token_on (record { told = behind_high T (past_byte T s.at) (two refl) })
 
   operator_in : (p : ℕ) (n : Next) (s : State) → Handed n s
       → N (operator_by p (redirect_operator_of n.token)) InText s
@@ -458,7 +458,7 @@ module _ (g : Given) where
 
     reserved_high : (p : ℕ) → IsRead T p → past_reserved T p ≤ length T
     unfolding past_reserved
-    reserved_high p is = past_high is_name T (behind T p) (behind_high T p is)
+    reserved_high p is = past_high is_name T (past_byte T p) (behind_high T p is)
 
     opener_high : (paren : Bool) (p : ℕ) → IsRead T p → to (past_opener paren) T p ≤ length T
     opener_high true p is = behind_high T p is
@@ -619,7 +619,7 @@ module _ (g : Given) where
     abbrev EndHanded : ItemEnd → State → Type 0
     EndHanded e t = Handed e.next t
 
-    ender_in : (b : Bool) (s : State) → IsRead T (behind T s.at) → N (an_ender b) EndHanded s
+    ender_in : (b : Bool) (s : State) → IsRead T (past_byte T s.at) → N (an_ender b) EndHanded s
     unfolding an_ender
     ender_in b s is =
         two_on s is ▹ λ y u le.

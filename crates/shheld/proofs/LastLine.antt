@@ -9,7 +9,7 @@ use Rattle.shgrammar.specs.declared.token.Next.{Next}
 use Rattle.shgrammar.specs.declared.token.Position.TheVariants.{Command}
 use Rattle.shgrammar.specs.declared.token.Token.{Token}
 use Rattle.shgrammar.specs.declared.token.Token.TheVariants as tokens
-use Rattle.shgrammar.specs.Bytes.{behind}
+use Rattle.shgrammar.specs.Bytes.{past_byte}
 use Rattle.shgrammar.specs.Commands.{is_newline_token, none_waits, nothing_waits}
 use Rattle.shgrammar.specs.Form.{change, does, nothing_read}
 use Rattle.shgrammar.specs.HereDocuments.{bodies_here, first_waiting, own_level}
@@ -75,15 +75,15 @@ module _ (g : Given) where
 
   end_rest : (inner : Inner) (n : Next) (s : State) → Handed g n s
       → Tells Whole g (end_of_line inner n) Rest s
-  unfolding end_of_line behind
+  unfolding end_of_line past_byte
   end_rest inner n s so =
       picked g (is_newline_token n.token)
       (λ e. let here = so.shows.6 in
-      let at : s.at ≡ behind T s.at - 1 = omega (arith, here) in
+      let at : s.at ≡ past_byte T s.at - 1 = omega (arith, here) in
       let newline = subst (λ p. raw_stands T p 10 ≡ true) at (so.shows.2 (newline_is n.token e)) in
       tells_moved Whole g
       (tells_then Whole g
-      (bodies_rest (record s { at = behind T s.at }) (read_on g n s so is_newline_token refl e) newline)
+      (bodies_rest (record s { at = past_byte T s.at }) (read_on g n s so is_newline_token refl e) newline)
       (λ x t rest. tells_give Whole g rest)))
       (picked g (is_end n.token)
       (λ e. let within = so.within in

@@ -3,7 +3,7 @@ use Rattle.std.proofs.Common.{ℕ, Bool, Ok, Err, List, List as Row, drop}
 use Rattle.shast.specs.Tree.{AnEntry}
 use Rattle.shgrammar.specs.declared.edition.Edition.{Edition}
 use Rattle.shgrammar.specs.declared.fault.FaultKind.{FaultKind}
-use Rattle.shgrammar.specs.Form.{Comes, Form, Read, Spelled, Step, Told, give, see, move, push, stop, both, when, token, loop, ends_as, change, with_bytes, a_level, in_substitution, Then, and_then, or_stops, Either, holds, fails, OneToken, whole, broken_off, Turns, last, more, halts, Ending, goes_through, stops_inside, WithBytes, with_its_bytes, without_bytes, OwnLevel, level_read, level_stops, may}
+use Rattle.shgrammar.specs.Form.{Comes, Form, Read, Spelled, Step, Telling, give, see, move, push, stop, both, when, token, loop, ends_as, change, with_bytes, a_level, in_substitution, Then, and_then, or_stops, Either, holds, fails, OneToken, whole, broken_off, Turns, last, more, halts, Ending, goes_through, stops_inside, WithBytes, with_its_bytes, without_bytes, OwnLevel, level_read, level_stops, may}
 use Rattle.shgrammar.specs.HereDocuments.{own_level}
 use Rattle.shgrammar.specs.Scripts.{AScript, Lines, Passes, SoFar, is_blank_line, line_ended, last_line, faulty, the_line}
 use Rattle.shgrammar.specs.Sights.{Given, State, given, standing}
@@ -24,7 +24,7 @@ each_either : {X : Type 0} {r r2 q q2 : Comes X} (b : Bool) → Each r r2 → Ea
 each_either b one two s y k (holds so p) = holds so (one s y k p)
 each_either b one two s y k (fails so p) = fails so (two s y k p)
 
-each_token : {X : Type 0} (told : Told) (g : Given) {r r2 : Comes X} → Each r r2
+each_token : {X : Type 0} (told : Telling) (g : Given) {r r2 : Comes X} → Each r r2
     → Each (OneToken told g r) (OneToken told g r2)
 each_token told g one s y k (whole {x = x} {t = t} {k = k1} p) = whole (one s (Ok (x, t)) k1 p)
 each_token told g one s y k (broken_off {f = f} p) = broken_off (one s (Err f) k p)

@@ -15,7 +15,7 @@ use Rattle.shast.specs.Nodes.{word_span}
 use Rattle.shast.specs.Tree.{ACommand, AnItem}
 use Rattle.shgrammar.specs.Comments.{comment_at}
 use Rattle.shgrammar.specs.HereDocuments.{ADelimiter, first_waiting}
-use Rattle.shgrammar.specs.Form.{Form, Spelled, Told, both, give, leads_on, move, moved_on, token, ◌>>=◌}
+use Rattle.shgrammar.specs.Form.{Form, Spelled, Telling, both, give, leads_on, move, moved_on, token, ◌>>=◌}
 use Rattle.shgrammar.specs.Shows.{IsRead}
 use Rattle.shgrammar.specs.Sights.{Given, State, one_byte}
 use Rattle.shgrammar.specs.Tokens.{is_end}
@@ -76,7 +76,7 @@ module _ (g : Given) where
       let on = byte_leads s read in
       leads_far g s s t (moved_on one_byte g t) (omega arith) (omega (arith, behind_low T t.at)) on
 
-  pub byte_passed : {how : Told} (s : State) → IsRead T s.at
+  pub byte_passed : {how : Telling} (s : State) → IsRead T s.at
       → Goes g (token how (move one_byte)) (λ x t. leads_on g s t ≡ true) s
   byte_passed s read = one_token g {P = λ x t. leads_on g s t ≡ true} (moves_to g (byte_leads s read))
 

@@ -11,7 +11,7 @@ use Rattle.shgrammar.specs.declared.token.Token.{Token}
 use Rattle.shgrammar.specs.declared.token.Token.TheVariants as tokens
 use Rattle.shast.specs.declared.tree.Span.{Span}
 use Rattle.shast.specs.Tree.{ASubst, AWord}
-use Rattle.shgrammar.specs.Bytes.{behind}
+use Rattle.shgrammar.specs.Bytes.{past_byte}
 use Rattle.shgrammar.specs.HereDocuments.{own_level}
 use Rattle.shgrammar.specs.Form.{Spelled, leads_on, many}
 use Rattle.shgrammar.specs.Shows.{IsRead}
@@ -30,7 +30,7 @@ use Rattle.shlaws.proofs.Commands.{Behind, Further, ItemsShown, JoinShown, byte_
 
 reserved_far : (T : List ℕ) (p : ℕ) → p < past_reserved T p
 unfolding past_reserved
-reserved_far T p = omega (arith, behind_low T p, past_low is_name T (behind T p))
+reserved_far T p = omega (arith, behind_low T p, past_low is_name T (past_byte T p))
 
 opener_far : (paren : Bool) (T : List ℕ) (p : ℕ) → p < to (past_opener paren) T p
 opener_far true T p = behind_low T p

@@ -6,7 +6,7 @@ use Rattle.shgrammar.specs.declared.fault.Fault.{Fault}
 use Rattle.shgrammar.specs.declared.fault.FaultKind.{FaultKind}
 use Rattle.shast.specs.declared.tree.Span.{Span}
 use Rattle.shgrammar.specs.Commands.{pick}
-use Rattle.shgrammar.specs.Form.{Changed, Either, Ending, Form, Halts, Just, OneToken, OwnLevel, Read, Spelled, Step, Then, Told, Turns, WithBytes, again, done, and_then, broken_off, cannot, changes, fails, goes_through, halted, halts, holds, just, last, leads_on, level_read, level_stops, many, may, more, moved_on, or_stops, rests, step_if, stops_inside, whole, with_its_bytes, without_bytes, give, see, move, push, stop, both, when, token, ends_as, change, with_bytes, a_level, in_substitution}
+use Rattle.shgrammar.specs.Form.{Changed, Either, Ending, Form, Halts, Just, OneToken, OwnLevel, Read, Spelled, Step, Then, Telling, Turns, WithBytes, again, done, and_then, broken_off, cannot, changes, fails, goes_through, halted, halts, holds, just, last, leads_on, level_read, level_stops, many, may, more, moved_on, or_stops, rests, step_if, stops_inside, whole, with_its_bytes, without_bytes, give, see, move, push, stop, both, when, token, ends_as, change, with_bytes, a_level, in_substitution}
 use Rattle.shgrammar.specs.HereDocuments.{Change, changed, own_level}
 use Rattle.shgrammar.specs.Shows.{IsRead}
 use Rattle.shgrammar.specs.Sights.{Given, Move, Sight, State, seen}
@@ -118,14 +118,14 @@ module _ (g : Given) where
 
   -- ---- what is read as a whole
 
-  token_by : {X : Type 0} {P : X → State → Type 0} {how : Told} {r : Form X} {s : State} → Goes r P s
+  token_by : {X : Type 0} {P : X → State → Type 0} {how : Telling} {r : Form X} {s : State} → Goes r P s
       → (y : Read (X × Span)) (k : Row Spelled) → OneToken how g (may r g) s y k
       → OneToken how g (may_onward r g) s y k × Holds (λ (x : X × Span) (t : State). P x.0 t) y
   token_by one y k (whole {x = x} {t = t} {k = k1} p) = let a = one.on (Ok (x, t)) k1 p in (whole a.0, a.1)
   token_by one y k (broken_off {f = f} p) = (broken_off (one.on (Err f) k p).0, tt)
 
   -- one token
-  pub tokens : {X : Type 0} {P : X → State → Type 0} {how : Told} {r : Form X} {s : State} → Goes r P s
+  pub tokens : {X : Type 0} {P : X → State → Type 0} {how : Telling} {r : Form X} {s : State} → Goes r P s
       → Goes (token how r) (λ x t. P x.0 t) s
   tokens one = record { on = token_by one }
 

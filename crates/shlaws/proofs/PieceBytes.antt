@@ -8,7 +8,7 @@ use Rattle.shgrammar.specs.declared.mode.Mode.{Mode}
 use Rattle.shgrammar.specs.declared.mode.Mode.TheVariants.{Plain, Double, Brace, DoubleBrace, Arith}
 use Rattle.shgrammar.specs.declared.mode.Piece.{Piece}
 use Rattle.shgrammar.specs.declared.mode.Piece.TheVariants as pieces
-use Rattle.shgrammar.specs.Bytes.{behind, byte_at, ends, stands}
+use Rattle.shgrammar.specs.Bytes.{byte_at, ends, past_byte, stands}
 use Rattle.shgrammar.specs.HereDocuments.{Quoting, in_double, is_quote, not_quoted}
 use Rattle.shgrammar.specs.Pieces.{byte_by, dollar_at, dollar_by, piece_at, piece_by, piece_in, quotes_singly}
 use Rattle.shgrammar.specs.Standing.{at_end, is_byte}
@@ -80,7 +80,7 @@ module _ (edition : Edition) (T : List ℕ) (last : Bool) (b : ℕ) where
       λ z. Begins (is_later edition) last b (Some y) mode (piece_in edition mode z) in
       cond_both (y == 36) _ _ G (λ e. dollars is (ap (λ (n : ℕ). Some n) (same_byte y 36 e)))
       (λ no_dollar. cond_both (y == 40) _ _ G
-      (λ e. cond_both (stands T (behind T r) 40) _ _ G
+      (λ e. cond_both (stands T (past_byte T r) 40) _ _ G
       (λ f. arithmetic is (ap (λ (n : ℕ). Some n) (same_byte y 40 e)))
       (λ f. substitution is (ap (λ (n : ℕ). Some n) (same_byte y 40 e))))
       (λ no_open. cond_both (y == 123) _ _ G (λ e. parameter is (ap (λ (n : ℕ). Some n) (same_byte y 123 e)))
@@ -111,27 +111,27 @@ module _ (edition : Edition) (T : List ℕ) (last : Bool) (b : ℕ) where
 
 -- the piece at p begins with the byte that is read there
 piece_begins : (edition : Edition) (T : List ℕ) (b : ℕ) (mode : Mode) (p : ℕ) → is_unquoted mode ≡ true
-    → Begins (is_later edition) (at_end T (behind T p)) b (byte_at T (behind T p)) mode
+    → Begins (is_later edition) (at_end T (past_byte T p)) b (byte_at T (past_byte T p)) mode
     (piece_in edition mode (piece_by T p mode 0 (Some b)))
 unfolding dollar_at
 piece_begins edition T b mode p read =
-    let last = at_end T (behind T p) in
-    let x = byte_at T (behind T p) in
+    let last = at_end T (past_byte T p) in
+    let x = byte_at T (past_byte T p) in
     let G : Piece → Type 0 = λ z. Begins (is_later edition) last b x mode (piece_in edition mode z) in
     cond_both (b == 92) _ _ G (λ e. cond_both last _ _ G (λ f. lone) (λ f. escapes (same_byte b 92 e) f))
     (λ no_backslash. cond_both (b == 96) _ _ G (λ e. backquote (same_byte b 96 e))
     (λ no_tick. cond_both (b == 36) _ _ G
-    (λ e. dollar_begins edition T last b mode (behind T p) x read (same_byte b 36 e))
+    (λ e. dollar_begins edition T last b mode (past_byte T p) x read (same_byte b 36 e))
     (λ no_dollar. byte_begins edition T last b mode p x read no_backslash no_tick no_dollar)))
 
 pub begins : (edition : Edition) (T : List ℕ) (mode : Mode) (p b : ℕ) (piece : Piece)
     → is_unquoted mode ≡ true → byte_at T p ≡ Some b → piece_by_edition edition T mode p ≡ piece
-    → Begins (is_later edition) (at_end T (behind T p)) b (byte_at T (behind T p)) mode piece
+    → Begins (is_later edition) (at_end T (past_byte T p)) b (byte_at T (past_byte T p)) mode piece
 unfolding piece_at
 begins edition T mode p b piece read byte is =
     let same : piece_in edition mode (piece_by T p mode 0 (Some b)) ≡ piece =
     ap (λ y. piece_in edition mode (piece_by T p mode 0 y)) (sym byte) ∙ is in
-    subst (Begins (is_later edition) (at_end T (behind T p)) b (byte_at T (behind T p)) mode) same
+    subst (Begins (is_later edition) (at_end T (past_byte T p)) b (byte_at T (past_byte T p)) mode) same
     (piece_begins edition T b mode p read)
 
 -- ---- where a byte is read
@@ -145,8 +145,8 @@ stands_alone piece = false
 -- any other piece begins with a byte
 pub byte_there : (edition : Edition) (T : List ℕ) (mode : Mode) (p : ℕ) (piece : Piece)
     → is_unquoted mode ≡ true → piece_by_edition edition T mode p ≡ piece → stands_alone piece ≡ false
-    → (b : ℕ) × (byte_at T p ≡ Some b) × Begins (is_later edition) (at_end T (behind T p)) b
-    (byte_at T (behind T p)) mode piece
+    → (b : ℕ) × (byte_at T p ≡ Some b) × Begins (is_later edition) (at_end T (past_byte T p)) b
+    (byte_at T (past_byte T p)) mode piece
 unfolding piece_at
 byte_there edition T mode p piece read is inner = by (byte_at T p) refl
   where
@@ -159,8 +159,8 @@ byte_there edition T mode p piece read is inner = by (byte_at T p) refl
     ends_it Arith unquoting = absurd cc
 
     by : (x : Option ℕ) → byte_at T p ≡ x
-        → (b : ℕ) × (byte_at T p ≡ Some b) × Begins (is_later edition) (at_end T (behind T p)) b
-        (byte_at T (behind T p)) mode piece
+        → (b : ℕ) × (byte_at T p ≡ Some b) × Begins (is_later edition) (at_end T (past_byte T p)) b
+        (byte_at T (past_byte T p)) mode piece
     by None none =
         let same : piece_in edition mode (piece_by T p mode 0 None) ≡ piece =
         ap (λ y. piece_in edition mode (piece_by T p mode 0 y)) (sym none) ∙ is in

@@ -8,7 +8,7 @@ use Rattle.shgrammar.specs.declared.edition.Edition.{Edition}
 use Rattle.shgrammar.specs.declared.mode.Mode.{Mode}
 use Rattle.shgrammar.specs.declared.mode.Mode.TheVariants.{Plain, Double, Brace, DoubleBrace, Arith}
 use Rattle.shgrammar.specs.declared.mode.Piece.TheVariants as pieces
-use Rattle.shgrammar.specs.Bytes.{behind, byte_at, past_continuations}
+use Rattle.shgrammar.specs.Bytes.{byte_at, past_byte, past_continuations}
 use Rattle.shgrammar.specs.Form.{raw}
 use Rattle.shgrammar.specs.HereDocuments.{delimiter_in, has_dollar_single, in_double, is_quoted, not_quoted}
 use Rattle.shgrammar.specs.HereDocuments.{unquoted}
@@ -26,10 +26,10 @@ use Rattle.shlaws.proofs.QuoteSteps.{escape_leads, leads_nowhere, leads_on, pid_
 
 module _ (later : Bool) (W : List ℕ) where
   pub ordinary_leads : (mode : Mode) (p b : ℕ) (last : Bool) → byte_at W p ≡ Some b
-      → Begins later last b (byte_at W (behind W p)) mode pieces.Ordinary
-      → Leads later W (quoting_in mode) p (b ∷ []) (quoting_in mode) (behind W p)
+      → Begins later last b (byte_at W (past_byte W p)) mode pieces.Ordinary
+      → Leads later W (quoting_in mode) p (b ∷ []) (quoting_in mode) (past_byte W p)
   ordinary_leads mode p b last byte (dollar is no_dollar no_open no_brace no_quote) =
-      subst (λ (c : ℕ). Leads later W (quoting_in mode) p (c ∷ []) (quoting_in mode) (behind W p)) (sym is)
+      subst (λ (c : ℕ). Leads later W (quoting_in mode) p (c ∷ []) (quoting_in mode) (past_byte W p)) (sym is)
       (dollar_leads later W mode p (byte ∙ ap (λ (n : ℕ). Some n) is) no_dollar no_open no_brace no_quote)
   ordinary_leads mode p b last byte (another no_backslash no_tick no_dollar no_quote) =
       another_leads later W mode p b byte no_backslash no_tick no_dollar no_quote
@@ -64,13 +64,13 @@ module _ (edition : Edition) (W : List ℕ) where
 
   pub byte_leads : (mode : Mode) (p b : ℕ) → is_unquoted mode ≡ true
       → piece_by_edition edition W mode p ≡ pieces.Ordinary → byte_at W p ≡ Some b
-      → At mode p (b ∷ []) mode (behind W p)
+      → At mode p (b ∷ []) mode (past_byte W p)
   byte_leads mode p b read is byte =
       ordinary_leads (is_later edition) W mode p b _ byte
       (begins edition W mode p b pieces.Ordinary read byte is)
 
   pub both_leads : (mode : Mode) (p : ℕ) → is_unquoted mode ≡ true
-      → piece_by_edition edition W mode p ≡ pieces.Pid → At mode p (36 ∷ 36 ∷ []) mode (behind W (behind W p))
+      → piece_by_edition edition W mode p ≡ pieces.Pid → At mode p (36 ∷ 36 ∷ []) mode (past_byte W (past_byte W p))
   both_leads mode p read is =
       let there = byte_there edition W mode p pieces.Pid read is refl in
       let one = pid_of _ _ there.0 _ mode there.2 in
@@ -78,7 +78,7 @@ module _ (edition : Edition) (W : List ℕ) where
 
   pub backslash_there : (mode : Mode) (p : ℕ) → is_unquoted mode ≡ true
       → piece_by_edition edition W mode p ≡ pieces.Escape
-      → (byte_at W p ≡ Some 92) × (at_end W (behind W p) ≡ false)
+      → (byte_at W p ≡ Some 92) × (at_end W (past_byte W p) ≡ false)
   backslash_there mode p read is =
       let there = byte_there edition W mode p pieces.Escape read is refl in
       let one = escape_of _ _ there.0 _ mode there.2 in
@@ -105,18 +105,18 @@ module _ (edition : Edition) (W : List ℕ) where
       escape_leads (is_later edition) W mode p c read (backslash_there mode p read is).0 next
 
   pub quoted_leads : (mode : Mode) (p : ℕ) → is_unquoted mode ≡ true
-      → piece_by_edition edition W mode p ≡ pieces.Single → at_end W (next_quote W (behind W p)) ≡ false
-      → At mode p (raw W (behind W p) (next_quote W (behind W p))) mode (next_quote W (behind W p) + 1)
+      → piece_by_edition edition W mode p ≡ pieces.Single → at_end W (next_quote W (past_byte W p)) ≡ false
+      → At mode p (raw W (past_byte W p) (next_quote W (past_byte W p))) mode (next_quote W (past_byte W p) + 1)
   quoted_leads mode p read is more =
       let there = quote_there mode p read is in
-      subst (λ (m : Mode). At m p (raw W (behind W p) (next_quote W (behind W p))) m
-      (next_quote W (behind W p) + 1)) (sym there.1) (single_leads (is_later edition) W p there.0 more)
+      subst (λ (m : Mode). At m p (raw W (past_byte W p) (next_quote W (past_byte W p))) m
+      (next_quote W (past_byte W p) + 1)) (sym there.1) (single_leads (is_later edition) W p there.0 more)
 
   pub opened_leads : (mode : Mode) (p : ℕ) → is_unquoted mode ≡ true
-      → piece_by_edition edition W mode p ≡ pieces.Double → At mode p [] Double (behind W p)
+      → piece_by_edition edition W mode p ≡ pieces.Double → At mode p [] Double (past_byte W p)
   opened_leads mode p read is =
       let there = double_there mode p read is in
-      subst (λ (m : Mode). At m p [] Double (behind W p)) (sym there.1)
+      subst (λ (m : Mode). At m p [] Double (past_byte W p)) (sym there.1)
       (double_leads (is_later edition) W p there.0)
 
   ended_leads : (mode : Mode) (p : ℕ) → is_unquoted mode ≡ true
@@ -133,32 +133,32 @@ module _ (edition : Edition) (W : List ℕ) where
       → Leaves edition W mode p q text → At mode p text Plain q
   walk mode p q text read (ended is) = ended_leads mode p read is
   walk mode p q text read (ordinary {left = left} b is byte rest) =
-      leads_on (is_later edition) W (quoting_in mode) (quoting_in mode) not_quoted p (behind W p) q
-      (b ∷ []) left (byte_leads mode p b read is byte) (walk mode (behind W p) q left read rest)
+      leads_on (is_later edition) W (quoting_in mode) (quoting_in mode) not_quoted p (past_byte W p) q
+      (b ∷ []) left (byte_leads mode p b read is byte) (walk mode (past_byte W p) q left read rest)
   walk mode p q text read (pid {left = left} is rest) =
-      leads_on (is_later edition) W (quoting_in mode) (quoting_in mode) not_quoted p (behind W (behind W p)) q
-      (36 ∷ 36 ∷ []) left (both_leads mode p read is) (walk mode (behind W (behind W p)) q left read rest)
+      leads_on (is_later edition) W (quoting_in mode) (quoting_in mode) not_quoted p (past_byte W (past_byte W p)) q
+      (36 ∷ 36 ∷ []) left (both_leads mode p read is) (walk mode (past_byte W (past_byte W p)) q left read rest)
   walk mode p q text read (escape {left = left} c is next rest) =
       leads_on (is_later edition) W (quoting_in mode) (quoting_in mode) not_quoted p
       (past_continuations W p + 2) q (escape_leaves mode c) left (taken_leads mode p c read is next)
       (walk mode (past_continuations W p + 2) q left read rest)
   walk mode p q text read (single {left = left} is more rest) =
       leads_on (is_later edition) W (quoting_in mode) (quoting_in mode) not_quoted p
-      (next_quote W (behind W p) + 1) q (raw W (behind W p) (next_quote W (behind W p))) left
+      (next_quote W (past_byte W p) + 1) q (raw W (past_byte W p) (next_quote W (past_byte W p))) left
       (quoted_leads mode p read is more)
-      (walk mode (next_quote W (behind W p) + 1) q left read rest)
+      (walk mode (next_quote W (past_byte W p) + 1) q left read rest)
   walk mode p q text read (double {m = m} {inside = inside} {left = left} is held rest) =
       let plain = (double_there mode p read is).1 in
       let one : At mode p inside Plain m =
-      leads_on (is_later edition) W (quoting_in mode) in_double not_quoted p (behind W p) m [] inside
-      (opened_leads mode p read is) (walk Double (behind W p) m inside refl held) in
+      leads_on (is_later edition) W (quoting_in mode) in_double not_quoted p (past_byte W p) m [] inside
+      (opened_leads mode p read is) (walk Double (past_byte W p) m inside refl held) in
       let two : At mode m left Plain q = walk mode m q left read rest in
       leads_on (is_later edition) W (quoting_in mode) not_quoted not_quoted p m q inside left one
       (subst (λ (n : Mode). At n m left Plain q) plain two)
 
   -- ---- how far they go
 
-  within_byte : (p b : ℕ) → byte_at W p ≡ Some b → behind W p ≤ length W
+  within_byte : (p b : ℕ) → byte_at W p ≡ Some b → past_byte W p ≤ length W
   within_byte p b is = behind_high W p (slice_get_within W (past_continuations W p) b is)
 
   closer_far : (mode : Mode) (p : ℕ) → is_unquoted mode ≡ true
@@ -172,31 +172,31 @@ module _ (edition : Edition) (W : List ℕ) where
   closer_far Arith p read is within = absurd cc
 
   pub pid_within : (mode : Mode) (p : ℕ) → is_unquoted mode ≡ true
-      → piece_by_edition edition W mode p ≡ pieces.Pid → behind W (behind W p) ≤ length W
+      → piece_by_edition edition W mode p ≡ pieces.Pid → past_byte W (past_byte W p) ≤ length W
   pid_within mode p read is =
       let there = byte_there edition W mode p pieces.Pid read is refl in
-      within_byte (behind W p) 36 (pid_of _ _ there.0 _ mode there.2).1
+      within_byte (past_byte W p) 36 (pid_of _ _ there.0 _ mode there.2).1
 
   pub far : (mode : Mode) (p q : ℕ) (text : List ℕ) → is_unquoted mode ≡ true → Leaves edition W mode p q text
       → p ≤ length W → (p ≤ q) × (q ≤ length W)
   far mode p q text read (ended is) within = closer_far mode p read is within
   far mode p q text read (ordinary {left = left} b is byte rest) within =
-      let r = far mode (behind W p) q left read rest (within_byte p b byte) in
+      let r = far mode (past_byte W p) q left read rest (within_byte p b byte) in
       (omega (arith, r.0, behind_low W p), r.1)
   far mode p q text read (pid {left = left} is rest) within =
-      let r = far mode (behind W (behind W p)) q left read rest (pid_within mode p read is) in
-      (omega (arith, r.0, behind_low W p, behind_low W (behind W p)), r.1)
+      let r = far mode (past_byte W (past_byte W p)) q left read rest (pid_within mode p read is) in
+      (omega (arith, r.0, behind_low W p, behind_low W (past_byte W p)), r.1)
   far mode p q text read (escape {left = left} c is next rest) within =
       let lt = slice_get_within W (past_continuations W p + 1) c next in
       let r = far mode (past_continuations W p + 2) q left read rest (omega (arith, lt)) in
       (omega (arith, r.0, place_low W p), r.1)
   far mode p q text read (single {left = left} is more rest) within =
-      let lt = not_end_low W (next_quote W (behind W p)) more in
-      let r = far mode (next_quote W (behind W p) + 1) q left read rest (omega (arith, lt)) in
-      (omega (arith, r.0, behind_low W p, next_of_low 39 W (behind W p)), r.1)
+      let lt = not_end_low W (next_quote W (past_byte W p)) more in
+      let r = far mode (next_quote W (past_byte W p) + 1) q left read rest (omega (arith, lt)) in
+      (omega (arith, r.0, behind_low W p, next_of_low 39 W (past_byte W p)), r.1)
   far mode p q text read (double {m = m} {inside = inside} {left = left} is held rest) within =
       let there = double_there mode p read is in
-      let one = far Double (behind W p) m inside refl held (within_byte p 34 there.0) in
+      let one = far Double (past_byte W p) m inside refl held (within_byte p 34 there.0) in
       let two = far mode m q left read rest one.1 in
       (omega (arith, one.0, two.0, behind_low W p), two.1)
 

@@ -18,7 +18,7 @@ use Rattle.shgrammar.specs.declared.mode.Mode.{Mode}
 use Rattle.shgrammar.specs.declared.mode.Mode.TheVariants.{Plain, Double, Brace, DoubleBrace, Arith}
 use Rattle.shgrammar.specs.declared.mode.Piece.{Piece}
 use Rattle.shgrammar.specs.declared.mode.Piece.TheVariants as pieces
-use Rattle.shgrammar.specs.Bytes.{behind, byte_at, ends, ends_word, past_continuations, stands}
+use Rattle.shgrammar.specs.Bytes.{byte_at, ends, ends_word, past_byte, past_continuations, stands}
 use Rattle.shgrammar.specs.Form.{Read, Spelled, Step, again, does, many, may, raw, ◌▸◌}
 use Rattle.shgrammar.specs.HereDocuments.{ADelimiter, Quoting, delimiter_in, has_dollar_single, in_double}
 use Rattle.shgrammar.specs.HereDocuments.{is_quoted, not_quoted, unquoted}
@@ -180,8 +180,8 @@ module _ (edition : Edition) (W : List ℕ) (o : ℕ) where
     abbrev turned : WordSoFar → State → Read (Step WordSoFar)
     turned h1 u = Ok (again h1, u)
 
-    byte_within : (p c : ℕ) → byte_at W p ≡ Some c → behind W p ≤ length W
-    unfolding behind
+    byte_within : (p c : ℕ) → byte_at W p ≡ Some c → past_byte W p ≤ length W
+    unfolding past_byte
     byte_within p c is = let lt = slice_get_within W (past_continuations W p) c is in omega (arith, lt)
 
     closes_here : Is pieces.Closer → Goes mode s.at t.at
@@ -199,7 +199,7 @@ module _ (edition : Edition) (W : List ℕ) (o : ℕ) where
     ordinary_here is =
         let there = byte_there edition W mode s.at pieces.Ordinary read is refl in
         let rest =
-        goes_on h (place s (behind W s.at)) _ (row_is room mode b h s pieces.Ordinary read is)
+        goes_on h (place s (past_byte W s.at)) _ (row_is room mode b h s pieces.Ordinary read is)
         (behind_low W s.at) (byte_within s.at there.0 there.1)
         (byte_leads edition W mode s.at there.0 read is there.1) in
         (_, ordinary there.0 is there.1 rest.1)
@@ -207,15 +207,15 @@ module _ (edition : Edition) (W : List ℕ) (o : ℕ) where
     pid_here : Is pieces.Pid → Goes mode s.at t.at
     pid_here is =
         let rest =
-        goes_on h (place s (behind W (behind W s.at))) _ (row_is room mode b h s pieces.Pid read is)
-        (omega (arith, behind_low W s.at, behind_low W (behind W s.at)))
+        goes_on h (place s (past_byte W (past_byte W s.at))) _ (row_is room mode b h s pieces.Pid read is)
+        (omega (arith, behind_low W s.at, behind_low W (past_byte W s.at)))
         (pid_within edition W mode s.at read is) (both_leads edition W mode s.at read is) in
         (_, pid is rest.1)
 
     -- the byte behind a backslash
-    taken_there : at_end W (behind W s.at) ≡ false
+    taken_there : at_end W (past_byte W s.at) ≡ false
         → slice_get W (past_continuations W s.at + 1) ≡ Some (get_or W (past_continuations W s.at + 1) 0)
-    unfolding behind
+    unfolding past_byte
     taken_there more =
         slice_get-get_or W (past_continuations W s.at + 1) 0
         (not_end_low W (past_continuations W s.at + 1) more)
@@ -239,27 +239,27 @@ module _ (edition : Edition) (W : List ℕ) (o : ℕ) where
         (taken_leads edition W mode s.at (get_or W (p + 1) 0) read is next) in
         (_, escape (get_or W (p + 1) 0) is next rest.1)
 
-    single_turn : at_end W (next_quote W (behind W s.at)) ≡ false
+    single_turn : at_end W (next_quote W (past_byte W s.at)) ≡ false
         → does (piece_row (level room) mode b h pieces.Single) Whole g s
-        ≡ turned h (place s (past_taken W (next_quote W (behind W s.at))))
+        ≡ turned h (place s (past_taken W (next_quote W (past_byte W s.at))))
     unfolding single
     single_turn more = rw more refl
 
     abbrev fault_here : FaultKind → Fault
     fault_here kind = record { kind = kind; at = o + past_continuations W s.at }
 
-    single_fails : at_end W (next_quote W (behind W s.at)) ≡ true
+    single_fails : at_end W (next_quote W (past_byte W s.at)) ≡ true
         → does (piece_row (level room) mode b h pieces.Single) Whole g s ≡ Err (fault_here UnclosedSingle)
     unfolding single
     single_fails end = rw end refl
 
-    quote_at : past_taken W (next_quote W (behind W s.at)) ≡ next_quote W (behind W s.at) + 1
+    quote_at : past_taken W (next_quote W (past_byte W s.at)) ≡ next_quote W (past_byte W s.at) + 1
     unfolding past_taken
-    quote_at = rw (quote_clear W (behind W s.at)) refl
+    quote_at = rw (quote_clear W (past_byte W s.at)) refl
 
     single_here : Is pieces.Single → Goes mode s.at t.at
     single_here is =
-        let e = next_quote W (behind W s.at) in
+        let e = next_quote W (past_byte W s.at) in
         let more : at_end W e ≡ false =
         false_from_ne_true (at_end W e)
         (λ end. fails room mode b h h2 s t (fault_here UnclosedSingle)
@@ -270,14 +270,14 @@ module _ (edition : Edition) (W : List ℕ) (o : ℕ) where
         let lt = not_end_low W e more in
         let rest =
         goes_on h (place s (e + 1)) _ turn
-        (omega (arith, behind_low W s.at, next_of_low 39 W (behind W s.at))) (omega (arith, lt))
+        (omega (arith, behind_low W s.at, next_of_low 39 W (past_byte W s.at))) (omega (arith, lt))
         (quoted_leads edition W mode s.at read is more) in
         (_, quoted is more rest.1)
 
     -- ---- double quotes
 
     abbrev inside_at : State
-    inside_at = place s (behind W s.at)
+    inside_at = place s (past_byte W s.at)
 
     abbrev held_by : Read WordSoFar → Read (Step WordSoFar)
     held_by x = x ▸ (λ k u. Ok (k.substs, u)) ▸ (λ ss u. Ok (again (having h.nested ss), u))
@@ -309,14 +309,14 @@ module _ (edition : Edition) (W : List ℕ) (o : ℕ) where
         let held =
         finds (room - 1) Double (o + past_continuations W s.at) (having 0 h.substs) k inside_at u refl
         (omega (arith, few, near, behind_low W s.at)) near
-        (clear_on (is_later edition) W (quoting_in mode) in_double s.at (behind W s.at) [] opens clear)
+        (clear_on (is_later edition) W (quoting_in mode) in_double s.at (past_byte W s.at) [] opens clear)
         inner in
-        let bounds = far edition W Double (behind W s.at) u.at held.0 refl held.1 near in
+        let bounds = far edition W Double (past_byte W s.at) u.at held.0 refl held.1 near in
         let turn = row_is room mode b h s pieces.Double read is ∙ double_turn some ∙ ap held_by inner in
         let plain : not_quoted ≡ quoting_in mode = sym (ap quoting_in there.1) in
         let leads =
-        leads_on (is_later edition) W (quoting_in mode) in_double not_quoted s.at (behind W s.at) u.at
-        [] held.0 opens (walk edition W Double (behind W s.at) u.at held.0 refl held.1) in
+        leads_on (is_later edition) W (quoting_in mode) in_double not_quoted s.at (past_byte W s.at) u.at
+        [] held.0 opens (walk edition W Double (past_byte W s.at) u.at held.0 refl held.1) in
         let rest =
         goes_on (having h.nested k.substs) u held.0 turn (omega (arith, bounds.0, behind_low W s.at)) bounds.1
         (subst (λ (r : Quoting). Leads (is_later edition) W (quoting_in mode) s.at held.0 r u.at) plain leads)
@@ -339,7 +339,7 @@ module _ (edition : Edition) (W : List ℕ) (o : ℕ) where
         (backquote_none (is_later edition) W mode s.at
         (there.1 ∙ ap (λ (c : ℕ). Some c) (backquote_of _ _ there.0 _ mode there.2)))
 
-    opener_here : (c d : ℕ) → c ≡ 36 → byte_at W s.at ≡ Some c → byte_at W (behind W s.at) ≡ Some d
+    opener_here : (c d : ℕ) → c ≡ 36 → byte_at W s.at ≡ Some c → byte_at W (past_byte W s.at) ≡ Some d
         → (is_byte (Some d) 40 || is_byte (Some d) 123) ≡ true → ⊥
     opener_here c d same byte next opens =
         not_clear _ clear.some

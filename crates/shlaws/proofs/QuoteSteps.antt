@@ -8,7 +8,7 @@ use Rattle.std.proofs.lemmas.List.{drop_more, length-drop}
 use Rattle.std.proofs.lemmas.Option.{slice_get_within, slice_get-get_or}
 use Rattle.shgrammar.specs.declared.mode.Mode.{Mode}
 use Rattle.shgrammar.specs.declared.mode.Mode.TheVariants.{Plain, Double, Brace, DoubleBrace, Arith}
-use Rattle.shgrammar.specs.Bytes.{behind, byte_at, count_joined, past_continuations, stands}
+use Rattle.shgrammar.specs.Bytes.{byte_at, count_joined, past_byte, past_continuations, stands}
 use Rattle.shgrammar.specs.Form.{raw}
 use Rattle.shgrammar.specs.HereDocuments.{Quoting, behind_quote, byte_left, escape_left, has_dollar_single}
 use Rattle.shgrammar.specs.HereDocuments.{in_double, in_single, is_live, is_quote, left_before, not_quoted}
@@ -112,8 +112,8 @@ drop_here W k b is =
     drop_more W k 0 lt ∙ ap (λ c. c ∷ drop (k + 1) W) byte
 
 read_on : {A : Type 0} (f : List ℕ → A) → ((xs : List ℕ) → f xs ≡ f (drop (count_joined xs) xs))
-    → (W : List ℕ) (p b : ℕ) → byte_at W p ≡ Some b → f (drop p W) ≡ f (b ∷ drop (behind W p) W)
-unfolding past_continuations behind
+    → (W : List ℕ) (p b : ℕ) → byte_at W p ≡ Some b → f (drop p W) ≡ f (b ∷ drop (past_byte W p) W)
+unfolding past_continuations past_byte
 read_on f same W p b is =
     same (drop p W)
     ∙ ap f (drop-drop (count_joined (drop p W)) p W ∙ drop_here W (past_continuations W p) b is)
@@ -214,13 +214,13 @@ leads_on later W q r s p m n one two a b = record {
 module _ (later : Bool) (W : List ℕ) where
   unquoted_on : (mode : Mode) (second : Bool) (p b : ℕ) → byte_at W p ≡ Some b
       → unquoted (quoting_in mode) second (drop p W) ≡ unquoted (quoting_in mode) second
-      (b ∷ drop (behind W p) W)
+      (b ∷ drop (past_byte W p) W)
   unquoted_on mode second p b is =
       read_on (unquoted (quoting_in mode) second) (skip (quoting_in mode) second (live_in mode)) W p b is
 
   has_on : (mode : Mode) (second : Bool) (p b : ℕ) → byte_at W p ≡ Some b
       → has_dollar_single (quoting_in mode) second (drop p W) ≡ has_dollar_single (quoting_in mode) second
-      (b ∷ drop (behind W p) W)
+      (b ∷ drop (past_byte W p) W)
   has_on mode second p b is =
       read_on (has_dollar_single (quoting_in mode) second)
       (has_skip (quoting_in mode) second (live_in mode)) W p b is
@@ -228,25 +228,25 @@ module _ (later : Bool) (W : List ℕ) where
   -- a byte that is no backslash
   byte_on : (mode : Mode) (second : Bool) (p b : ℕ) → byte_at W p ≡ Some b → (b == 92) ≡ false
       → unquoted (quoting_in mode) second (drop p W) ≡ byte_left (quoting_in mode) second b
-      (drop (behind W p) W) (λ r s. unquoted r s (drop (behind W p) W))
+      (drop (past_byte W p) W) (λ r s. unquoted r s (drop (past_byte W p) W))
   byte_on mode second p b is other =
       unquoted_on mode second p b is
-      ∙ unquoted_byte (quoting_in mode) second b (drop (behind W p) W)
+      ∙ unquoted_byte (quoting_in mode) second b (drop (past_byte W p) W)
       (and_right _ _ (live_in mode 92 b ∙ other))
 
   has_byte_on : (mode : Mode) (second : Bool) (p b : ℕ) → byte_at W p ≡ Some b → (b == 92) ≡ false
       → has_dollar_single (quoting_in mode) second (drop p W) ≡ turn (quoting_in mode) second b
-      (drop (behind W p) W)
+      (drop (past_byte W p) W)
   has_byte_on mode second p b is other =
       has_on mode second p b is
-      ∙ has_byte (quoting_in mode) second b (drop (behind W p) W) (live_in mode 92 b ∙ other)
+      ∙ has_byte (quoting_in mode) second b (drop (past_byte W p) W) (live_in mode 92 b ∙ other)
 
   pub another_leads : (mode : Mode) (p b : ℕ) → byte_at W p ≡ Some b → (b == 92) ≡ false → (b == 96) ≡ false
       → (b == 36) ≡ false → is_quote (quoting_in mode) b ≡ false
-      → Leads later W (quoting_in mode) p (b ∷ []) (quoting_in mode) (behind W p)
+      → Leads later W (quoting_in mode) p (b ∷ []) (quoting_in mode) (past_byte W p)
   another_leads mode p b is no_backslash no_tick no_dollar unquoting =
       let q = quoting_in mode in
-      let rest = drop (behind W p) W in
+      let rest = drop (past_byte W p) W in
       let tick : is_live q 96 b ≡ false = live_in mode 96 b ∙ no_tick in
       let dollar : is_live q 36 b ≡ false = live_in mode 36 b ∙ no_dollar in
       let stays : byte_left q false b rest (λ r s. unquoted r s rest) ≡ left_of (b ∷ [])
@@ -259,37 +259,37 @@ module _ (later : Bool) (W : List ℕ) where
       }
 
   pub dollar_leads : (mode : Mode) (p : ℕ) → byte_at W p ≡ Some 36
-      → is_byte (byte_at W (behind W p)) 36 ≡ false → is_byte (byte_at W (behind W p)) 40 ≡ false
-      → is_byte (byte_at W (behind W p)) 123 ≡ false
-      → (later ≡ true → (is_quote (quoting_in mode) 39 && is_byte (byte_at W (behind W p)) 39) ≡ false)
-      → Leads later W (quoting_in mode) p (36 ∷ []) (quoting_in mode) (behind W p)
+      → is_byte (byte_at W (past_byte W p)) 36 ≡ false → is_byte (byte_at W (past_byte W p)) 40 ≡ false
+      → is_byte (byte_at W (past_byte W p)) 123 ≡ false
+      → (later ≡ true → (is_quote (quoting_in mode) 39 && is_byte (byte_at W (past_byte W p)) 39) ≡ false)
+      → Leads later W (quoting_in mode) p (36 ∷ []) (quoting_in mode) (past_byte W p)
   dollar_leads mode p is no_dollar no_open no_brace no_quoted =
       let q = quoting_in mode in
-      let rest = drop (behind W p) W in
+      let rest = drop (past_byte W p) W in
       let tick : is_live q 96 36 ≡ false = live_in mode 96 36 in
       let live : is_live q 36 36 ≡ true = live_in mode 36 36 in
-      let one : stands rest 0 40 ≡ false = rest_stands W (behind W p) 40 ∙ no_open in
-      let two : stands rest 0 123 ≡ false = rest_stands W (behind W p) 123 ∙ no_brace in
-      let three : stands rest 0 36 ≡ false = rest_stands W (behind W p) 36 ∙ no_dollar in
+      let one : stands rest 0 40 ≡ false = rest_stands W (past_byte W p) 40 ∙ no_open in
+      let two : stands rest 0 123 ≡ false = rest_stands W (past_byte W p) 123 ∙ no_brace in
+      let three : stands rest 0 36 ≡ false = rest_stands W (past_byte W p) 36 ∙ no_dollar in
       let stays : byte_left q false 36 rest (λ r s. unquoted r s rest) ≡ left_of (36 ∷ [])
       (unquoted q false rest) =
       rw (dollar_no_quote mode, tick, live, one, two, three) refl in
       let on : (later ≡ true) → turn q false 36 rest ≡ has_dollar_single q false rest = λ e.
       let lone : (is_quote q 39 && stands rest 0 39) ≡ false =
-      ap (λ c. is_quote q 39 && c) (rest_stands W (behind W p) 39) ∙ no_quoted e in
+      ap (λ c. is_quote q 39 && c) (rest_stands W (past_byte W p) 39) ∙ no_quoted e in
       rw (dollar_no_quote mode, live, lone, three) refl in
       record {
         left = byte_on mode false p 36 is refl ∙ stays;
         found = λ e. has_byte_on mode false p 36 is refl ∙ on e;
       }
 
-  pub pid_leads : (mode : Mode) (p : ℕ) → byte_at W p ≡ Some 36 → byte_at W (behind W p) ≡ Some 36
-      → Leads later W (quoting_in mode) p (36 ∷ 36 ∷ []) (quoting_in mode) (behind W (behind W p))
+  pub pid_leads : (mode : Mode) (p : ℕ) → byte_at W p ≡ Some 36 → byte_at W (past_byte W p) ≡ Some 36
+      → Leads later W (quoting_in mode) p (36 ∷ 36 ∷ []) (quoting_in mode) (past_byte W (past_byte W p))
   pid_leads mode p is next =
       let q = quoting_in mode in
-      let r = behind W p in
+      let r = past_byte W p in
       let rest = drop r W in
-      let last = drop (behind W r) W in
+      let last = drop (past_byte W r) W in
       let tick : is_live q 96 36 ≡ false = live_in mode 96 36 in
       let live : is_live q 36 36 ≡ true = live_in mode 36 36 in
       let one : stands rest 0 40 ≡ false = rest_stands W r 40 ∙ ap (λ y. is_byte y 40) next in
@@ -347,7 +347,7 @@ module _ (later : Bool) (W : List ℕ) where
       → slice_get W (past_continuations W p + 1) ≡ Some c
       → Leads later W (quoting_in mode) p (escape_leaves mode c) (quoting_in mode)
       (past_continuations W p + 2)
-  unfolding behind has_dollar_single
+  unfolding past_byte has_dollar_single
   escape_leads mode p c read is next =
       let q = quoting_in mode in
       let P = past_continuations W p in
@@ -366,12 +366,12 @@ module _ (later : Bool) (W : List ℕ) where
         found = λ e. has_on mode false p 92 is ∙ ap (λ bs. has_dollar_single q false (92 ∷ bs)) rest ∙ on;
       }
 
-  pub single_leads : (p : ℕ) → byte_at W p ≡ Some 39 → at_end W (next_quote W (behind W p)) ≡ false
-      → Leads later W not_quoted p (raw W (behind W p) (next_quote W (behind W p))) not_quoted
-      (next_quote W (behind W p) + 1)
+  pub single_leads : (p : ℕ) → byte_at W p ≡ Some 39 → at_end W (next_quote W (past_byte W p)) ≡ false
+      → Leads later W not_quoted p (raw W (past_byte W p) (next_quote W (past_byte W p))) not_quoted
+      (next_quote W (past_byte W p) + 1)
   unfolding raw_past
   single_leads p is more =
-      let r = behind W p in
+      let r = past_byte W p in
       let rest = drop r W in
       let k = count_front no_quote rest in
       let inside : r + k < length W = not_end_low W (next_quote W r) more in
@@ -394,13 +394,13 @@ module _ (later : Bool) (W : List ℕ) where
             ∙ ap (has_dollar_single not_quoted false) far;
       }
 
-  pub double_leads : (p : ℕ) → byte_at W p ≡ Some 34 → Leads later W not_quoted p [] in_double (behind W p)
+  pub double_leads : (p : ℕ) → byte_at W p ≡ Some 34 → Leads later W not_quoted p [] in_double (past_byte W p)
   double_leads p is = record {
     left = byte_on Plain false p 34 is refl ∙ sym (nothing_more _);
     found = λ e. has_byte_on Plain false p 34 is refl;
   }
 
-  pub closer_leads : (p : ℕ) → byte_at W p ≡ Some 34 → Leads later W in_double p [] not_quoted (behind W p)
+  pub closer_leads : (p : ℕ) → byte_at W p ≡ Some 34 → Leads later W in_double p [] not_quoted (past_byte W p)
   closer_leads p is = record {
     left = byte_on Double false p 34 is refl ∙ sym (nothing_more _);
     found = λ e. has_byte_on Double false p 34 is refl;
@@ -412,30 +412,30 @@ module _ (later : Bool) (W : List ℕ) where
       → unquoted (quoting_in mode) false (drop p W) ≡ None
   backquote_none mode p is =
       let q = quoting_in mode in
-      let rest = drop (behind W p) W in
+      let rest = drop (past_byte W p) W in
       let live : is_live q 96 96 ≡ true = live_in mode 96 96 in
       let none : byte_left q false 96 rest (λ r s. unquoted r s rest) ≡ None =
       rw (tick_no_quote mode, live) refl in
       byte_on mode false p 96 is refl ∙ none
 
   pub opener_none : (mode : Mode) (p : ℕ) → byte_at W p ≡ Some 36
-      → (is_byte (byte_at W (behind W p)) 40 || is_byte (byte_at W (behind W p)) 123) ≡ true
+      → (is_byte (byte_at W (past_byte W p)) 40 || is_byte (byte_at W (past_byte W p)) 123) ≡ true
       → unquoted (quoting_in mode) false (drop p W) ≡ None
   opener_none mode p is opens =
       let q = quoting_in mode in
-      let rest = drop (behind W p) W in
+      let rest = drop (past_byte W p) W in
       let tick : is_live q 96 36 ≡ false = live_in mode 96 36 in
       let live : is_live q 36 36 ≡ true = live_in mode 36 36 in
       let one : (stands rest 0 40 || stands rest 0 123) ≡ true =
-      rw (rest_stands W (behind W p) 40, rest_stands W (behind W p) 123) opens in
+      rw (rest_stands W (past_byte W p) 40, rest_stands W (past_byte W p) 123) opens in
       let none : byte_left q false 36 rest (λ r s. unquoted r s rest) ≡ None =
       rw (dollar_no_quote mode, tick, live, one) refl in
       byte_on mode false p 36 is refl ∙ none
 
-  pub dollar_quote_found : (p : ℕ) → byte_at W p ≡ Some 36 → byte_at W (behind W p) ≡ Some 39
+  pub dollar_quote_found : (p : ℕ) → byte_at W p ≡ Some 36 → byte_at W (past_byte W p) ≡ Some 39
       → has_dollar_single not_quoted false (drop p W) ≡ true
   dollar_quote_found p is next =
-      let rest = drop (behind W p) W in
-      let one : stands rest 0 39 ≡ true = rest_stands W (behind W p) 39 ∙ ap (λ y. is_byte y 39) next in
+      let rest = drop (past_byte W p) W in
+      let one : stands rest 0 39 ≡ true = rest_stands W (past_byte W p) 39 ∙ ap (λ y. is_byte y 39) next in
       let found : turn not_quoted false 36 rest ≡ true = rw one refl in
       has_byte_on Plain false p 36 is refl ∙ found

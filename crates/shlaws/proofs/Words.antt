@@ -13,7 +13,7 @@ use Rattle.shgrammar.specs.declared.token.Opener.{Opener}
 use Rattle.shast.specs.declared.tree.Span.{Span}
 use Rattle.shast.specs.Tree.{ASubst}
 use Rattle.shgrammar.specs.Standing.{at_end, raw_stands}
-use Rattle.shgrammar.specs.Bytes.{behind, byte_at, ends, ends_word, past_continuations, stands}
+use Rattle.shgrammar.specs.Bytes.{byte_at, ends, ends_word, past_byte, past_continuations, stands}
 use Rattle.shgrammar.specs.Pieces.{bracket_by, byte_by, closes_by, dollar_at, dollar_by, end_by, next_escaped, next_quote, past_closer, past_taken, piece_at, piece_by, piece_in, quotes_singly}
 use Rattle.shgrammar.specs.Tokens.{is_later}
 use Rattle.shgrammar.specs.Form.{Step, again, give, leads_on, ◌>>=◌}
@@ -40,7 +40,7 @@ module _ (g : Given) where
   single_on : (s : State) → Goes g single (λ u t. s.at < t.at) s
   unfolding single
   single_on s =
-      let q = behind T s.at in
+      let q = past_byte T s.at in
       sees g (moves g (moves g (whens g (stops g)
       (moves_to g (omega (arith, behind_low T s.at, next_of_low 39 T q, taken_low T (next_quote T q)))))))
 
@@ -68,7 +68,7 @@ module _ (g : Given) where
   dollar_single_on : (s : State) → Goes g dollar_single (λ u t. s.at < t.at) s
   unfolding dollar_single
   dollar_single_on s =
-      sees g (moves g (moves g (beyond g s.at (omega (arith, behind_low T s.at, behind_low T (behind T s.at)))
+      sees g (moves g (moves g (beyond g s.at (omega (arith, behind_low T s.at, behind_low T (past_byte T s.at)))
       (repeats g All (λ u t so. escaped_on escapings.DollarSingle _ u t) tt _ tt))))
 
   -- ---- pieces
@@ -105,13 +105,13 @@ module _ (g : Given) where
     end_needs DoubleBrace none = tt
     end_needs Arith none = tt
 
-    dollar_needs : (x : Option ℕ) → IsRead T p → Needs mode p (dollar_by T (behind T p) x)
+    dollar_needs : (x : Option ℕ) → IsRead T p → Needs mode p (dollar_by T (past_byte T p) x)
     dollar_needs None read = read
     dollar_needs (Some v) read =
         let P = Needs mode p in
         cond_both (v == 36) _ _ P (λ e. read)
         (λ e. cond_both (v == 40) _ _ P
-        (λ f. cond_both (stands T (behind T (behind T p)) 40) _ _ P (λ d. read) (λ d. read))
+        (λ f. cond_both (stands T (past_byte T (past_byte T p)) 40) _ _ P (λ d. read) (λ d. read))
         (λ f. cond_both (v == 123) _ _ P (λ d. read)
         (λ d. cond_both (v == 39) _ _ P (λ z. read) (λ z. read))))
 
@@ -137,7 +137,7 @@ module _ (g : Given) where
         cond_both (v == 125) _ _ P (λ e f. absurd cc) (λ e. cond_both (v == 34) _ _ P (λ f. read) (λ f. read))
     byte_needs Arith v some read =
         let P = Needs Arith p in
-        cond_both (v == 41) _ _ P (λ e. bracket_needs n (stands T (behind T p) 41) read)
+        cond_both (v == 41) _ _ P (λ e. bracket_needs n (stands T (past_byte T p) 41) read)
         (λ e. cond_both (v == 40) _ _ P (λ f. read) (λ f. read))
 
     needs_by : (x : Option ℕ) → byte_at T p ≡ x → Needs mode p (piece_by T p mode n x)
@@ -146,9 +146,9 @@ module _ (g : Given) where
     needs_by (Some v) some =
         let P = Needs mode p in
         let read = slice_get_within T (past_continuations T p) v some in
-        cond_both (v == 92) _ _ P (λ e. cond_both (at_end T (behind T p)) _ _ P (λ f. read) (λ f. read))
+        cond_both (v == 92) _ _ P (λ e. cond_both (at_end T (past_byte T p)) _ _ P (λ f. read) (λ f. read))
         (λ e. cond_both (v == 96) _ _ P (λ f. read)
-        (λ f. cond_both (v == 36) _ _ P (λ d. dollar_needs (byte_at T (behind T p)) read)
+        (λ f. cond_both (v == 36) _ _ P (λ d. dollar_needs (byte_at T (past_byte T p)) read)
         (λ d. byte_needs mode v some read)))
 
     -- and so does the piece that the edition has in its place
@@ -183,14 +183,14 @@ module _ (g : Given) where
       abbrev Turn : Step WordSoFar → State → Type 0
       Turn x t = Stepped g All (Last mode) s x t
 
-      one : p < behind T p
+      one : p < past_byte T p
       one = behind_low T p
 
-      two : p < behind T (behind T p)
-      two = omega (arith, one, behind_low T (behind T p))
+      two : p < past_byte T (past_byte T p)
+      two = omega (arith, one, behind_low T (past_byte T p))
 
-      three : p < behind T (behind T (behind T p))
-      three = omega (arith, two, behind_low T (behind T (behind T p)))
+      three : p < past_byte T (past_byte T (past_byte T p))
+      three = omega (arith, two, behind_low T (past_byte T (past_byte T p)))
 
       -- a piece that is read in one go
       at_once : {k : WordSoFar} {t : State} → IsRead T p → p < t.at → Goes g (give (again k)) Turn t
@@ -232,7 +232,7 @@ module _ (g : Given) where
       row pieces.Arith so = sees g (moves g (moves g (moves g (opens Arith _ so three))))
       row pieces.Param so =
           sees g (moves g (moves g (moves g (sees g
-          (opens _ _ so (omega (arith, two, parameter_low T (behind T (behind T p)))))))))
+          (opens _ _ so (omega (arith, two, parameter_low T (past_byte T (past_byte T p)))))))))
       row pieces.Open so = moves g (at_once so one)
       row pieces.Close so = moves g (at_once so one)
       row pieces.BadClose so = sees g (stops g)

@@ -6,7 +6,7 @@ use Rattle.shgrammar.specs.declared.mode.Mode.{Mode}
 use Rattle.shgrammar.specs.declared.mode.Mode.TheVariants.{Double}
 use Rattle.shgrammar.specs.declared.mode.Piece.{Piece}
 use Rattle.shgrammar.specs.declared.mode.Piece.TheVariants as pieces
-use Rattle.shgrammar.specs.Bytes.{behind, byte_at, past_continuations}
+use Rattle.shgrammar.specs.Bytes.{byte_at, past_byte, past_continuations}
 use Rattle.shgrammar.specs.Form.{raw}
 use Rattle.shgrammar.specs.Pieces.{next_quote, past_closer, piece_at, piece_in}
 use Rattle.shgrammar.specs.Standing.{at_end}
@@ -28,11 +28,11 @@ pub data Leaves (edition : Edition) (T : List ℕ) : Mode → ℕ → ℕ → Li
       → Leaves edition T mode p (past_closer T mode p) []
   ordinary : {mode : Mode} {p q : ℕ} {left : List ℕ} (b : ℕ)
       → piece_by_edition edition T mode p ≡ pieces.Ordinary
-      → byte_at T p ≡ Some b → Leaves edition T mode (behind T p) q left
+      → byte_at T p ≡ Some b → Leaves edition T mode (past_byte T p) q left
       → Leaves edition T mode p q (b ∷ left)
   -- `$$`
   pid : {mode : Mode} {p q : ℕ} {left : List ℕ} → piece_by_edition edition T mode p ≡ pieces.Pid
-      → Leaves edition T mode (behind T (behind T p)) q left
+      → Leaves edition T mode (past_byte T (past_byte T p)) q left
       → Leaves edition T mode p q (36 ∷ 36 ∷ left)
   escape : {mode : Mode} {p q : ℕ} {left : List ℕ} (c : ℕ) → piece_by_edition edition T mode p ≡ pieces.Escape
       → slice_get T (past_continuations T p + 1) ≡ Some c
@@ -40,11 +40,11 @@ pub data Leaves (edition : Edition) (T : List ℕ) : Mode → ℕ → ℕ → Li
       → Leaves edition T mode p q (escape_leaves mode c ++ left)
   -- between single quotes all bytes are left
   single : {mode : Mode} {p q : ℕ} {left : List ℕ} → piece_by_edition edition T mode p ≡ pieces.Single
-      → at_end T (next_quote T (behind T p)) ≡ false
-      → Leaves edition T mode (next_quote T (behind T p) + 1) q left
-      → Leaves edition T mode p q (raw T (behind T p) (next_quote T (behind T p)) ++ left)
+      → at_end T (next_quote T (past_byte T p)) ≡ false
+      → Leaves edition T mode (next_quote T (past_byte T p) + 1) q left
+      → Leaves edition T mode p q (raw T (past_byte T p) (next_quote T (past_byte T p)) ++ left)
   -- between double quotes what the pieces there leave
   double : {mode : Mode} {p q m : ℕ} {inside left : List ℕ}
       → piece_by_edition edition T mode p ≡ pieces.Double
-      → Leaves edition T Double (behind T p) m inside → Leaves edition T mode m q left
+      → Leaves edition T Double (past_byte T p) m inside → Leaves edition T mode m q left
       → Leaves edition T mode p q (inside ++ left)

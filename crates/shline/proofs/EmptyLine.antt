@@ -1,7 +1,7 @@
 -- An empty line: a newline alone.
 use Rattle.std.proofs.Common.{◌≡◌, ℕ, ◌+◌, Bool, true, false, List, [], ◌∷◌, Ok, Some, None, Option, slice_get, drop, refl, sym, ap, subst, ◌∙◌, arith}
 use Rattle.shgrammar.specs.declared.keep.Keep.{Keep}
-use Rattle.shgrammar.specs.Bytes.{behind, is_broken_at, past_blanks, past_continuations}
+use Rattle.shgrammar.specs.Bytes.{is_broken_at, past_blanks, past_byte, past_continuations}
 use Rattle.shgrammar.specs.Commands.{next_token, nothing_waits, a_comment}
 use Rattle.shgrammar.specs.Comments.{comment_at}
 use Rattle.shgrammar.specs.declared.token.Next.{Next}
@@ -31,8 +31,8 @@ joins : (U : List ℕ) → past_continuations (10 ∷ U) 0 ≡ 0
 unfolding continues raw_stands
 joins U = joined_none (10 ∷ U) 0 refl
 
-next : (U : List ℕ) → behind (10 ∷ U) 0 ≡ 1
-unfolding behind
+next : (U : List ℕ) → past_byte (10 ∷ U) 0 ≡ 1
+unfolding past_byte
 next U = ap (λ n. n + 1) (joins U)
 
 pub told : (edition : Edition) (U : List ℕ) (keep : Keep) (blank : Bool) (o : ℕ) →

@@ -1,6 +1,6 @@
 -- Bytes of a class that stand one behind another, and blanks among continuations.
 use Rattle.std.proofs.Common.{◌≡◌, ℕ, ◌+◌, Bool, true, false, List, refl, subst, sym, ap, ◌∙◌, arith}
-use Rattle.shgrammar.specs.Bytes.{behind, past, past_blanks, past_continuations, stands_in}
+use Rattle.shgrammar.specs.Bytes.{past, past_blanks, past_byte, past_continuations, stands_in}
 use Rattle.shgrammar.specs.Classes.{is_blank}
 use Rattle.shgrammar.specs.Standing.{continues, raw_in, raw_past}
 use Rattle.shgrammar.proofs.Stretches.{joined_more, past_more, past_none, raw_more, raw_none}
@@ -36,7 +36,7 @@ no_blanks T p whole none =
 -- where two places have the same place past continuations, the token behind the blanks there is the same
 same_place : (T : List ℕ) (p q : ℕ) (x : Bool) → past_continuations T p ≡ past_continuations T q
     → stands_in is_blank T p ≡ x → past_blanks T p ≡ past_blanks T q
-unfolding behind past_blanks stands_in
+unfolding past_byte past_blanks stands_in
 same_place T p q true same blank =
     let there : stands_in is_blank T q ≡ true = rw (sym same) blank in
     let on = past_more is_blank T p blank ∙ ap (λ r. past is_blank T (r + 1)) same in

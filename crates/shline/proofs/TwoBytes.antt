@@ -4,7 +4,7 @@ use Rattle.std.proofs.lemmas.Bool.{eqb-true, or_from, or_parts, true≢false}
 use Rattle.shline.proofs.ByteSets.{agree, agree_at, same}
 use Rattle.shline.specs.declared.reserved.TheConstants.{FIRST, SECOND}
 use Rattle.shline.specs.Beginnings.{may_begin, may_spell}
-use Rattle.shgrammar.specs.Bytes.{behind, past_continuations, stands}
+use Rattle.shgrammar.specs.Bytes.{past_byte, past_continuations, stands}
 use Rattle.shgrammar.specs.Standing.{raw_stands}
 use Rattle.shgrammar.specs.Tokens.{first_of_words, is_word_at, reserved_words, Spelling}
 use Rattle.shgrammar.proofs.Stretches.{raw_stays}
@@ -15,7 +15,7 @@ module _ (T : List ℕ) (p a b : ℕ) (still : past_continuations T p ≡ p)
     (first : slice_get T p ≡ Some a) (second : slice_get T (p + 1) ≡ Some b) where
   other_two : (c d : ℕ) (ds : List ℕ) (x y : Bool) → (a == c) ≡ x → (b == 92) ≡ y
       → may_spell (c ∷ d ∷ ds) a b ≡ false → is_word_at T p (c ∷ d ∷ ds) ≡ false
-  unfolding may_spell is_word_at stands behind raw_stands
+  unfolding may_spell is_word_at stands past_byte raw_stands
   other_two c d ds false y e f bad = rw (still, first, e) refl
   other_two c d ds true true e f bad = absurd (true≢false (rw (e, f) at bad))
   other_two c d ds true false e f bad =

@@ -24,7 +24,7 @@ use Rattle.shgrammar.specs.declared.token.Token.{Token}
 use Rattle.shgrammar.specs.Tokens.{next_at, next_in, token_at, token_in}
 use Rattle.shgrammar.specs.Comments.{span}
 use Rattle.shgrammar.specs.Sights.{Given, State, Waiting, given, standing}
-use Rattle.shgrammar.specs.Bytes.{behind, ends_word, past_blanks, past_continuations}
+use Rattle.shgrammar.specs.Bytes.{ends_word, past_blanks, past_byte, past_continuations}
 use Rattle.shgrammar.specs.Shows.{IsRead}
 use Rattle.shgrammar.specs.declared.mode.Mode.{Mode}
 use Rattle.shgrammar.specs.declared.mode.Mode.TheVariants.{Plain}
@@ -88,7 +88,7 @@ Between cursor p q = (p ≤ q) × Inside cursor q
 -- two bytes at least are read from the begin of the token in hand on
 abbrev pub IsLong : {S : Type 0} {k : ℕ} {g : _} → Cursor S k g → Type 0
 IsLong cursor = IsRead (text_of cursor) (start_of cursor)
-    × IsRead (text_of cursor) (behind (text_of cursor) (start_of cursor))
+    × IsRead (text_of cursor) (past_byte (text_of cursor) (start_of cursor))
 
 -- a definition leads from a place to another, which is no further to the left
 abbrev pub Reaches : {S : Type 0} {k : ℕ} {g : _} → Cursor S k g → (List ℕ → ℕ → ℕ) → ℕ → ℕ → Type 0

@@ -4,7 +4,7 @@ use Rattle.shgrammar.specs.declared.mode.Mode.{Mode}
 use Rattle.shgrammar.specs.declared.mode.Mode.TheVariants as modes
 use Rattle.shgrammar.specs.declared.mode.Piece.{Piece}
 use Rattle.shgrammar.specs.declared.mode.Piece.TheVariants as pieces
-use Rattle.shgrammar.specs.Bytes.{behind}
+use Rattle.shgrammar.specs.Bytes.{past_byte}
 use Rattle.shgrammar.specs.Shows.{IsRead}
 use Rattle.shgrammar.specs.Standing.{raw_stands}
 
@@ -15,6 +15,6 @@ PieceShows mode nested piece T p =
     × (piece ≡ pieces.Escape → (p + 2 ≤ length T) × (raw_stands T p 92 ≡ true))
     × ((piece ≡ pieces.Pid) ⊎ (piece ≡ pieces.Subst) ⊎ (piece ≡ pieces.Arith) ⊎ (piece ≡ pieces.Param) ⊎
     (piece ≡ pieces.DollarSingle) → IsRead T (p + 1))
-    × (piece ≡ pieces.Arith → IsRead T (behind T (p + 1)))
+    × (piece ≡ pieces.Arith → IsRead T (past_byte T (p + 1)))
     × (mode ≡ modes.Arith → piece ≡ pieces.Closer → IsRead T (p + 1))
     × (piece ≡ pieces.Close → 0 < nested)

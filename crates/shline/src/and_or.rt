@@ -1,6 +1,6 @@
 //! And-or lists: pipelines joined by `&&` and `||` (XCU 2.9.3).
 ghost use Rattle.std.specs.Prelude.{[]};
-ghost use Rattle.shgrammar.specs.Bytes.{behind};
+ghost use Rattle.shgrammar.specs.Bytes.{past_byte};
 ghost use Rattle.shline.specs.Clauses.{Adds, IsLong, Takes, Turns};
 ghost use Rattle.shgrammar.specs.Commands.{join_pipeline, joined_so, one_pipeline};
 ghost use Rattle.shgrammar.specs.Form.{many};

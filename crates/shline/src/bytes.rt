@@ -1,6 +1,6 @@
 //! The bytes of a text as they are read: continuations are removed (XCU 2.2.1).
 ghost use Rattle.std.specs.Prelude.{◌≡◌, ◌<◌, true, false, IfSome};
-ghost use Rattle.shgrammar.specs.Bytes.{behind, byte_at, ends_word, past, past_blanks, past_continuations, stands, stands_in};
+ghost use Rattle.shgrammar.specs.Bytes.{byte_at, ends_word, past, past_blanks, past_byte, past_continuations, stands, stands_in};
 ghost use Rattle.shgrammar.specs.Classes.{in_class, is_blank};
 ghost use Rattle.shgrammar.specs.Shows.{IsRead};
 ghost use Rattle.shline.specs.Clauses.{here_of, Inside, Moves, on, Reaches, seen, start_of, Steps, text_of};
@@ -55,10 +55,10 @@ impl<'a, S: Source, const KEEP: u8> Cursor<'a, S, KEEP> {
 
     /// The place behind the byte that is read at a place.
     #[inline(always)]
-    #[tactic(auto, unfolding(shgrammar::specs::Bytes::behind))]
+    #[tactic(auto, unfolding(shgrammar::specs::Bytes::past_byte))]
     pub(crate) fn past_byte(&self, at: usize) -> usize
         requires { Inside self.now at × IsRead (text_of self.now) (on self.now at) }
-        ensures value { on self.now result ≡ seen self.now behind at }
+        ensures value { on self.now result ≡ seen self.now past_byte at }
         ensures past { seen self.now past_continuations at < on self.now result }
         ensures inside { (at < result) × Inside self.now result }
     {
@@ -69,7 +69,7 @@ impl<'a, S: Source, const KEEP: u8> Cursor<'a, S, KEEP> {
     #[inline(always)]
     pub(crate) fn bump(&mut self)
         requires { IsRead (text_of self.old) (here_of self.old) }
-        ensures value { Moves self.old self.new (behind (text_of self.old) (here_of self.old)) }
+        ensures value { Moves self.old self.new (past_byte (text_of self.old) (here_of self.old)) }
         ensures onward { here_of self.old < here_of self.new }
         ensures past { past_continuations (text_of self.old) (here_of self.old) < here_of self.new }
     {
@@ -79,10 +79,10 @@ impl<'a, S: Source, const KEEP: u8> Cursor<'a, S, KEEP> {
 
     /// Passes the first byte of the token in hand: no continuation stands before it.
     #[inline(always)]
-    #[tactic(auto, unfolding(shgrammar::specs::Bytes::behind, crate::specs::InHand::InHand))]
+    #[tactic(auto, unfolding(shgrammar::specs::Bytes::past_byte, crate::specs::InHand::InHand))]
     pub(crate) fn step(&mut self)
         requires { IsRead (text_of self.old) (start_of self.old) }
-        ensures { Steps self.old self.new (behind (text_of self.old) (start_of self.old)) }
+        ensures { Steps self.old self.new (past_byte (text_of self.old) (start_of self.old)) }
     {
         self.at = self.next_at + 1;
     }

@@ -1,6 +1,6 @@
 //! `case` (XCU 2.9.4.3): its word and its items.
 ghost use Rattle.std.specs.Prelude.{◌≡◌, ◌<◌, [], false, IfOk};
-ghost use Rattle.shgrammar.specs.Bytes.{behind, ends_word};
+ghost use Rattle.shgrammar.specs.Bytes.{ends_word, past_byte};
 ghost use Rattle.shgrammar.specs.Shows.{IsRead};
 ghost use Rattle.shline.specs.Clauses.{Adds, Finds, IsLong, start_of, Takes, text_of, Turns};
 ghost use Rattle.shgrammar.specs.Commands.{falls_through};

@@ -1,6 +1,6 @@
 //! Which piece of a word begins at a place, and the pieces that hold no others (XCU 2.2, 2.6).
 ghost use Rattle.std.specs.Prelude.{◌≡◌, ◌≢◌, ◌⊎◌, ◌+◌, ◌<◌, ◌≤◌, IfOk, Some, false};
-ghost use Rattle.shgrammar.specs.Bytes.{behind, ends, ends_word, stands};
+ghost use Rattle.shgrammar.specs.Bytes.{ends, ends_word, past_byte, stands};
 ghost use Rattle.shgrammar.specs.Shows.{IsRead};
 ghost use Rattle.shline.specs.Pieces.{PieceShows};
 ghost use Rattle.shline.specs.Clauses.{ByteHere, here_of, Inside, IsHere, Moves, on, Reads, text_of};
@@ -17,14 +17,14 @@ use shtext::Source;
 impl<'a, S: Source, const KEEP: u8> Cursor<'a, S, KEEP> {
     /// What the `$` at a place begins.
     #[inline(always)]
-    #[tactic(auto, unfolding(shgrammar::specs::Pieces::dollar_at, shgrammar::specs::Bytes::behind, shgrammar::specs::Bytes::stands))]
+    #[tactic(auto, unfolding(shgrammar::specs::Pieces::dollar_at, shgrammar::specs::Bytes::past_byte, shgrammar::specs::Bytes::stands))]
     fn dollar(&self, here: usize) -> Piece
         requires here { ByteHere self.now here }
         ensures value { result ≡ dollar_at (text_of self.now) (here_of self.now) }
         ensures two { (result ≡ Piece.Pid) ⊎ (result ≡ Piece.Subst) ⊎ (result ≡ Piece.Arith) ⊎
             (result ≡ Piece.Param) ⊎ (result ≡ Piece.DollarSingle) → IsRead (text_of self.now) (on
             self.now here + 1) }
-        ensures three { result ≡ Piece.Arith → IsRead (text_of self.now) (behind (text_of self.now)
+        ensures three { result ≡ Piece.Arith → IsRead (text_of self.now) (past_byte (text_of self.now)
             (on self.now here + 1)) }
         ensures kinds { (result ≢ Piece.Closer) × (result ≢ Piece.Missing) × (result ≢ Piece.Escape)
             × (result ≢ Piece.Close) }
@@ -47,10 +47,10 @@ impl<'a, S: Source, const KEEP: u8> Cursor<'a, S, KEEP> {
 
     /// What the `)` at a place is in arithmetic with so many brackets open.
     #[inline(always)]
-    #[tactic(auto, unfolding(shgrammar::specs::Bytes::behind))]
+    #[tactic(auto, unfolding(shgrammar::specs::Bytes::past_byte))]
     fn bracket(&self, nested: usize, here: usize) -> Piece
         requires here { ByteHere self.now here }
-        ensures value { result ≡ bracket_by nested (stands (text_of self.now) (behind (text_of
+        ensures value { result ≡ bracket_by nested (stands (text_of self.now) (past_byte (text_of
             self.now) (here_of self.now)) 41) }
         ensures shows { PieceShows Mode.Arith nested result (text_of self.now) (on self.now here) }
     {
@@ -96,7 +96,7 @@ impl<'a, S: Source, const KEEP: u8> Cursor<'a, S, KEEP> {
     /// The piece that begins here, with so many brackets open in arithmetic; its first
     /// byte is read at the place `here`.
     #[inline(always)]
-    #[tactic(auto, unfolding(shgrammar::specs::Pieces::piece_at, shgrammar::specs::Standing::raw_stands, shgrammar::specs::Bytes::ends_word, shgrammar::specs::Bytes::behind))]
+    #[tactic(auto, unfolding(shgrammar::specs::Pieces::piece_at, shgrammar::specs::Standing::raw_stands, shgrammar::specs::Bytes::ends_word, shgrammar::specs::Bytes::past_byte))]
     pub(crate) fn piece(&self, mode: Mode, nested: usize, here: usize) -> Piece
         requires { IsHere self.now here × Inside self.now here }
         ensures value { result ≡ piece_in self.now.how.edition mode (piece_at (text_of self.now)
@@ -152,7 +152,7 @@ impl<'a, S: Source, const KEEP: u8> Cursor<'a, S, KEEP> {
     }
 
     /// Text in single quotes, from its opener on.
-    #[tactic(auto, unfolding(shgrammar::specs::Words::single, shgrammar::specs::Pieces::past_taken, shgrammar::specs::Bytes::behind), using(shgrammar::proofs::Places::quote_clear, shgrammar::proofs::Stretches::place_low))]
+    #[tactic(auto, unfolding(shgrammar::specs::Words::single, shgrammar::specs::Pieces::past_taken, shgrammar::specs::Bytes::past_byte), using(shgrammar::proofs::Places::quote_clear, shgrammar::proofs::Stretches::place_low))]
     pub(crate) fn single(&mut self, here: usize) -> Result<(), Stop>
         requires here { ByteHere self.old here }
         ensures value { Reads self.old single result (λ _. tt) self.new }
@@ -206,7 +206,7 @@ impl<'a, S: Source, const KEEP: u8> Cursor<'a, S, KEEP> {
     }
 
     /// Text in backquotes, from its opener on.
-    #[tactic(auto, unfolding(shgrammar::specs::Words::backquoted_text, shgrammar::specs::Bytes::behind), using(shgrammar::proofs::Stretches::place_low))]
+    #[tactic(auto, unfolding(shgrammar::specs::Words::backquoted_text, shgrammar::specs::Bytes::past_byte), using(shgrammar::proofs::Stretches::place_low))]
     pub(crate) fn backquoted_text(&mut self, here: usize) -> Result<(), Stop>
         requires here { ByteHere self.old here }
         ensures value { Reads self.old backquoted_text result (λ _. tt) self.new }
@@ -218,7 +218,7 @@ impl<'a, S: Source, const KEEP: u8> Cursor<'a, S, KEEP> {
     }
 
     /// Text in dollar-single quotes, from its `$` on.
-    #[tactic(auto, unfolding(shgrammar::specs::Words::dollar_single, shgrammar::specs::Bytes::behind), using(shgrammar::proofs::Stretches::place_low))]
+    #[tactic(auto, unfolding(shgrammar::specs::Words::dollar_single, shgrammar::specs::Bytes::past_byte), using(shgrammar::proofs::Stretches::place_low))]
     pub(crate) fn dollar_single(&mut self, here: usize) -> Result<(), Stop>
         requires here { ByteHere self.old here }
         requires two { IsRead (text_of self.old) (on self.old here + 1) }

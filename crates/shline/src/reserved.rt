@@ -234,7 +234,7 @@ impl<'a, S: Source, const KEEP: u8> Cursor<'a, S, KEEP> {
     }
 
     /// Passes the reserved word in hand.
-    #[tactic(auto, unfolding(shgrammar::specs::Tokens::past_reserved, shgrammar::specs::Bytes::behind, crate::specs::InHand::InHand))]
+    #[tactic(auto, unfolding(shgrammar::specs::Tokens::past_reserved, shgrammar::specs::Bytes::past_byte, crate::specs::InHand::InHand))]
     pub(crate) fn pass_reserved(&mut self)
         requires { IsRead (text_of self.old) (start_of self.old) }
         ensures { Steps self.old self.new (past_reserved (text_of self.old) (start_of self.old)) }

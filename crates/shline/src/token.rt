@@ -150,7 +150,7 @@ impl<'a, S: Source, const KEEP: u8> Cursor<'a, S, KEEP> {
 
     /// What begins at a place where no blank stands, but this byte.
     #[inline(always)]
-    #[tactic(auto, unfolding(shgrammar::specs::Tokens::token_at, shgrammar::specs::Tokens::is_number, shgrammar::specs::Bytes::behind, shgrammar::specs::Bytes::stands, shgrammar::specs::Bytes::stands_in, shgrammar::specs::Standing::raw_stands))]
+    #[tactic(auto, unfolding(shgrammar::specs::Tokens::token_at, shgrammar::specs::Tokens::is_number, shgrammar::specs::Bytes::past_byte, shgrammar::specs::Bytes::stands, shgrammar::specs::Bytes::stands_in, shgrammar::specs::Standing::raw_stands))]
     fn token(&self, at: usize, byte: Option<u8>, position: Position) -> Token
         requires { Still self.now at × (byte ≡ seen self.now slice_get at) }
         ensures { result ≡ token_of self.now position (on self.now at) }
@@ -166,7 +166,7 @@ impl<'a, S: Source, const KEEP: u8> Cursor<'a, S, KEEP> {
     /// The same, for what is neither a newline nor `;` nor surely a word. It stands apart, so that the code
     /// of those that ask for a token stays small.
     #[inline(never)]
-    #[tactic(auto, unfolding(shgrammar::specs::Tokens::token_at, shgrammar::specs::Tokens::is_number, shgrammar::specs::Bytes::behind, shgrammar::specs::Bytes::stands, shgrammar::specs::Bytes::stands_in, shgrammar::specs::Standing::raw_stands))]
+    #[tactic(auto, unfolding(shgrammar::specs::Tokens::token_at, shgrammar::specs::Tokens::is_number, shgrammar::specs::Bytes::past_byte, shgrammar::specs::Bytes::stands, shgrammar::specs::Bytes::stands_in, shgrammar::specs::Standing::raw_stands))]
     fn other_token(&self, at: usize, position: Position) -> Token
         requires still { Still self.now at }
         requires newline { seen self.now raw_stands at 10 ≡ false }

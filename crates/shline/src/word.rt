@@ -21,7 +21,7 @@ use shtext::Source;
 
 impl<'a, S: Source, const KEEP: u8> Cursor<'a, S, KEEP> {
     /// What closes a construct of this mode, from its place on; nothing closes a word.
-    #[tactic(auto, unfolding(shgrammar::specs::Bytes::behind), using(shgrammar::proofs::Stretches::place_low))]
+    #[tactic(auto, unfolding(shgrammar::specs::Bytes::past_byte), using(shgrammar::proofs::Stretches::place_low))]
     fn close(&mut self, mode: Mode, here: usize)
         requires here { IsHere self.old here }
         requires one { mode ≢ Mode.Plain → on self.old here < length (text_of self.old) }
@@ -40,7 +40,7 @@ impl<'a, S: Source, const KEEP: u8> Cursor<'a, S, KEEP> {
     /// what takes every piece is called for the others.
     #[cycle(commands)]
     #[inline(always)]
-    #[tactic(auto, unfolding(shgrammar::specs::Bytes::behind), using(shgrammar::proofs::Levels::level_closed, shgrammar::proofs::PlainBytes::plain_begin, shgrammar::proofs::PlainBytes::closed_here, shgrammar::proofs::PlainBytes::ordinary_here, shgrammar::proofs::Stretches::place_low))]
+    #[tactic(auto, unfolding(shgrammar::specs::Bytes::past_byte), using(shgrammar::proofs::Levels::level_closed, shgrammar::proofs::PlainBytes::plain_begin, shgrammar::proofs::PlainBytes::closed_here, shgrammar::proofs::PlainBytes::ordinary_here, shgrammar::proofs::Stretches::place_low))]
     fn construct(
         &mut self,
         mode: Mode,
@@ -75,7 +75,7 @@ impl<'a, S: Source, const KEEP: u8> Cursor<'a, S, KEEP> {
 
     /// A piece that holds no others, or the fault that it is.
     #[inline(always)]
-    #[tactic(auto, unfolding(shgrammar::specs::Pieces::past_taken, shgrammar::specs::Bytes::behind), using(shgrammar::proofs::Stretches::place_low))]
+    #[tactic(auto, unfolding(shgrammar::specs::Pieces::past_taken, shgrammar::specs::Bytes::past_byte), using(shgrammar::proofs::Stretches::place_low))]
     fn closed_piece(
         &mut self,
         piece: Piece,
@@ -154,7 +154,7 @@ impl<'a, S: Source, const KEEP: u8> Cursor<'a, S, KEEP> {
 
     /// The same, where the piece is still to be told.
     #[cycle(commands)]
-    #[tactic(auto, unfolding(shgrammar::specs::Words::a_piece, shgrammar::specs::Pieces::past_taken, shgrammar::specs::Bytes::behind), using(shgrammar::proofs::Stretches::place_low))]
+    #[tactic(auto, unfolding(shgrammar::specs::Words::a_piece, shgrammar::specs::Pieces::past_taken, shgrammar::specs::Bytes::past_byte), using(shgrammar::proofs::Stretches::place_low))]
     fn some_piece(
         &mut self,
         mode: Mode,

@@ -4,11 +4,11 @@ use Rattle.std.proofs.lemmas.List.{drop_all}
 use Rattle.std.proofs.Math.Seq.{drop-append_seam, take-append_seam}
 use Rattle.std.specs.Io.KnownBytes.{Appends}
 use Rattle.shlive.specs.Held.{Held}
-use Rattle.shlive.specs.Ahead.{Ahead, StopsBy, Takes}
+use Rattle.shlive.specs.Ahead.{Ahead, StopsBy, TakesBytes}
 use Rattle.shlive.specs.Lines.{IsInLine}
 use Rattle.shtext.specs.Edit.{ASplice}
 use Rattle.shlive.specs.Requests.{EndsBy, Request, Sense, asks, behind_bytes, clean, cut, edit, edit_alone, first_line, flawed, more_parts, next_by_form, next_by_line, next_by_order, next_request_of, nothing, order_of_line, part_by_line, splice_by, unfinished, with_bytes}
-use Rattle.shlive.specs.Turns.{EndsAs, NoFurther, Replied, Spells, Stays, Tells, end_between, end_inside}
+use Rattle.shlive.specs.Turns.{ChangesNothing, EndsAs, NoFurther, Replied, RepliesTo, Spells, end_between, end_inside}
 use Rattle.shlive.specs.declared.incoming.InputEnd.{InputEnd}
 use Rattle.shlive.specs.declared.incoming.InputEnd.TheVariants as stops
 use Rattle.shlive.specs.declared.order.EditForm.{EditForm}
@@ -93,7 +93,7 @@ form_begins (forms.Alone part) e = edit_begins part e
 form_begins (forms.Batch count) e = parts_begin count [] e
 
 -- what waited was taken, where nothing waits any more
-pub some_taken : (old new : Ahead) (taken : List ℕ) → Takes old new taken → 0 < length old.waiting.bytes →
+pub some_taken : (old new : Ahead) (taken : List ℕ) → TakesBytes old new taken → 0 < length old.waiting.bytes →
     new.waiting.bytes ≡ [] → 0 < length taken
 some_taken old new taken t some none =
     let before = length-append old.waiting.bytes t.more in
@@ -115,7 +115,7 @@ err_through P Q (Err e) f p = f e p
 module _ (sense : Sense) (before after : Held) (old new : Ahead) (failed ended : Bool) (held holds : Option (List ℕ))
     (broken : Bool)
     (same : after ≡ before) (silent : holds ≡ held) (sound : broken ≡ false) where
-  pub stops_inside : (stop : InputEnd) (taken : List ℕ) → Takes old new taken →
+  pub stops_inside : (stop : InputEnd) (taken : List ℕ) → TakesBytes old new taken →
       (new.waiting.bytes ≡ [] → sense taken ≡ unfinished) → StopsBy stop failed ended new
       → EndsAs sense (end_inside stop) before after old new failed ended held holds broken
   stops_inside stops.Met taken takes whole s =
@@ -132,7 +132,7 @@ module _ (sense : Sense) (before after : Held) (old new : Ahead) (failed ended :
   stops_inside stops.TooLong taken takes whole s =
       record { taken = taken; takes = takes; none = s; same = same; silent = silent; sound = sound }
 
-  pub stops_between : (stop : InputEnd) → Takes old new [] → sense [] ≡ nothing → StopsBy stop failed ended new
+  pub stops_between : (stop : InputEnd) → TakesBytes old new [] → sense [] ≡ nothing → StopsBy stop failed ended new
       → EndsAs sense (end_between stop) before after old new failed ended held holds broken
   stops_between stops.Met takes none s =
       record { taken = []; takes = takes; none = (refl, none, s); same = same; silent = silent; sound = sound }
@@ -153,7 +153,7 @@ module _ (sense : Sense) (before after : Held) (old new : Ahead) (failed ended :
 module _ (text : List ℕ) (sense : Sense)
     (front : (rest : List ℕ) → next_request_of ((text ++ 10 ∷ []) ++ rest) ≡ sense rest)
     (before after : Held) (old mid new : Ahead) (held holds : Option (List ℕ))
-    (first : Takes old mid (text ++ 10 ∷ [])) where
+    (first : TakesBytes old mid (text ++ 10 ∷ [])) where
   through : (taken rest : List ℕ) → next_request_of (((text ++ 10 ∷ []) ++ taken) ++ rest) ≡ sense (taken ++ rest)
   through taken rest = ap next_request_of (append_assoc (text ++ 10 ∷ []) taken rest) ∙ front (taken ++ rest)
 
@@ -180,8 +180,8 @@ module _ (text : List ℕ) (sense : Sense)
     none_through TooLong taken n = n
     none_through Unwritable taken n = n
 
-    stays_through : («end» : End) → Stays sense «end» before after mid new failed ended held holds broken →
-        Stays next_request_of «end» before after old new failed ended held holds broken
+    stays_through : («end» : End) → ChangesNothing sense «end» before after mid new failed ended held holds broken →
+        ChangesNothing next_request_of «end» before after old new failed ended held holds broken
     stays_through why s = record {
       taken = (text ++ 10 ∷ []) ++ s.taken;
       takes = takes_both old mid new (text ++ 10 ∷ []) s.taken _ first s.takes refl;
@@ -208,8 +208,8 @@ module _ (text : List ℕ) (inline : IsInLine text) (order : Option Order) (is :
 
   pub plain_replied : (before after : Held) (old new : Ahead) (held holds : Option (List ℕ)) (failed : Bool)
       (request : Request)
-      → Takes old new (text ++ 10 ∷ []) → ((rest : List ℕ) → next_by_order order rest ≡ asks request rest) →
-      Tells before request after held holds failed
+      → TakesBytes old new (text ++ 10 ∷ []) → ((rest : List ℕ) → next_by_order order rest ≡ asks request rest) →
+      RepliesTo before request after held holds failed
       → Replied next_request_of before after old new held holds failed
   plain_replied before after old new held holds failed request takes next tells =
       record {
@@ -225,7 +225,7 @@ pub some_spelled : (taken : List ℕ) (request : Request) → Spells next_reques
 some_spelled [] request spelled = let wrong : nothing ≡ asks request [] = spelled [] in absurd cc
 some_spelled (b ∷ taken) request spelled = omega arith
 
-pub smaller : (m : ℕ) (a b : Ahead) (taken : List ℕ) → Takes a b taken → 0 < length taken → a.waiting.count < m
+pub smaller : (m : ℕ) (a b : Ahead) (taken : List ℕ) → TakesBytes a b taken → 0 < length taken → a.waiting.count < m
     → m + length b.waiting.bytes - b.waiting.count < m + length a.waiting.bytes - a.waiting.count
 smaller m a b taken t some few =
     let before = length-append a.waiting.bytes t.more in

@@ -1,7 +1,7 @@
 -- What came of an edit.
 use Rattle.std.proofs.Common.{◌≡◌, ◌-◌, ◌<◌, ◌++◌, [], ◌∷◌, Bool, false, true, true≢false, List, List as Row, ℕ, None, Some, Result, Ok, Err, IfErr, IfOk, OnOk, ap, append_assoc, arith, is_err, length, refl, sym, subst, ◌∙◌}
 use Rattle.shtext.specs.Edit.{ASplice}
-use Rattle.shlive.specs.Ahead.{Ahead, StopsBy, Takes}
+use Rattle.shlive.specs.Ahead.{Ahead, StopsBy, TakesBytes}
 use Rattle.shlive.specs.Parts.{Comes, Hold, after_bytes, request_by}
 use Rattle.shlive.specs.Requests.{Sense, asks, edit, edit_alone, first_line, flawed, more_parts, next_by_part, part_by_line, part_of_line, splice_by, unfinished, with_bytes}
 use Rattle.shlive.specs.Lines.{IsInLine}
@@ -28,11 +28,11 @@ module _ (part : Part) (old new : Ahead) (failed ended : Bool) (before after : P
     (none : Hold before len []) where
   -- one splice
   pub comes_alone : (r : Result (Result (Unit {0}) Flaw) InputEnd) → OnOk r ((failed ≡ false) × (ended ≡ false))
-      → IfOk r (λ came. (taken bytes : List ℕ) × Takes old new taken
+      → IfOk r (λ came. (taken bytes : List ℕ) × TakesBytes old new taken
       × ((next : ASplice → Sense) →
       Spells (with_bytes part next) taken (after_bytes came (next (splice_by part bytes))))
       × ((n : ℕ) (ss : Row ASplice) → Hold before n ss → Hold after n (ss ++ splice_by part bytes ∷ [])))
-      → IfErr r (λ stop. (taken : List ℕ) × Takes old new taken
+      → IfErr r (λ stop. (taken : List ℕ) × TakesBytes old new taken
       × ((next : ASplice → Sense) → with_bytes part next taken ≡ unfinished) × StopsBy stop failed ended new)
       → Comes (with_bytes part edit_alone) old new failed ended after len r
   comes_alone (Ok came) sound is cut =
@@ -65,7 +65,7 @@ after_whole (Err flaw) next rest is = absurd (true≢false is)
 -- the input ended in an edit
 pub comes_cut : (sense : Sense) (old new : Ahead) (failed ended : Bool) (parts : Parts) (len : ℕ)
     (r : Result (Result (Unit {0}) Flaw) InputEnd) (e stop : InputEnd) → r ≡ Err e → e ≡ stop
-    → (taken : List ℕ) → Takes old new taken → sense taken ≡ unfinished → StopsBy stop failed ended new →
+    → (taken : List ℕ) → TakesBytes old new taken → sense taken ≡ unfinished → StopsBy stop failed ended new →
     Comes sense old new failed ended parts len r
 comes_cut sense old new failed ended parts len r e stop is same taken takes cut stops =
     subst (Comes sense old new failed ended parts len) (sym is)

@@ -4,12 +4,12 @@ use Rattle.std.specs.Io.KnownBytes.{Appends}
 use Rattle.shtext.proofs.Known.{Appends-trans}
 use Rattle.shlive.specs.Edits.{IsNotMade}
 use Rattle.shlive.specs.Held.{Held}
-use Rattle.shlive.specs.Ahead.{Ahead, Takes, too_many}
-use Rattle.shlive.specs.Replies.{Step}
+use Rattle.shlive.specs.Ahead.{Ahead, TakesBytes, too_many}
+use Rattle.shlive.specs.Replies.{ReplyStep}
 use Rattle.shlive.specs.Replies as of_replies
 use Rattle.shlive.specs.Requests.{Begins, Ending, EndsBy, Request, asks, clean, cut, edit, flawed, outline, at, fault, print, unknown, left, next_request_of}
 use Rattle.shlive.specs.Requests as of_requests
-use Rattle.shlive.specs.Runs.{Answered, Ended, Finishes, HasAnswer, IsSessionRun}
+use Rattle.shlive.specs.Runs.{Answered, Finishes, HasAnswer, IsSessionRun, RunEnded}
 use Rattle.shlive.specs.Turns.{EndsAs, Replied, Spells}
 use Rattle.shlive.specs.declared.error.LiveError.{LiveError}
 use Rattle.shlive.specs.declared.serve.End.{End}
@@ -17,7 +17,7 @@ use Rattle.shlive.specs.declared.serve.End.TheVariants.{Clean, Quit, Cut, Unread
 use Rattle.shlive.proofs.Taken.{takes_both}
 
 -- a request leaves how a session reads and prints
-pub step_how : (before after : Held) (request : Request) (reply : List ℕ) → Step before request reply after →
+pub step_how : (before after : Held) (request : Request) (reply : List ℕ) → ReplyStep before request reply after →
     after.how ≡ before.how
 step_how before after (edit ss) reply step =
     ⊎_elim (λ made. made.0.how) (λ
@@ -34,7 +34,7 @@ step_how before after unknown reply step = ap (λ (h : Held). h.how) step.1
 pub record SoFar (before after : Held) (old new : Ahead) (held holds : Option (List ℕ)) : Type 0 where
   pub taken : List ℕ
   pub asked : List Request
-  pub takes : Takes old new taken
+  pub takes : TakesBytes old new taken
   pub begins : (rest : List ℕ) → Begins (taken ++ rest) asked rest
   pub answered : Answered before after asked held holds
   pub how : after.how ≡ before.how
@@ -66,22 +66,22 @@ module _ (before mid after : Held) (old now new : Ahead) (held has holds : Optio
   module _ (failed ended broken : Bool) (status : ℕ) (start : old.waiting.bytes ≡ [])
       (zero : old.waiting.count ≡ 0) where
     -- what was read is what was taken and what waits
-    read_is : (taken : List ℕ) (t : Takes old new (so.taken ++ taken)) →
+    read_is : (taken : List ℕ) (t : TakesBytes old new (so.taken ++ taken)) →
         so.taken ++ (taken ++ new.waiting.bytes) ≡ t.more
     read_is taken t = sym (append_assoc so.taken taken new.waiting.bytes) ∙ sym t.same ∙ ap (λ l. l ++ t.more) start
 
-    begun : (taken : List ℕ) (t : Takes old new (so.taken ++ taken)) →
+    begun : (taken : List ℕ) (t : TakesBytes old new (so.taken ++ taken)) →
         Begins t.more so.asked (taken ++ new.waiting.bytes)
     begun taken t = subst (λ l. Begins l so.asked (taken ++ new.waiting.bytes)) (read_is taken t)
         (so.begins (taken ++ new.waiting.bytes))
 
-    long : (taken : List ℕ) (t : Takes old new (so.taken ++ taken)) → too_many ≤ new.waiting.count →
+    long : (taken : List ℕ) (t : TakesBytes old new (so.taken ++ taken)) → too_many ≤ new.waiting.count →
         too_many ≤ length t.more
     long taken t many = let count = t.counted in omega (arith, many, count, zero)
 
     -- nothing more was asked and nothing told
-    stayed : («end» : End) (taken : List ℕ) → (t : Takes old new (so.taken ++ taken)) →
-        Ended «end» t.more so.asked failed ended
+    stayed : («end» : End) (taken : List ℕ) → (t : TakesBytes old new (so.taken ++ taken)) →
+        RunEnded «end» t.more so.asked failed ended
         → Finishes «end» mid after t.more so.asked has holds broken →
         HasAnswer before.how.edition «end» after.bytes status
         → IsSessionRun before after old.left new.left failed ended held holds broken status
@@ -98,7 +98,7 @@ module _ (before mid after : Held) (old now new : Ahead) (held has holds : Optio
       status = answer;
     }
 
-    all_of : (taken : List ℕ) → Takes now new taken → Takes old new (so.taken ++ taken)
+    all_of : (taken : List ℕ) → TakesBytes now new taken → TakesBytes old new (so.taken ++ taken)
     all_of taken takes = takes_both old now new so.taken taken _ so.takes takes refl
 
     -- nothing waits and nothing was taken

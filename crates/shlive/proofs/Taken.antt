@@ -4,13 +4,13 @@ use Rattle.std.specs.Io.KnownBytes.{Consumes}
 use Rattle.std.proofs.lemmas.Bool.{cases_lt}
 use Rattle.std.proofs.lemmas.List.{drop_all, length-take-le, take-append-drop, take_all}
 use Rattle.shtext.proofs.Known.{Consumes-trans}
-use Rattle.shlive.specs.Ahead.{Ahead, Takes}
+use Rattle.shlive.specs.Ahead.{Ahead, TakesBytes}
 
 consumes_none : (a : Option (List ℕ)) → Consumes a a []
 consumes_none None = tt
 consumes_none (Some x) = refl
 
-pub takes_both : (a b c : Ahead) (t u v : List ℕ) → Takes a b t → Takes b c u → t ++ u ≡ v → Takes a c v
+pub takes_both : (a b c : Ahead) (t u v : List ℕ) → TakesBytes a b t → TakesBytes b c u → t ++ u ≡ v → TakesBytes a c v
 takes_both a b c t u v p q is = record {
   more = p.more ++ q.more;
   consumed = Consumes-trans a.left b.left c.left p.more q.more _ p.consumed q.consumed refl;
@@ -21,7 +21,7 @@ takes_both a b c t u v p q is = record {
 }
 
 -- nothing was taken
-pub takes_none : (a : Ahead) → Takes a a []
+pub takes_none : (a : Ahead) → TakesBytes a a []
 takes_none a = record {
   more = [];
   consumed = consumes_none a.left;
@@ -31,7 +31,7 @@ takes_none a = record {
 
 -- what waited first was taken
 pub takes_front : (a b : Ahead) (t : List ℕ) → b.left ≡ a.left → b.waiting.count ≡ a.waiting.count →
-    a.waiting.bytes ≡ t ++ b.waiting.bytes → Takes a b t
+    a.waiting.bytes ≡ t ++ b.waiting.bytes → TakesBytes a b t
 takes_front a b t left count is = record {
   more = [];
   consumed = subst (λ l. Consumes a.left l []) (sym left) (consumes_none a.left);
@@ -40,9 +40,9 @@ takes_front a b t left count is = record {
 }
 
 -- one more byte was taken, and nothing before it
-pub takes_byte : (a b c d : Ahead) (t : List ℕ) (byte : ℕ) → Takes a b t → Takes b c [] → d.left ≡ c.left →
+pub takes_byte : (a b c d : Ahead) (t : List ℕ) (byte : ℕ) → TakesBytes a b t → TakesBytes b c [] → d.left ≡ c.left →
     d.waiting.count ≡ c.waiting.count
-    → c.waiting.bytes ≡ byte ∷ d.waiting.bytes → Takes a d (t ++ byte ∷ [])
+    → c.waiting.bytes ≡ byte ∷ d.waiting.bytes → TakesBytes a d (t ++ byte ∷ [])
 takes_byte a b c d t byte p q left count is =
     takes_both a c d t (byte ∷ []) _ (takes_both a b c t [] t p q (append-nil t))
     (takes_front c d (byte ∷ []) left count is) refl

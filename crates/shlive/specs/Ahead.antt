@@ -15,7 +15,7 @@ abbrev pub ahead_of : {R : Type 0} → (R → Option (List ℕ)) → Input R →
 ahead_of remaining input waiting = record { left = remaining input.reader; waiting = waiting }
 
 -- these bytes were taken
-pub record Takes (old new : Ahead) (taken : List ℕ) : Type 0 where
+pub record TakesBytes (old new : Ahead) (taken : List ℕ) : Type 0 where
   -- what was read meanwhile
   pub more : List ℕ
   pub consumed : Consumes old.left new.left more

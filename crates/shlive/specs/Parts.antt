@@ -1,7 +1,7 @@
 -- The splices of an edit, as they come.
 use Rattle.std.specs.Prelude.{◌≡◌, ◌<◌, ℕ, Bool, false, List, List as Row, Option, None, Some, Result, Ok, Err, OnOk, length, map, option_map}
 use Rattle.shtext.specs.Edit.{ASplice, IsTally}
-use Rattle.shlive.specs.Ahead.{Ahead, StopsBy, Takes}
+use Rattle.shlive.specs.Ahead.{Ahead, StopsBy, TakesBytes}
 use Rattle.shlive.specs.Requests.{Request, Sense, asks, edit, flawed, unfinished}
 use Rattle.shlive.specs.Turns.{Spells}
 use Rattle.shlive.specs.declared.incoming.InputEnd.{InputEnd}
@@ -37,8 +37,8 @@ after_bytes (Err flaw) next = asks (flawed flaw)
 abbrev pub Comes : Sense → Ahead → Ahead → Bool → Bool → Parts → ℕ
     → Result (Result (Unit {0}) Flaw) InputEnd → Type 0
 Comes sense old new failed ended parts len (Ok came) =
-    (taken : List ℕ) × (ss : Row ASplice) × OnOk came (0 < length ss) × Takes old new taken
+    (taken : List ℕ) × (ss : Row ASplice) × OnOk came (0 < length ss) × TakesBytes old new taken
     × Spells sense taken (asks (request_by came ss)) × Hold parts len ss × (failed ≡ false)
 Comes sense old new failed ended parts len (Err stop) =
-    (taken : List ℕ) × Takes old new taken × (sense taken ≡ unfinished)
+    (taken : List ℕ) × TakesBytes old new taken × (sense taken ≡ unfinished)
     × StopsBy stop failed ended new

@@ -132,14 +132,14 @@ IsReply how bytes print reply =
 IsReply how bytes unknown reply = reply ≡ codes "no request\n"
 
 -- a request, its reply, and what is held after it: an edit alone changes it
-abbrev pub Step : Held → Request → List ℕ → Held → Type 0
-Step before (edit ss) reply after = IsEditReply before ss reply after
-Step before request reply after = IsReply before.how before.bytes request reply × (after ≡ before)
+abbrev pub ReplyStep : Held → Request → List ℕ → Held → Type 0
+ReplyStep before (edit ss) reply after = IsEditReply before ss reply after
+ReplyStep before request reply after = IsReply before.how before.bytes request reply × (after ≡ before)
 
 -- requests to a session, the replies to them, and what is held after them
 pub data Replies (before : Held) : List Request → List ℕ → Held → Type 0 where
   none_yet : Replies before [] [] before
   one_more : {requests : List Request} {replies : List ℕ} {mid : Held}
       (request : Request) (reply : List ℕ) (after : Held)
-      → Replies before requests replies mid → Step mid request reply after
+      → Replies before requests replies mid → ReplyStep mid request reply after
       → Replies before (requests ++ request ∷ []) (replies ++ reply) after

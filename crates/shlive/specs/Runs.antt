@@ -7,7 +7,7 @@ use Rattle.shlive.specs.Ahead.{too_many}
 use Rattle.shlive.specs.Answers.{HasStatus}
 use Rattle.shlive.specs.Replies.{Replies}
 use Rattle.shlive.specs.Requests.{Begins, Ending, Request, Requests, clean, cut, left}
-use Rattle.shlive.specs.Turns.{Tells}
+use Rattle.shlive.specs.Turns.{RepliesTo}
 use Rattle.shlive.specs.declared.serve.End.{End}
 use Rattle.shlive.specs.declared.serve.End.TheVariants.{Clean, Quit, Cut, Unreadable, TooLong, Unwritable}
 
@@ -24,21 +24,21 @@ pub record Unwritten (mid after : Held) (read : List ℕ) (requests : List Reque
   pub request : Request
   pub rest : List ℕ
   pub begins : Begins read (requests ++ request ∷ []) rest
-  pub tells : Tells mid request after has holds true
+  pub tells : RepliesTo mid request after has holds true
 
 -- Why a run ended, by what was read and by the requests whose replies were written; whether a read failed or
 -- met the end. All requests of what was read were answered, unless a write failed or too much was read.
-abbrev pub Ended : End → List ℕ → List Request → Bool → Bool → Type 0
-Ended Clean read requests failed ended =
+abbrev pub RunEnded : End → List ℕ → List Request → Bool → Bool → Type 0
+RunEnded Clean read requests failed ended =
     Requests read requests clean × (failed ≡ false) × (ended ≡ true)
-Ended Quit read requests failed ended = Requests read requests left × (failed ≡ false)
-Ended Cut read requests failed ended =
+RunEnded Quit read requests failed ended = Requests read requests left × (failed ≡ false)
+RunEnded Cut read requests failed ended =
     Requests read requests cut × (failed ≡ false) × (ended ≡ true)
-Ended Unreadable read requests failed ended =
+RunEnded Unreadable read requests failed ended =
     ((ending : Ending) × Requests read requests ending) × (failed ≡ true)
-Ended TooLong read requests failed ended =
+RunEnded TooLong read requests failed ended =
     ((rest : List ℕ) × Begins read requests rest) × (too_many ≤ length read) × (failed ≡ false)
-Ended Unwritable read requests failed ended = failed ≡ false
+RunEnded Unwritable read requests failed ended = failed ≡ false
 
 -- What is held in the end and what the writer holds, whether a write failed: of a run that no write ended
 -- what was held and written with the last reply, else what the next request made of it.
@@ -69,6 +69,6 @@ pub record IsSessionRun (before after : Held) (had has : Option (List ℕ)) (fai
   pub «end» : End
   pub consumed : Consumes had has read
   pub answered : Answered before mid requests held told
-  pub ends : Ended «end» read requests failed ended
+  pub ends : RunEnded «end» read requests failed ended
   pub finishes : Finishes «end» mid after read requests told holds broken
   pub status : HasAnswer before.how.edition «end» after.bytes answer

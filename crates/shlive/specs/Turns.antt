@@ -2,8 +2,8 @@
 use Rattle.std.specs.Prelude.{◌≡◌, ℕ, ◌++◌, [], Bool, true, false, List, Option}
 use Rattle.shtext.specs.Device.{Writes}
 use Rattle.shlive.specs.Held.{Held}
-use Rattle.shlive.specs.Ahead.{Ahead, StopsBy, Takes}
-use Rattle.shlive.specs.Replies.{Step}
+use Rattle.shlive.specs.Ahead.{Ahead, StopsBy, TakesBytes}
+use Rattle.shlive.specs.Replies.{ReplyStep}
 use Rattle.shlive.specs.Requests.{Ending, EndsBy, Request, Sense, asks, leaves, nothing, unfinished}
 use Rattle.shlive.specs.declared.incoming.InputEnd.{InputEnd}
 use Rattle.shlive.specs.declared.incoming.InputEnd.TheVariants as stops
@@ -11,8 +11,8 @@ use Rattle.shlive.specs.declared.serve.End.{End}
 use Rattle.shlive.specs.declared.serve.End.TheVariants.{Clean, Quit, Cut, Unreadable, TooLong, Unwritable}
 
 -- the reply to a request was written, or where the device failed a beginning of it
-abbrev pub Tells : Held → Request → Held → Option (List ℕ) → Option (List ℕ) → Bool → Type 0
-Tells before request after held holds failed = (reply : List ℕ) × Step before request reply after
+abbrev pub RepliesTo : Held → Request → Held → Option (List ℕ) → Option (List ℕ) → Bool → Type 0
+RepliesTo before request after held holds failed = (reply : List ℕ) × ReplyStep before request reply after
     × Writes held holds failed reply
 
 -- whatever follows it, the text is understood so
@@ -25,9 +25,9 @@ pub record Replied (sense : Sense) (before after : Held) (old new : Ahead) (held
     (failed : Bool) : Type 0 where
   pub taken : List ℕ
   pub request : Request
-  pub takes : Takes old new taken
+  pub takes : TakesBytes old new taken
   pub spelled : Spells sense taken (asks request)
-  pub tells : Tells before request after held holds failed
+  pub tells : RepliesTo before request after held holds failed
 
 -- why there is no further request, by what was taken meanwhile
 abbrev pub NoFurther : Sense → End → List ℕ → Bool → Bool → Ahead → Type 0
@@ -41,10 +41,10 @@ NoFurther sense TooLong taken failed ended ahead = StopsBy stops.TooLong failed 
 NoFurther sense Unwritable taken failed ended ahead = ⊥
 
 -- nothing was replied and nothing changed
-pub record Stays (sense : Sense) («end» : End) (before after : Held) (old new : Ahead) (failed ended : Bool)
+pub record ChangesNothing (sense : Sense) («end» : End) (before after : Held) (old new : Ahead) (failed ended : Bool)
     (held holds : Option (List ℕ)) (broken : Bool) : Type 0 where
   pub taken : List ℕ
-  pub takes : Takes old new taken
+  pub takes : TakesBytes old new taken
   pub none : NoFurther sense «end» taken failed ended new
   pub same : after ≡ before
   pub silent : holds ≡ held
@@ -57,7 +57,7 @@ abbrev pub EndsAs : Sense → End → Held → Held → Ahead → Ahead → Bool
 EndsAs sense Unwritable before after old new failed ended held holds broken =
     Replied sense before after old new held holds true × (failed ≡ false) × (broken ≡ true)
 EndsAs sense why before after old new failed ended held holds broken =
-    Stays sense why before after old new failed ended held holds broken
+    ChangesNothing sense why before after old new failed ended held holds broken
 
 abbrev pub end_between : InputEnd → End
 end_between stops.Met = Clean

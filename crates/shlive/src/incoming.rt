@@ -1,7 +1,7 @@
 //! The bytes that come from an input, read a piece at a time.
 ghost use Rattle.std.specs.Prelude.{◌≡◌, ◌+◌, ◌-◌, ◌<◌, ◌≤◌, ◌∷◌, [], IfErr, OnOk, drop, length, take};
 ghost use Rattle.shtext.specs.Device.{input_ended, input_failed};
-ghost use Rattle.shlive.specs.Ahead.{IsOpen, StopsBy, Takes, ahead_of, too_many};
+ghost use Rattle.shlive.specs.Ahead.{IsOpen, StopsBy, TakesBytes, ahead_of, too_many};
 
 use shtext::{Failed, Input};
 use std::io::Read;
@@ -66,7 +66,7 @@ impl Incoming {
         ensures some { OnOk result (0 < length self.new.bytes) }
         ensures open { OnOk result (IsOpen input.new) }
         ensures few { OnOk result (self.new.count < too_many) }
-        ensures takes { Takes (ahead_of R.remaining input.old self.old)
+        ensures takes { TakesBytes (ahead_of R.remaining input.old self.old)
             (ahead_of R.remaining input.new self.new) [] }
         ensures stops { IfErr result
             (λ stop. StopsBy stop (input_failed input.new) (input_ended input.new)

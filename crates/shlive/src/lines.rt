@@ -1,7 +1,7 @@
 //! The lines of requests.
 ghost use Rattle.std.specs.Prelude.{◌≡◌, ◌<◌, ◌≤◌, ◌∷◌, ◌++◌, [], ℕ, IfErr, IfOk, List, MatchOption, OnOk, IsTrue, ◌↔◌, length};
 ghost use Rattle.shtext.specs.Device.{input_ended, input_failed};
-ghost use Rattle.shlive.specs.Ahead.{IsOpen, StopsBy, Takes, ahead_of, too_many};
+ghost use Rattle.shlive.specs.Ahead.{IsOpen, StopsBy, TakesBytes, ahead_of, too_many};
 ghost use Rattle.shlive.specs.Lines.{IsInLine, KeepsText};
 ghost use Rattle.shlive.specs.Requests.{line_limit};
 
@@ -76,10 +76,10 @@ pub(crate) fn take_line<R: Read>(
     ensures open { OnOk result (IsOpen input.new) }
     ensures few { OnOk result (incoming.new.count < too_many) }
     ensures line { IfOk result (λ line. (text : List ℕ) × IsInLine text × KeepsText line text
-        × Takes (ahead_of R.remaining input.old incoming.old)
+        × TakesBytes (ahead_of R.remaining input.old incoming.old)
         (ahead_of R.remaining input.new incoming.new) (text ++ 10 ∷ [])) }
     ensures cut { IfErr result (λ stop. (text : List ℕ) × IsInLine text
-        × Takes (ahead_of R.remaining input.old incoming.old)
+        × TakesBytes (ahead_of R.remaining input.old incoming.old)
         (ahead_of R.remaining input.new incoming.new) text
         × StopsBy stop (input_failed input.new) (input_ended input.new)
         (ahead_of R.remaining input.new incoming.new)) }

@@ -2,7 +2,7 @@
 ghost use Rattle.std.specs.Prelude.{◌≡◌, ◌<◌, ◌∷◌, ◌++◌, [], ℕ, IfErr, IfOk, List, List as Row, OnOk, length, option_map};
 ghost use Rattle.shtext.specs.Edit.{ASplice, IsTally};
 ghost use Rattle.shtext.specs.Device.{input_ended, input_failed};
-ghost use Rattle.shlive.specs.Ahead.{IsOpen, StopsBy, Takes, ahead_of, too_many};
+ghost use Rattle.shlive.specs.Ahead.{IsOpen, StopsBy, TakesBytes, ahead_of, too_many};
 ghost use Rattle.shlive.specs.Lines.{KeepsText};
 ghost use Rattle.shlive.specs.Parts.{AreSplices, Comes, Hold, after_bytes};
 ghost use Rattle.shlive.specs.Payload.{AreKept};
@@ -130,14 +130,14 @@ fn take_bytes<R: Read>(
     ensures open { OnOk result (IsOpen input.new) }
     ensures few { OnOk result (incoming.new.count < too_many) }
     ensures came { IfOk result (λ came. (taken bytes : List ℕ) ×
-        Takes (ahead_of R.remaining input.old incoming.old)
+        TakesBytes (ahead_of R.remaining input.old incoming.old)
         (ahead_of R.remaining input.new incoming.new) taken ×
         ((next : ASplice → Sense) →
         Spells (with_bytes part next) taken (after_bytes came (next (splice_by part bytes)))) ×
         ((len : ℕ) (ss : Row ASplice) → Hold parts.old len ss →
         Hold parts.new len (ss ++ splice_by part bytes ∷ []))) }
     ensures cut { IfErr result (λ stop. (taken : List ℕ) ×
-        Takes (ahead_of R.remaining input.old incoming.old)
+        TakesBytes (ahead_of R.remaining input.old incoming.old)
         (ahead_of R.remaining input.new incoming.new) taken ×
         ((next : ASplice → Sense) → with_bytes part next taken ≡ unfinished) ×
         StopsBy stop (input_failed input.new) (input_ended input.new)

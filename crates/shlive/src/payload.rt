@@ -1,7 +1,7 @@
 //! The bytes that an edit brings.
 ghost use Rattle.std.specs.Prelude.{◌≡◌, ◌<◌, ◌++◌, ℕ, IfErr, IfOk, List, OnOk, length, option_map};
 ghost use Rattle.shtext.specs.Device.{input_ended, input_failed};
-ghost use Rattle.shlive.specs.Ahead.{IsOpen, StopsBy, Takes, ahead_of, too_many};
+ghost use Rattle.shlive.specs.Ahead.{IsOpen, StopsBy, TakesBytes, ahead_of, too_many};
 ghost use Rattle.shlive.specs.Payload.{AreKept};
 
 use crate::incoming::{Incoming, InputEnd};
@@ -39,10 +39,10 @@ pub(crate) fn take_payload<R: Read>(
     ensures payload { IfOk result
         (λ kept. (bytes : List ℕ) × (length bytes ≡ count)
         × AreKept (option_map (λ v. v.items) kept) bytes
-        × Takes (ahead_of R.remaining input.old incoming.old)
+        × TakesBytes (ahead_of R.remaining input.old incoming.old)
         (ahead_of R.remaining input.new incoming.new) bytes) }
     ensures cut { IfErr result (λ stop. (bytes : List ℕ) × (length bytes < count)
-        × Takes (ahead_of R.remaining input.old incoming.old)
+        × TakesBytes (ahead_of R.remaining input.old incoming.old)
         (ahead_of R.remaining input.new incoming.new) bytes
         × StopsBy stop (input_failed input.new) (input_ended input.new)
         (ahead_of R.remaining input.new incoming.new)) }

@@ -8,7 +8,7 @@ ghost use Rattle.shlive.specs.Edits.{IsMade, IsNotMade};
 ghost use Rattle.shlive.specs.Parts.{AreSplices, Hold, request_by};
 ghost use Rattle.shlive.specs.Replies.{fault_text, flaw_text, nodes_text, number_of_kind, ok_text, printed_text, refusal_text};
 ghost use Rattle.shlive.specs.Requests.{at as asks_at, edit, fault, outline, print};
-ghost use Rattle.shlive.specs.Turns.{Tells};
+ghost use Rattle.shlive.specs.Turns.{RepliesTo};
 
 use crate::error::LiveError;
 use crate::parts::{Flaw, KeptSplice, Parts};
@@ -114,7 +114,7 @@ fn reply_to_splices<W: Write>(
 ) -> Result<(), Failed>
     ensures tells { (ss : Row ASplice) → 0 < length ss →
         Hold parts.now (length session.old.bytes) ss →
-        Tells session.old (edit ss) session.new
+        RepliesTo session.old (edit ss) session.new
         (held_of W.contents output.old) (held_of W.contents output.new) (not (is_ok result)) }
     ensures failed { output_failed output.new ≡ (output_failed output.old || not (is_ok result)) }
 {
@@ -134,7 +134,7 @@ pub(crate) fn reply_to_edit<W: Write>(
 ) -> Result<(), Failed>
     ensures tells { (ss : Row ASplice) → OnOk came (0 < length ss) →
         Hold parts.now (length session.old.bytes) ss →
-        Tells session.old (request_by came ss) session.new
+        RepliesTo session.old (request_by came ss) session.new
         (held_of W.contents output.old) (held_of W.contents output.new) (not (is_ok result)) }
     ensures failed { output_failed output.new ≡ (output_failed output.old || not (is_ok result)) }
 {
@@ -160,7 +160,7 @@ pub(crate) fn reply_to_outline<W: Write>(
     session: &Session,
     output: &mut Output<W>,
 ) -> Result<(), Failed>
-    ensures tells { Tells session.now outline session.now (held_of W.contents output.old)
+    ensures tells { RepliesTo session.now outline session.now (held_of W.contents output.old)
         (held_of W.contents output.new) (not (is_ok result)) }
     ensures failed { output_failed output.new ≡ (output_failed output.old || not (is_ok result)) }
 {
@@ -187,7 +187,7 @@ pub(crate) fn reply_to_at<W: Write>(
     output: &mut Output<W>,
     at: usize,
 ) -> Result<(), Failed>
-    ensures tells { Tells session.now (asks_at at) session.now (held_of W.contents output.old)
+    ensures tells { RepliesTo session.now (asks_at at) session.now (held_of W.contents output.old)
         (held_of W.contents output.new) (not (is_ok result)) }
     ensures failed { output_failed output.new ≡ (output_failed output.old || not (is_ok result)) }
 {
@@ -235,7 +235,7 @@ pub(crate) fn reply_to_fault<W: Write>(
     session: &Session,
     output: &mut Output<W>,
 ) -> Result<(), Failed>
-    ensures tells { Tells session.now fault session.now (held_of W.contents output.old)
+    ensures tells { RepliesTo session.now fault session.now (held_of W.contents output.old)
         (held_of W.contents output.new) (not (is_ok result)) }
     ensures failed { output_failed output.new ≡ (output_failed output.old || not (is_ok result)) }
 {
@@ -269,7 +269,7 @@ pub(crate) fn reply_to_print<W: Write>(
     session: &Session,
     output: &mut Output<W>,
 ) -> Result<(), Failed>
-    ensures tells { Tells session.now print session.now (held_of W.contents output.old)
+    ensures tells { RepliesTo session.now print session.now (held_of W.contents output.old)
         (held_of W.contents output.new) (not (is_ok result)) }
     ensures failed { output_failed output.new ≡ (output_failed output.old || not (is_ok result)) }
 {

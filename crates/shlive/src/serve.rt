@@ -7,7 +7,7 @@ ghost use Rattle.shlive.specs.Orders.{HasPart, HasParts};
 ghost use Rattle.shlive.specs.Parts.{Comes};
 ghost use Rattle.shlive.specs.Requests.{Sense, next_by_form, next_request_of, order_of_line, request_of};
 ghost use Rattle.shlive.specs.Runs.{HasAnswer, IsSessionRun};
-ghost use Rattle.shlive.specs.Turns.{EndsAs, Replied, Tells, end_between, end_inside};
+ghost use Rattle.shlive.specs.Turns.{EndsAs, Replied, RepliesTo, end_between, end_inside};
 
 use crate::incoming::{Incoming, InputEnd};
 use crate::lines::{RequestLine, take_line};
@@ -91,7 +91,7 @@ fn reply_to<W: Write>(
     output: &mut Output<W>,
     question: Question,
 ) -> Result<(), Failed>
-    ensures tells { Tells session.now (request_of question) session.now
+    ensures tells { RepliesTo session.now (request_of question) session.now
         (held_of W.contents output.old) (held_of W.contents output.new) (not (is_ok result)) }
     ensures failed { output_failed output.new ≡ (output_failed output.old || not (is_ok result)) }
 {

@@ -5,7 +5,7 @@ ghost use Rattle.shtext.specs.Meter.{raised};
 ghost use Rattle.shgrammar.specs.Scripts.{FirstFault};
 ghost use Rattle.shgrammar.specs.declared.fault.Fault.{Fault};
 ghost use Rattle.shtext.specs.Buffer.{buffer_bytes};
-ghost use Rattle.shtext.specs.Edit.{IsTally, limit, one, splices_of};
+ghost use Rattle.shtext.specs.Edit.{IsTally, limit, one_splice, splices_of};
 ghost use Rattle.shlive.specs.Answers.{HasNodesAt, HasOutline, HasStatus, HasText, IsRefused};
 ghost use Rattle.shlive.specs.Edits.{IsMade, IsNotMade};
 
@@ -59,7 +59,7 @@ impl Session {
         ensures layout { IfOk result (λ session. session.how.layout ≡ layout) }
         ensures meter { IfOk result
             (λ session. session.meter ≡ raised (meter_of reader) (length bytes.now)) }
-        ensures err { IfErr result (IsRefused [] (one 0 0 bytes.now)) }
+        ensures err { IfErr result (IsRefused [] (one_splice 0 0 bytes.now)) }
         ensures empty { length bytes.now ≡ 0 → IsOk result }
     {
         let mut reader = TopLines { reader };
@@ -77,8 +77,8 @@ impl Session {
     /// Puts bytes in the place of those from `a` up to `b`, as [`edit_all`](Session::edit_all) does with this
     /// splice alone.
     pub fn edit(&mut self, a: usize, b: usize, bytes: &[u8]) -> Result<(), LiveError>
-        ensures made { OnOk result (IsMade self.old (one a b bytes.now) self.new) }
-        ensures refused { IfErr result (λ e. IsNotMade self.old (one a b bytes.now) e self.new) }
+        ensures made { OnOk result (IsMade self.old (one_splice a b bytes.now) self.new) }
+        ensures refused { IfErr result (λ e. IsNotMade self.old (one_splice a b bytes.now) e self.new) }
     {
         self.edit_all(&[Splice { a, b, bytes }])
     }

@@ -12,7 +12,7 @@ use Rattle.shgrammar.specs.declared.token.Token.TheVariants as tokens
 use Rattle.shtext.specs.Text.{is_newline as is_newline_byte}
 use Rattle.shgrammar.specs.Classes.{is_digit}
 use Rattle.shgrammar.specs.Standing.{continues, is_byte, passes, raw_stands}
-use Rattle.shgrammar.specs.Bytes.{behind, byte_at, past, past_continuations, stands, stands_in}
+use Rattle.shgrammar.specs.Bytes.{byte_at, past, past_byte, past_continuations, stands, stands_in}
 use Rattle.shgrammar.specs.Tokens.{begins_assignment, first_word, is_number as is_number_at, past_digits, reserved_at, token_at, token_of, word_by, word_of}
 use Rattle.shgrammar.specs.Comments.{span}
 use Rattle.shgrammar.specs.Form.{raw}
@@ -53,10 +53,10 @@ token_counts position T p None = λ e. absurd cc
 token_counts position T p (Some b) =
     let here = is_number_at T p in
     neither here (is_newline_byte b) _ _ (λ e. absurd cc)
-    (neither here (b == 59) _ _ (neither here (stands T (behind T p) 59) _ _ (λ e. absurd cc)
-    (neither here (stands T (behind T p) 38) _ _ (λ e. absurd cc) (λ e. absurd cc)))
-    (neither here (b == 38) _ _ (neither here (stands T (behind T p) 38) _ _ (λ e. absurd cc) (λ e. absurd cc))
-    (neither here (b == 124) _ _ (neither here (stands T (behind T p) 124) _ _ (λ e. absurd cc) (λ e. absurd cc))
+    (neither here (b == 59) _ _ (neither here (stands T (past_byte T p) 59) _ _ (λ e. absurd cc)
+    (neither here (stands T (past_byte T p) 38) _ _ (λ e. absurd cc) (λ e. absurd cc)))
+    (neither here (b == 38) _ _ (neither here (stands T (past_byte T p) 38) _ _ (λ e. absurd cc) (λ e. absurd cc))
+    (neither here (b == 124) _ _ (neither here (stands T (past_byte T p) 124) _ _ (λ e. absurd cc) (λ e. absurd cc))
     (neither here (b == 40) _ _ (λ e. absurd cc)
     (neither here (b == 41) _ _ (λ e. absurd cc)
     (neither here (b == 60) _ _ (λ e. absurd cc)
@@ -123,7 +123,7 @@ byte_of (Some c) e = (c, refl, e)
 -- the same stretch from behind a continuation
 past_pair : (T : List ℕ) (p : ℕ) → continues T p ≡ true → stands_in is_digit T p ≡ true →
     (stands_in is_digit T (p + 2) ≡ true) × (past is_digit T p ≡ past is_digit T (p + 2))
-unfolding stands_in behind
+unfolding stands_in past_byte
 past_pair T p pair digit =
     let place = joined_more T p pair in
     let there = ap (λ q. passes is_digit (slice_get T q)) (sym place) ∙ digit in (
@@ -168,7 +168,7 @@ behind_pair n T p further few digit pair =
 
 one_digit : (n : ℕ) (T : List ℕ) (p : ℕ) → Further n T → length T - p ≤ suc n → stands_in is_digit T p ≡ true →
     continues T p ≡ false → DigitsAt T p
-unfolding stands_in behind
+unfolding stands_in past_byte
 one_digit n T p further few digit no_pair =
     let place : past_continuations T p ≡ p = joined_none T p no_pair in
     let b = byte_of (byte_at T p) digit in

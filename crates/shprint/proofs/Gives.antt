@@ -3,7 +3,7 @@ use Rattle.std.proofs.Common.{◌≡◌, ◌≤◌, sym, subst, Bool, true, fals
 use Rattle.shgrammar.specs.declared.keep.Keep.TheVariants.{Whole}
 use Rattle.shgrammar.specs.Comments.{span}
 use Rattle.shgrammar.specs.Sights.{Given, State, Sight, seen, Move}
-use Rattle.shgrammar.specs.Form.{Spelled, Told, Form, give, see, move, push, both, token, many, may, moved_on, just, and_then, whole, Step, again, done, last, more, leads_on}
+use Rattle.shgrammar.specs.Form.{Spelled, Telling, Form, give, see, move, push, both, token, many, may, moved_on, just, and_then, whole, Step, again, done, last, more, leads_on}
 use Rattle.shgrammar.specs.Commands.{pick}
 use Rattle.shgrammar.proofs.Holds.{Holds, Behind, low}
 use Rattle.shgrammar.proofs.OneOutcome.{is}
@@ -33,7 +33,7 @@ moved_here m = gives _ just
 pub pushed_here : {g : Given} {A : Type 0} (xs : Row A) (x : A) {s : State} → Gives g (push xs x) s (xs ++ x ∷ []) s
 pushed_here xs x = gives _ just
 
-pub told_here : {g : Given} {X : Type 0} (told : Told) {r : Form X} {s t : State} {x : X} → Gives g r s x t →
+pub told_here : {g : Given} {X : Type 0} (told : Telling) {r : Form X} {s t : State} {x : X} → Gives g r s x t →
     Gives g (token told r) s (x, span g.offset s.at t.at) t
 told_here told one = gives _ (whole one.reads)
 

@@ -21,7 +21,7 @@ use Rattle.shgrammar.specs.declared.token.Separator.TheVariants.{Semicolon, Ampe
 use Rattle.shgrammar.specs.declared.token.Token.{Token}
 use Rattle.shgrammar.specs.declared.token.Token.TheVariants as tokens
 use Rattle.shgrammar.specs.Classes.{is_blank}
-use Rattle.shgrammar.specs.Bytes.{ends, behind, stands, past_continuations, byte_at, past_blanks, is_broken_at}
+use Rattle.shgrammar.specs.Bytes.{ends, past_byte, stands, past_continuations, byte_at, past_blanks, is_broken_at}
 use Rattle.shgrammar.specs.Comments.{span, comment_at}
 use Rattle.shgrammar.specs.Standing.{is_byte, raw_stands}
 use Rattle.shgrammar.specs.Tokens.{is_end, is_comment, is_later, past_reserved, token_in, token_of, token_at, next_in, next_at}
@@ -362,7 +362,7 @@ module _ (edition : Edition) (B T : List ℕ) (o : ℕ) (here : drop o B ≡ T) 
 
     -- ---- redirections
 
-    one_moved : (h : Held) (p : ℕ) → behind T p ≡ p + 1 → Gives g (move one_byte) (state h p) tt (state h (p + 1))
+    one_moved : (h : Held) (p : ℕ) → past_byte T p ≡ p + 1 → Gives g (move one_byte) (state h p) tt (state h (p + 1))
     one_moved h p on = subst (λ q. Gives g (move one_byte) (state h p) tt (state h q)) on (moved_here one_byte)
 
     -- one byte that is read as it stands
@@ -996,7 +996,7 @@ module _ (edition : Edition) (B T : List ℕ) (o : ℕ) (here : drop o B ≡ T) 
 
     module _ (y : Layout) (m : Text) (c : ℕ) (cs : Text) (blank : all_blank (deeper y m) ≡ true)
         (some_margin : deeper y m ≡ c ∷ cs)
-        (rest : Marks) (follow : Followed rest) (behind : (h : Held) (e : ℕ) → At h e rest → Behind e) where
+        (rest : Marks) (follow : Followed rest) (after_it : (h : Held) (e : ℕ) → At h e rest → Behind e) where
       -- the next item, behind a gap
       record NextItem (h : Held) (position : Position) (i : Shape AnItemOf) (is : Shape ItemsOf) (e : ℕ) : Type 0 where
         at : At h (past_blanks T e) (print_item y i ++ (print_items y m is ++ rest))
@@ -1023,7 +1023,7 @@ module _ (edition : Edition) (B T : List ℕ) (o : ℕ) (here : drop o B ≡ T) 
           → At h e (print_items y m is ++ rest) →
           ItemsRead h kind acc position (asked position e) (past_blanks T e) last is rest
       items_read {kind = kind} h {position = position} none_more acc e first at =
-          let b = behind h e at in
+          let b = after_it h e at in
           no_items_on h kind acc position (asked position e) e rest at (b.seen_as Command ∙ sym (b.seen_as position))
           (ap (λ (n : Next). begins_simple n.token) (b.seen_as position) ∙ b.no_item)
       items_read {kind = kind} h {position = position} (one_more {i = i} {is = is} good others) acc e first at =
@@ -1077,7 +1077,7 @@ module _ (edition : Edition) (B T : List ℕ) (o : ℕ) (here : drop o B ≡ T) 
       next_round : (h : Held) {position last : Position} {is : Shape ItemsOf} →
           GoodItems edition room of_command position is last → (e : ℕ) → At h e (print_items y m is ++ rest) →
           is_paren (asked position e).token ≡ false
-      next_round h {position = position} none_more e at = let b = behind h e at in
+      next_round h {position = position} none_more e at = let b = after_it h e at in
           ap (λ (n : Next). is_paren n.token) (b.seen_as position) ∙ b.no_round
       next_round h {position = position} (one_more {is = is} good others) e at =
           item_no_round (asked position e).token (next_item h is e good at).begins
@@ -2208,7 +2208,7 @@ module _ (edition : Edition) (B T : List ℕ) (o : ℕ) (here : drop o B ≡ T) 
             }
 
         -- two bytes are passed
-        two_moves : (h : Held) (q : ℕ) → behind T q ≡ q + 1 → behind T (q + 1) ≡ q + 1 + 1 →
+        two_moves : (h : Held) (q : ℕ) → past_byte T q ≡ q + 1 → past_byte T (q + 1) ≡ q + 1 + 1 →
             Gives g (move one_byte >> move one_byte) (state h q) tt (state h (q + 2))
         two_moves h q one_is two_is =
             let e : q + 1 + 1 ≡ q + 2 = omega arith in
@@ -2547,7 +2547,7 @@ module _ (edition : Edition) (B T : List ℕ) (o : ℕ) (here : drop o B ≡ T) 
         no_separator h n q e = rw e given_here
 
         some_separator : (h : Held) (n : Next) (q : ℕ) (k : Separator) → separator_of n.token ≡ Some k →
-            behind T q ≡ q + 1
+            past_byte T q ≡ q + 1
             → Gives g (a_separator n) (state h q) (Some (k, o + (q + 1)), asked Command (q + 1))
             (state h (past_blanks T (q + 1)))
         unfolding a_separator
@@ -3301,7 +3301,7 @@ module _ (edition : Edition) (B T : List ℕ) (o : ℕ) (here : drop o B ≡ T) 
             subst (λ p. Gives g (move the_reserved) (state h q) tt (state h p)) is (moved_here the_reserved) in
             told_here (by label) moved ⟫ next_read h position f ⟫ given_here
 
-        paren_alone : (h : Held) (label : Spelled) (q : ℕ) → behind T q ≡ q + 1 →
+        paren_alone : (h : Held) (label : Spelled) (q : ℕ) → past_byte T q ≡ q + 1 →
             Gives g (reserved_or_paren label true Command) (state h q) (span o q (q + 1), asked Command (q + 1))
             (state h (past_blanks T (q + 1)))
         unfolding reserved_or_paren

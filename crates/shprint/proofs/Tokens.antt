@@ -12,7 +12,7 @@ use Rattle.shgrammar.specs.declared.token.Token.{Token}
 use Rattle.shgrammar.specs.declared.token.Token.TheVariants as tokens
 use Rattle.shgrammar.specs.Classes.{is_blank, is_digit, is_name}
 use Rattle.shgrammar.specs.Standing.{is_byte, passes, raw_stands, raw_in, raw_past, continues}
-use Rattle.shgrammar.specs.Bytes.{ends, past, past_continuations, byte_at, behind, stands, stands_in, past_blanks, is_broken_at}
+use Rattle.shgrammar.specs.Bytes.{ends, past, past_continuations, byte_at, past_byte, stands, stands_in, past_blanks, is_broken_at}
 use Rattle.shgrammar.specs.Tokens.{Spelling, is_word_at, first_of_words, reserved_words, reserved_at, past_reserved, past_digits, begins_assignment, is_number, first_word, less_at, greater_at, token_of, token_at, token_in, is_later, next_at}
 use Rattle.shtext.specs.Text.{is_newline}
 use Rattle.shgrammar.proofs.Stretches.{get_drop, joined_none, joined_more, place_low, past_more, past_none, raw_more, raw_none}
@@ -59,7 +59,7 @@ pub record Reads (T : List ℕ) (p c : ℕ) (xs : List ℕ) : Type 0 where
   pub raw : slice_get T p ≡ Some c
   pub place : past_continuations T p ≡ p
   pub byte : byte_at T p ≡ Some c
-  pub behind_it : behind T p ≡ p + 1
+  pub behind_it : past_byte T p ≡ p + 1
   pub rest : drop (p + 1) T ≡ xs
 
 pub byte_here : (T : List ℕ) (p c : ℕ) (xs : List ℕ) → (c == 92) ≡ false → drop p T ≡ c ∷ xs → Reads T p c xs
@@ -173,7 +173,7 @@ joined_gap {T = T} {p = p} {q = q} {b = b} {xs = xs} e at gap =
     let place : past_continuations T p ≡ p + 2 = joined_more T p pair ∙ r.place in
     let blank : stands_in is_blank T p ≡ true = ap (λ q. passes is_blank (slice_get T q)) place
     ∙ ap (passes is_blank) r.raw ∙ e in
-    let behind_both : behind T p ≡ behind T (p + 2) = behind_is T p ∙ ap (λ q. q + 1) place ∙ sym r.behind_it in
+    let behind_both : past_byte T p ≡ past_byte T (p + 2) = behind_is T p ∙ ap (λ q. q + 1) place ∙ sym r.behind_it in
     let same : past is_blank T p ≡ past is_blank T (p + 2) = past_more is_blank T p blank
     ∙ ap (past is_blank T) behind_both ∙ sym (past_more is_blank T (p + 2) (in_class is_blank r ∙ e)) in
     let raw : raw_past is_blank T p ≡ p = raw_none is_blank T p (raw_class T p 92 is_blank raw1) in
@@ -220,7 +220,7 @@ close_token position T p xs at = token_here position (byte_here T p 41 xs refl a
 
 -- the byte behind this one
 second : {T : List ℕ} {p c d : ℕ} {xs : List ℕ} (x : ℕ) → (d == 92) ≡ false → Reads T p c (d ∷ xs) →
-    stands T (behind T p) x ≡ (d == x)
+    stands T (past_byte T p) x ≡ (d == x)
 second {T = T} {p = p} {d = d} {xs = xs} x clear r = ap (λ q. stands T q x) r.behind_it
     ∙ is_here x (byte_here T (p + 1) d xs clear r.rest)
 
@@ -316,12 +316,12 @@ module _ (T : List ℕ) (x : ℕ) (xs : List ℕ) (clear : (x == 92) ≡ false) 
       spelled_none T p ∙ ap ends (byte_here T p c _ parts.1 at).byte ∙ parts.0
   spelled_here p (d ∷ v) [] one two at =
       let r = byte_here T p x xs clear at in
-      spelled_more T p d v ∙ ap (λ b. b && is_word_at T (behind T p) v)
+      spelled_more T p d v ∙ ap (λ b. b && is_word_at T (past_byte T p) v)
       (is_here d r ∙ ender x d ends_it (plain_parts d v one).0)
   spelled_here p (d ∷ v) (c ∷ w) one two at =
       let parts = plain_parts c w two in
       let r = byte_here T p c (w ++ x ∷ xs) parts.1 at in
-      spelled_more T p d v ∙ ap (λ b. b && is_word_at T (behind T p) v) (is_here d r)
+      spelled_more T p d v ∙ ap (λ b. b && is_word_at T (past_byte T p) v) (is_here d r)
       ∙ ap (λ b. c == d && b) (ap (λ q. is_word_at T q v) r.behind_it
       ∙ spelled_here (p + 1) v w (plain_parts d v one).2 parts.2 r.rest)
 
@@ -613,8 +613,8 @@ pub word_no_longer : (T : List ℕ) (q : ℕ) → token_at Suffix T q ≡ tokens
 word_no_longer T q word = record {
   less = no_such_byte T q 60 word refl;
   greater = no_such_byte T q 62 word refl;
-  ampersand = no_such_byte T q 38 word (no_word_of (stands T (behind T q) 38) tokens.AndIf tokens.Ampersand refl refl);
-  bar = no_such_byte T q 124 word (no_word_of (stands T (behind T q) 124) tokens.OrIf tokens.Pipe refl refl);
+  ampersand = no_such_byte T q 38 word (no_word_of (stands T (past_byte T q) 38) tokens.AndIf tokens.Ampersand refl refl);
+  bar = no_such_byte T q 124 word (no_word_of (stands T (past_byte T q) 124) tokens.OrIf tokens.Pipe refl refl);
 }
   where
     no_word_of : (b : Bool) (t u : Token) → is_word t ≡ false → is_word u ≡ false → is_word (cond b t u) ≡ false

@@ -3,7 +3,7 @@
 use Rattle.std.proofs.Common.{◌≡◌, ℕ, Bool, Ok, Err, List, List as Row, drop, refl, sym, subst, ◌∙◌}
 use Rattle.shgrammar.specs.declared.edition.Edition.TheVariants.{Y2017}
 use Rattle.shgrammar.specs.declared.fault.FaultKind.{FaultKind}
-use Rattle.shgrammar.specs.Form.{Comes, Form, Read, Spelled, Step, Told, give, see, move, push, stop, both, when, token, loop, ends_as, change, with_bytes, a_level, in_substitution, Just, Then, and_then, or_stops, Either, holds, fails, OneToken, whole, broken_off, Turns, last, rests, more, halts, Ending, goes_through, stops_inside, WithBytes, with_its_bytes, without_bytes, OwnLevel, level_read, level_stops, may}
+use Rattle.shgrammar.specs.Form.{Comes, Form, Read, Spelled, Step, Telling, give, see, move, push, stop, both, when, token, loop, ends_as, change, with_bytes, a_level, in_substitution, Just, Then, and_then, or_stops, Either, holds, fails, OneToken, whole, broken_off, Turns, last, rests, more, halts, Ending, goes_through, stops_inside, WithBytes, with_its_bytes, without_bytes, OwnLevel, level_read, level_stops, may}
 use Rattle.shgrammar.specs.HereDocuments.{own_level}
 use Rattle.shgrammar.specs.Scripts.{AScript, Lines, Outcome, SoFar, is_blank_line, line_ended, last_line, faulty, the_line}
 use Rattle.shgrammar.specs.Sights.{Given, Sight, State, given, here, the_byte, the_piece, the_rest, the_end, a_raw, last_backslash, the_token, the_comment, is_a_name, a_document_waits, the_delimiter, seen}
@@ -44,7 +44,7 @@ each_either : {X : Type 0} {r r2 q q2 : Comes X} {b c : Bool} → b ≡ c → Ea
 each_either same one two s y k (holds is p) = holds (sym same ∙ is) (one s y k p)
 each_either same one two s y k (fails is p) = fails (sym same ∙ is) (two s y k p)
 
-each_token : {X : Type 0} (told : Told) (g : Given) {r r2 : Comes X} → Each r r2 →
+each_token : {X : Type 0} (told : Telling) (g : Given) {r r2 : Comes X} → Each r r2 →
     Each (OneToken told g r) (OneToken told g r2)
 each_token told g one s y k (whole {x = x} {t = t} {k = k1} p) = whole (one s (Ok (x, t)) k1 p)
 each_token told g one s y k (broken_off {f = f} p) = broken_off (one s (Err f) k p)

@@ -5,7 +5,7 @@ use Rattle.shtext.specs.declared.change.Change.{Change}
 use Rattle.shtext.specs.declared.edited.Edited.{Edited}
 use Rattle.shtext.specs.declared.filling.Filling.{Filling}
 use Rattle.shtext.specs.Chunks.{joined, needed, seam_most}
-use Rattle.shtext.specs.Edit.{ASplice, AreAllowed, edited, first_begin, last_end, new_end, one, spliced}
+use Rattle.shtext.specs.Edit.{ASplice, AreAllowed, edited, first_begin, last_end, new_end, one_splice, spliced}
 
 -- the bytes of a buffer
 abbrev pub buffer_bytes : Buffer → List ℕ
@@ -39,7 +39,7 @@ pub record HasRoom (buffer : Buffer) (more : ℕ) : Type 0 where
 -- a change fits a buffer
 pub record Fits (buffer : Buffer) (change : Change) : Type 0 where
   -- its places are there, and it makes no text that is too large
-  pub allowed : AreAllowed (buffer_bytes buffer) (one change.start change.end change.new.items)
+  pub allowed : AreAllowed (buffer_bytes buffer) (one_splice change.start change.end change.new.items)
   -- the bytes between its places are those that it keeps
   pub old : take (change.end - change.start) (drop change.start (buffer_bytes buffer)) ≡ change.old.items
   -- there is room for what it makes

@@ -18,8 +18,8 @@ pub record ASplice : Type 0 where
   pub bytes : List ℕ
 
 -- one splice, as a list of them
-abbrev pub one : ℕ → ℕ → List ℕ → Row ASplice
-one a b bytes = record { a = a; b = b; bytes = bytes } ∷ []
+abbrev pub one_splice : ℕ → ℕ → List ℕ → Row ASplice
+one_splice a b bytes = record { a = a; b = b; bytes = bytes } ∷ []
 
 -- the splices that a slice holds
 abbrev pub splices_of : Row Splice → Row ASplice

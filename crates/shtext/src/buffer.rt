@@ -1,7 +1,7 @@
 //! A text that is edited.
 ghost use Rattle.std.specs.Prelude.{◌≡◌, ◌+◌, ◌*◌, ◌<◌, ◌≤◌, [], IfErr, IfOk, IsOk, OnOk, length};
 ghost use Rattle.shtext.specs.Chunks.{AreFull, EachHas, HasSums, begin_of, ends_of, fewest, joined, lines_of, most};
-ghost use Rattle.shtext.specs.Edit.{AreAllowed, Refuses, limit, one};
+ghost use Rattle.shtext.specs.Edit.{AreAllowed, Refuses, limit, one_splice};
 ghost use Rattle.shtext.specs.Text.{IsRun};
 
 use crate::allow::Tally;
@@ -62,7 +62,7 @@ impl Buffer {
     pub fn from_slice(alloc: Global, bytes: &[u8]) -> Result<Buffer, TextError>
         ensures bytes { IfOk result (λ buffer. buffer_bytes buffer ≡ bytes.now) }
         ensures allowed { IfOk result (λ buffer. length bytes.now ≤ limit) }
-        ensures err { IfErr result (Refuses [] (one 0 0 bytes.now)) }
+        ensures err { IfErr result (Refuses [] (one_splice 0 0 bytes.now)) }
         ensures empty { length bytes.now ≡ 0 → IsOk result }
     {
         if bytes.is_empty() {
@@ -152,8 +152,8 @@ impl Source for Buffer {
 
 /// Whether a text may be of these bytes.
 fn may_be_text(bytes: &[u8]) -> Result<(), TextError>
-    ensures ok { OnOk result (AreAllowed [] (one 0 0 bytes.now)) }
-    ensures err { IfErr result (Refuses [] (one 0 0 bytes.now)) }
+    ensures ok { OnOk result (AreAllowed [] (one_splice 0 0 bytes.now)) }
+    ensures err { IfErr result (Refuses [] (one_splice 0 0 bytes.now)) }
 {
     let mut tally = Tally::new(0);
     tally.add(0, 0, bytes.len());

@@ -2,7 +2,7 @@
 ghost use Rattle.std.specs.Prelude.{◌≡◌, ◌⊎◌, ◌+◌, ◌-◌, ◌<◌, ◌≤◌, ◌++◌, ◌↔◌, [], ℕ, IfErr, IfOk, IsTrue, OnOk, drop, length, slice_range, take, vec_capacity, vec_len};
 ghost use Rattle.shtext.specs.Buffer.{Fits, HasChunks, HasRoom, Makes, buffer_bytes, changed, edited_bytes, with_splices};
 ghost use Rattle.shtext.specs.Chunks.{HoldsPart, LeavesFull, around, around_count, begin_of, fewest, most, needed, put_between, seam_most};
-ghost use Rattle.shtext.specs.Edit.{AreInRange, Refuses, RiseFrom, IsTally, first_begin, limit, one, splices_of};
+ghost use Rattle.shtext.specs.Edit.{AreInRange, Refuses, RiseFrom, IsTally, first_begin, limit, one_splice, splices_of};
 ghost use Rattle.shtext.specs.declared.change.Change.{Change};
 
 use crate::allow::{LIMIT, Tally};
@@ -40,8 +40,8 @@ impl Buffer {
     pub fn prepare(&mut self, a: usize, b: usize, bytes: &[u8]) -> Result<Change, TextError>
         ensures bytes { buffer_bytes self.new ≡ buffer_bytes self.old }
         ensures fits { IfOk result (Fits self.new) }
-        ensures change { IfOk result (Makes (buffer_bytes self.old) (one a b bytes.now)) }
-        ensures err { IfErr result (Refuses (buffer_bytes self.old) (one a b bytes.now)) }
+        ensures change { IfOk result (Makes (buffer_bytes self.old) (one_splice a b bytes.now)) }
+        ensures err { IfErr result (Refuses (buffer_bytes self.old) (one_splice a b bytes.now)) }
         ensures others { (c : Change) → Fits self.old c → Fits self.new c }
     {
         self.prepare_all(&[Splice { a, b, bytes }])

@@ -8,7 +8,7 @@ use Rattle.shwindow.specs.Blocks.{IsPlace, block_at, first_of, in_one_row, lines
 use Rattle.shwindow.specs.Lines.{Reads, IsBoundary, IsRow, at_start, extent}
 use Rattle.shwindow.specs.Places.{in_block}
 use Rattle.shwindow.specs.declared.line.HeldLine.{HeldLine}
-use Rattle.shwindow.specs.declared.place.Place.{Place}
+use Rattle.shwindow.specs.declared.place.BlockPlace.{BlockPlace}
 use Rattle.shwindow.proofs.Rows.{extent_append, extent_none, extent_read, extent_whole, row_at}
 
 pub joined_append : {X : Type 0} (js ks : Row (Row X)) → in_one_row (js ++ ks) ≡ in_one_row js ++ in_one_row ks
@@ -104,7 +104,7 @@ joined_last n ks k more last is =
 
 -- ---- places
 
-pub place_split : {X : Type 0} (ks : Row (Row X)) (p : Place) → lines_before ks p ++ lines_from ks p ≡ in_one_row ks
+pub place_split : {X : Type 0} (ks : Row (Row X)) (p : BlockPlace) → lines_before ks p ++ lines_from ks p ≡ in_one_row ks
 place_split ks p =
     append_assoc (in_one_row (take p.block ks)) (take p.line (block_at ks p.block)) (lines_from ks p)
     ∙ ap (λ x. in_one_row (take p.block ks) ++ x) (
@@ -116,13 +116,13 @@ place_split ks p =
     ∙ joined_split p.block ks
 
 -- a line stands at a place in a block with lines
-pub place_line : {X : Type 0} (ks : Row (Row X)) (p : Place) → IsPlace ks p → 0 < length (block_at ks p.block) →
+pub place_line : {X : Type 0} (ks : Row (Row X)) (p : BlockPlace) → IsPlace ks p → 0 < length (block_at ks p.block) →
     p.line < length (block_at ks p.block)
 place_line ks p place some = ⊎_elim (λ (lt : 0 < p.line). place.line lt) (λ (le : p.line ≤ 0). omega (arith, some, le))
     (cases_lt 0 p.line)
 
 -- a place behind the first line of a block stands in a block
-pub place_block : {X : Type 0} (ks : Row (Row X)) (p : Place) → IsPlace ks p → 0 < p.line → p.block < length ks
+pub place_block : {X : Type 0} (ks : Row (Row X)) (p : BlockPlace) → IsPlace ks p → 0 < p.line → p.block < length ks
 place_block ks p place some =
     ⊎_elim (λ (lt : p.block < length ks). lt)
     (λ (high : length ks ≤ p.block). let none = ap length (get_or_past ks p.block [] high) in
@@ -130,7 +130,7 @@ place_block ks p place some =
     (cases_lt p.block (length ks))
 
 -- the line at a place, and those behind it
-pub from_line : {X : Type 0} (ks : Row (Row X)) (p : Place) (d : X) → p.line < length (block_at ks p.block)
+pub from_line : {X : Type 0} (ks : Row (Row X)) (p : BlockPlace) (d : X) → p.line < length (block_at ks p.block)
     → lines_from ks p ≡ get_or (block_at ks p.block) p.line d
     ∷ (drop (p.line + 1) (block_at ks p.block) ++ in_one_row (drop (p.block + 1) ks))
 from_line ks p d low =
@@ -138,21 +138,21 @@ from_line ks p d low =
     (drop-cons (block_at ks p.block) p.line d low
     ∙ ap (λ m. get_or (block_at ks p.block) p.line d ∷ drop m (block_at ks p.block)) (sym (add-one p.line)))
 
-pub from_end : {X : Type 0} (ks : Row (Row X)) (p : Place) → length ks ≤ p.block → lines_from ks p ≡ []
+pub from_end : {X : Type 0} (ks : Row (Row X)) (p : BlockPlace) → length ks ≤ p.block → lines_from ks p ≡ []
 unfolding in_one_row
 from_end ks p high =
     let none = get_or_past ks p.block [] high in
     let more = drop_all (p.block + 1) ks (omega arith) in
     rw (none, more, drop-nil p.line) refl
 
-pub from_some : {X : Type 0} (ks : Row (Row X)) (p : Place) (x : X) → Some x ≡ first_of (lines_from ks p) →
+pub from_some : {X : Type 0} (ks : Row (Row X)) (p : BlockPlace) (x : X) → Some x ≡ first_of (lines_from ks p) →
     p.block < length ks
 from_some ks p x is =
     ⊎_elim (λ (lt : p.block < length ks). lt)
     (λ (high : length ks ≤ p.block). let none = ap first_of (from_end ks p high) in absurd cc)
     (cases_lt p.block (length ks))
 
-pub from_first : {X : Type 0} (ks : Row (Row X)) (p : Place) (h : X) → p.line < length (block_at ks p.block) →
+pub from_first : {X : Type 0} (ks : Row (Row X)) (p : BlockPlace) (h : X) → p.line < length (block_at ks p.block) →
     h ≡ get_or (block_at ks p.block) p.line h → first_of (lines_from ks p) ≡ Some h
 from_first ks p h low is = ap first_of (from_line ks p h low) ∙ ap Some (sym is)
 
@@ -165,12 +165,12 @@ first_none [] is = refl
 first_none (y ∷ ys) is = absurd cc
 
 -- all lines, by one of them, and by the last
-pub by_line : {X : Type 0} (ks : Row (Row X)) (p : Place) (last h : X) (hs : Row X) → lines_from ks p ≡ h ∷ hs →
+pub by_line : {X : Type 0} (ks : Row (Row X)) (p : BlockPlace) (last h : X) (hs : Row X) → lines_from ks p ≡ h ∷ hs →
     in_one_row ks ++ last ∷ [] ≡ lines_before ks p ++ h ∷ (hs ++ last ∷ [])
 by_line ks p last h hs from = ap (λ x. x ++ last ∷ []) (sym (place_split ks p) ∙ ap (λ x. lines_before ks p ++ x) from)
     ∙ append_assoc (lines_before ks p) (h ∷ hs) (last ∷ [])
 
-pub by_last : {X : Type 0} (ks : Row (Row X)) (p : Place) (last : X) → lines_from ks p ≡ [] →
+pub by_last : {X : Type 0} (ks : Row (Row X)) (p : BlockPlace) (last : X) → lines_from ks p ≡ [] →
     in_one_row ks ++ last ∷ [] ≡ lines_before ks p ++ last ∷ []
 by_last ks p last from = ap (λ x. x ++ last ∷ [])
     (sym (place_split ks p) ∙ ap (λ x. lines_before ks p ++ x) from ∙ append-nil (lines_before ks p))
@@ -183,12 +183,12 @@ drop_some (x ∷ xs) n low = (
   drop-cons (x ∷ xs) n x low ∙ ap (λ m. get_or (x ∷ xs) n x ∷ drop m (x ∷ xs)) (sym (add-one n)),
 )
 
-pub behind_within : {X : Type 0} (ks : Row (Row X)) (p : Place) → p.line < length (block_at ks p.block) → (x : X)
+pub behind_within : {X : Type 0} (ks : Row (Row X)) (p : BlockPlace) → p.line < length (block_at ks p.block) → (x : X)
     × (lines_from ks p ≡ x ∷ lines_from ks (record { block = p.block; line = p.line + 1 }))
 behind_within ks p low = let some = drop_some (block_at ks p.block) p.line low in
     (some.0, ap (λ x. x ++ in_one_row (drop (p.block + 1) ks)) some.1)
 
-pub behind_out : {X : Type 0} (ks : Row (Row X)) (p : Place) → p.line < length (block_at ks p.block) →
+pub behind_out : {X : Type 0} (ks : Row (Row X)) (p : BlockPlace) → p.line < length (block_at ks p.block) →
     length (block_at ks p.block) ≤ p.line + 1
     → (x : X) × (lines_from ks p ≡ x ∷ lines_from ks (record { block = p.block + 1; line = 0 }))
 behind_out ks p low high =
@@ -222,7 +222,7 @@ cut_parts ks n k l low new is =
     )
 
 -- the lines on both sides of the cut
-pub cut_joined : {X : Type 0} (ks : Row (Row X)) (p : Place) (k l : Row X) → p.block < length ks →
+pub cut_joined : {X : Type 0} (ks : Row (Row X)) (p : BlockPlace) (k l : Row X) → p.block < length ks →
     k ≡ take p.line (block_at ks p.block) → l ≡ drop p.line (block_at ks p.block) → (new : Row (Row X))
     → new ≡ take (p.block + 1) (set ks p.block k) ++ l ∷ drop (p.block + 1) (set ks p.block k) →
     (in_one_row (take (p.block + 1) new) ≡ lines_before ks p)
@@ -235,7 +235,7 @@ cut_joined ks p k l low before behind new is =
     )
 
 -- no line changes
-pub cut_all : {X : Type 0} (ks new : Row (Row X)) (p : Place) (n : ℕ) → in_one_row (take n new) ≡ lines_before ks p →
+pub cut_all : {X : Type 0} (ks new : Row (Row X)) (p : BlockPlace) (n : ℕ) → in_one_row (take n new) ≡ lines_before ks p →
     in_one_row (drop n new) ≡ lines_from ks p → in_one_row new ≡ in_one_row ks
 cut_all ks new p n before from = sym (joined_split n new) ∙ ap (λ x. x ++ in_one_row (drop n new)) before
     ∙ ap (λ x. lines_before ks p ++ x) from ∙ place_split ks p
@@ -300,7 +300,7 @@ joined_between ks new m n = joined_append (take m ks) (new ++ drop n ks)
     ∙ ap (λ x. in_one_row (take m ks) ++ x) (joined_append new (drop n ks))
 
 -- a block that keeps the lines before a place
-pub kept_joined : {X : Type 0} (ks : Row (Row X)) (p : Place) (k : Row X) → p.block < length ks →
+pub kept_joined : {X : Type 0} (ks : Row (Row X)) (p : BlockPlace) (k : Row X) → p.block < length ks →
     k ≡ take p.line (block_at ks p.block) → in_one_row (take (p.block + 1) (set ks p.block k)) ≡ lines_before ks p
 kept_joined ks p k low is = ap in_one_row (take_more_set ks p.block k low) ∙ joined_push (take p.block ks) k
     ∙ ap (λ x. in_one_row (take p.block ks) ++ x) is
@@ -312,7 +312,7 @@ between_parts front head new tail rest =
     ap (λ x. front ++ x) (append_assoc head (new ++ tail) rest ∙ ap (λ x. head ++ x) (append_assoc new tail rest))
     ∙ sym (append_assoc front head (new ++ (tail ++ rest)))
 
-pub between_joined : {X : Type 0} (ks : Row (Row X)) (p : Place) (to : ℕ) (new k : Row X) → p.block < length ks →
+pub between_joined : {X : Type 0} (ks : Row (Row X)) (p : BlockPlace) (to : ℕ) (new k : Row X) → p.block < length ks →
     k ≡ take p.line (block_at ks p.block) ++ (new ++ drop to (block_at ks p.block))
     → in_one_row (set ks p.block k) ≡ lines_before ks p ++ (new ++ lines_from ks (in_block p to))
 between_joined ks p to new k low is =
@@ -324,7 +324,7 @@ between_joined ks p to new k low is =
 -- ---- bytes of lines in blocks
 
 -- those of the block then are among all
-pub extent_between_blocks : {K : Type 0} (ks : Row (Row (HeldLine K))) (p : Place) (to : ℕ) (new : Row (HeldLine K))
+pub extent_between_blocks : {K : Type 0} (ks : Row (Row (HeldLine K))) (p : BlockPlace) (to : ℕ) (new : Row (HeldLine K))
     → extent (take p.line (block_at ks p.block) ++ (new ++ drop to (block_at ks p.block))) ≤ extent
     (lines_before ks p ++ (new ++ lines_from ks (in_block p to)))
 extent_between_blocks ks p to new =
@@ -359,14 +359,14 @@ unfolding in_one_row
 extent_no_blocks K = extent_none K
 
 -- A place was found for an offset: the first line that ends behind it.
-pub record Found {K : Type 0} (ks : Row (Row (HeldLine K))) (at : ℕ) (p : Place) (begin : ℕ) : Type 0 where
+pub record Found {K : Type 0} (ks : Row (Row (HeldLine K))) (at : ℕ) (p : BlockPlace) (begin : ℕ) : Type 0 where
   pub place : IsPlace ks p
   pub begin_is : begin ≡ extent (lines_before ks p)
   pub low : begin ≤ at
   pub past : (h : HeldLine K) (hs : Row (HeldLine K)) → lines_from ks p ≡ h ∷ hs → at < begin + h.len
 
 -- what was found in the block with a line that ends behind it
-found_at : {K : Type 0} (ks : Row (Row (HeldLine K))) (at : ℕ) (p : Place) (before begin : ℕ) → p.block < length ks →
+found_at : {K : Type 0} (ks : Row (Row (HeldLine K))) (at : ℕ) (p : BlockPlace) (before begin : ℕ) → p.block < length ks →
     before ≡ extent (in_one_row (take p.block ks)) → p.line < length (block_at ks p.block)
     → begin ≡ before + extent (take p.line (block_at ks p.block)) → begin ≤ at →
     at < before + extent (take (p.line + 1) (block_at ks p.block)) → Found ks at p begin
@@ -386,7 +386,7 @@ found_at ks at p before begin low is within begins high past = record {
       omega (arith, past, begins, more);
 }
 
-pub found_in : {K : Type 0} (ks : Row (Row (HeldLine K))) (at : ℕ) (p : Place) (k : Row (HeldLine K)) (before begin : ℕ)
+pub found_in : {K : Type 0} (ks : Row (Row (HeldLine K))) (at : ℕ) (p : BlockPlace) (k : Row (HeldLine K)) (before begin : ℕ)
     → p.block < length ks → k ≡ block_at ks p.block → before ≡ extent (in_one_row (take p.block ks)) →
     at < before + extent k
     → p.line ≤ length k → begin ≡ before + extent (take p.line k) → begin ≤ at →
@@ -403,7 +403,7 @@ found_in {K = K} ks at p k before begin low same is =
     absurd (omega (arith, whole, begins, high, past)))
     (cases_lt p.line (length (block_at ks p.block))))
 
-pub found_end : {K : Type 0} (ks : Row (Row (HeldLine K))) (at : ℕ) (p : Place) (begin : ℕ) → p.block ≡ length ks →
+pub found_end : {K : Type 0} (ks : Row (Row (HeldLine K))) (at : ℕ) (p : BlockPlace) (begin : ℕ) → p.block ≡ length ks →
     IsPlace ks p → lines_from ks p ≡ [] → begin ≡ extent (in_one_row ks) → begin ≤ at → Found ks at p begin
 found_end ks at p begin is place none begins high = record {
   place = place;

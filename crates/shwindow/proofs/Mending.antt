@@ -6,7 +6,7 @@ use Rattle.shwindow.specs.Held.{RoseWithinWindow, RoseByWindow}
 use Rattle.shwindow.specs.Lines.{IsBoundary, IsRow, Reads, at_start, extent}
 use Rattle.shwindow.specs.Meter.{RoseWithin, risen}
 use Rattle.shwindow.specs.Reading.{IsBegun}
-use Rattle.shwindow.specs.declared.place.Place.{Place}
+use Rattle.shwindow.specs.declared.place.BlockPlace.{BlockPlace}
 use Rattle.shwindow.specs.Window.{Apart, Begins, Ends}
 use Rattle.shwindow.proofs.Joined.{place_split}
 use Rattle.shwindow.proofs.Reading.{push_some, rose}
@@ -15,7 +15,7 @@ use Rattle.shwindow.proofs.Steps.{begins_here}
 use Rattle.shwindow.proofs.Windows.{begins_only, front_stays, window_only}
 
 -- all lines are those before a place and those from it on
-pub cut_split : {K : Type 0} (ks : Row (Row (HeldLine K))) (p : Place) (last : HeldLine K) (hs left : Row (HeldLine K))
+pub cut_split : {K : Type 0} (ks : Row (Row (HeldLine K))) (p : BlockPlace) (last : HeldLine K) (hs left : Row (HeldLine K))
     → in_one_row ks ++ last ∷ [] ≡ hs → left ≡ lines_from ks p ++ last ∷ [] → hs ≡ lines_before ks p ++ left
 cut_split ks p last hs left all is =
     sym all

@@ -4,13 +4,13 @@ use Rattle.std.proofs.lemmas.Bool.{cases_lt}
 use Rattle.std.proofs.lemmas.List.{drop_all, get_or_past, get_or-take, take-take}
 use Rattle.shwindow.specs.Blocks.{IsPlace, block_at, in_one_row, lines_before, lines_from}
 use Rattle.shwindow.specs.Places.{IsNotBehind, in_block}
-use Rattle.shwindow.specs.declared.place.Place.{Place}
+use Rattle.shwindow.specs.declared.place.BlockPlace.{BlockPlace}
 use Rattle.shwindow.proofs.Joined.{joined_at}
 
-pub not_behind_itself : (p : Place) → IsNotBehind p p
+pub not_behind_itself : (p : BlockPlace) → IsNotBehind p p
 not_behind_itself p = record { block = omega arith; line = λ _. omega arith }
 
-pub not_behind_more : (p q r : Place) → IsNotBehind p q → IsNotBehind q r → IsNotBehind p r
+pub not_behind_more : (p q r : BlockPlace) → IsNotBehind p q → IsNotBehind q r → IsNotBehind p r
 not_behind_more p q r one two = record {
   block = let a = one.block in let b = two.block in omega arith;
   line = λ same.
@@ -24,7 +24,7 @@ not_behind_more p q r one two = record {
 }
 
 -- no place is behind that behind all blocks
-pub not_behind_end : {X : Type 0} (ks : Row (Row X)) (p q : Place) → IsPlace ks p → q.block ≡ length ks →
+pub not_behind_end : {X : Type 0} (ks : Row (Row X)) (p q : BlockPlace) → IsPlace ks p → q.block ≡ length ks →
     IsNotBehind p q
 not_behind_end ks p q place is = record {
   block = let within = place.block in omega arith;
@@ -35,7 +35,7 @@ not_behind_end ks p q place is = record {
 }
 
 -- the lines from the place behind the last line of a block on are those of the next blocks
-pub from_next : {X : Type 0} (ks : Row (Row X)) (p q : Place) (n : ℕ) → q.block ≡ p.block + 1 → q.line ≡ 0 →
+pub from_next : {X : Type 0} (ks : Row (Row X)) (p q : BlockPlace) (n : ℕ) → q.block ≡ p.block + 1 → q.line ≡ 0 →
     n ≡ length (block_at ks p.block) → lines_from ks (in_block p n) ≡ lines_from ks q
 from_next ks p q n block line is =
     ap (λ x. x ++ in_one_row (drop (p.block + 1) ks)) (drop_all n (block_at ks p.block) (omega (arith, is)))
@@ -46,7 +46,7 @@ from_next ks p q n block line is =
 -- ---- blocks that are cut at one place, and hold another place before it
 
 -- the block of a place that is not behind the cut has the same lines up to it
-module _ {X : Type 0} (ks new : Row (Row X)) (p q : Place) (order : IsNotBehind p q)
+module _ {X : Type 0} (ks new : Row (Row X)) (p q : BlockPlace) (order : IsNotBehind p q)
     (front : take q.block new ≡ take q.block ks)
     (head : take q.line (block_at new q.block) ≡ take q.line (block_at ks q.block)) where
   same_block : p.block < q.block → block_at new p.block ≡ block_at ks p.block

@@ -4,7 +4,7 @@ use Rattle.std.proofs.lemmas.List.{drop-drop, length-drop}
 use Rattle.shwindow.specs.declared.line.HeldLine.{HeldLine}
 use Rattle.shwindow.specs.declared.blocks.Blocks.{Blocks}
 use Rattle.shwindow.specs.declared.lines.Lines.{Lines}
-use Rattle.shwindow.specs.declared.place.Place.{Place}
+use Rattle.shwindow.specs.declared.place.BlockPlace.{BlockPlace}
 use Rattle.shwindow.specs.Blocks.{lines_from}
 use Rattle.shwindow.specs.Hand.{Passes}
 use Rattle.shwindow.specs.Lines.{Reads, extent, IsRow, last_line, more_lines}
@@ -25,11 +25,11 @@ push_some [] x none = cc
 push_some (y ∷ ys) x none = cc
 
 -- a walk over the same lines
-pub same_from : {K : Type 0} (o n : Lines K) (p : Place) → n.blocks ≡ o.blocks →
+pub same_from : {K : Type 0} (o n : Lines K) (p : BlockPlace) → n.blocks ≡ o.blocks →
     lines_from n.blocks.now.blocks.items p ≡ lines_from o.blocks.now.blocks.items p
 same_from {K = K} o n p blocks = ap (λ (x : Bor (Blocks K)). lines_from x.now.blocks.items p) blocks
 
-pub same_left : {K : Type 0} (o n : Lines K) (p : Place) → n.blocks ≡ o.blocks → n.last ≡ o.last
+pub same_left : {K : Type 0} (o n : Lines K) (p : BlockPlace) → n.blocks ≡ o.blocks → n.last ≡ o.last
     → lines_from n.blocks.now.blocks.items p ++ n.last.now ∷ [] ≡ lines_from o.blocks.now.blocks.items p ++ o.last.now
     ∷ []
 same_left {K = K} o n p blocks last = ap (λ (x : Row (HeldLine K)). x ++ n.last.now ∷ []) (same_from o n p blocks)

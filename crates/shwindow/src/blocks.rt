@@ -8,7 +8,7 @@ ghost use Rattle.shwindow.specs.declared.line.HeldLine.{HeldLine};
 
 use crate::block::{Block, MOST_LINES};
 use crate::line::HeldLine;
-use crate::place::Place;
+use crate::place::BlockPlace;
 use std::alloc::{AllocError, Global};
 
 /// Lines that ended, in order.
@@ -57,7 +57,7 @@ impl<K: Drop> Blocks<K> {
     }
 
     /// The line at a place; none behind all of them.
-    pub(crate) fn line(&self, place: Place) -> Option<&HeldLine<K>>
+    pub(crate) fn line(&self, place: BlockPlace) -> Option<&HeldLine<K>>
         requires { IsPlace self.now.blocks.items place }
         ensures { option_map (λ line. line.now) result
             ≡ first_of (lines_from self.now.blocks.items place) }
@@ -71,7 +71,7 @@ impl<K: Drop> Blocks<K> {
     }
 
     /// The place behind a line.
-    pub(crate) fn behind(&self, place: Place) -> Place
+    pub(crate) fn behind(&self, place: BlockPlace) -> BlockPlace
         requires place { IsPlace self.now.blocks.items place }
         requires within { place.block < vec_len self.now.blocks }
         ensures place { IsPlace self.now.blocks.items result }
@@ -83,12 +83,12 @@ impl<K: Drop> Blocks<K> {
         let block = &self.blocks[place.block];
         let last = block.lines().len() - 1;
         if place.line < last {
-            Place {
+            BlockPlace {
                 block: place.block,
                 line: place.line + 1,
             }
         } else {
-            Place {
+            BlockPlace {
                 block: place.block + 1,
                 line: 0,
             }
@@ -120,12 +120,12 @@ impl<K: Drop> Blocks<K> {
     }
 
     /// The place behind all of them.
-    pub(crate) fn end(&self) -> Place
+    pub(crate) fn end(&self) -> BlockPlace
         ensures place { IsPlace self.now.blocks.items result }
         ensures block { result.block ≡ vec_len self.now.blocks }
         ensures rest { lines_from self.now.blocks.items result ≡ [] }
     {
-        Place {
+        BlockPlace {
             block: self.blocks.len(),
             line: 0,
         }
@@ -133,7 +133,7 @@ impl<K: Drop> Blocks<K> {
 
     /// The first line that ends behind an offset, and where it begins; the place
     /// behind all of them, if none does.
-    pub(crate) fn find(&self, at: usize) -> (Place, usize)
+    pub(crate) fn find(&self, at: usize) -> (BlockPlace, usize)
         requires { extent (in_one_row self.now.blocks.items) < 2 ^ 64 }
         ensures place { IsPlace self.now.blocks.items result.0 }
         ensures begin { result.1 ≡ extent (lines_before self.now.blocks.items result.0) }
@@ -146,7 +146,7 @@ impl<K: Drop> Blocks<K> {
         'all: for (index, block) in self.blocks.iter().enumerate() {
             if at < begin + block.len() {
                 let (line, begin) = block.find(begin, at);
-                return (Place { block: index, line }, begin);
+                return (BlockPlace { block: index, line }, begin);
             }
             begin += block.len();
         }
@@ -155,7 +155,7 @@ impl<K: Drop> Blocks<K> {
 
     /// Cuts a block before a line, unless that is its first, and answers the block
     /// that begins there. No line changes.
-    pub(crate) fn cut(&mut self, place: Place) -> Result<usize, AllocError>
+    pub(crate) fn cut(&mut self, place: BlockPlace) -> Result<usize, AllocError>
         requires { IsPlace self.old.blocks.items place }
         ensures before { IfOk result
             (λ n. in_one_row (take n self.new.blocks.items)

@@ -9,7 +9,7 @@ ghost use Rattle.shwindow.specs.Window.{Apart};
 use crate::blocks::Blocks;
 use crate::line::{HeldLine, LineReader};
 use crate::lines::Lines;
-use crate::place::Place;
+use crate::place::BlockPlace;
 use crate::window::{Window, read_window};
 use shtext::Source;
 use std::alloc::{AllocError, Global};
@@ -135,6 +135,6 @@ impl<K: Drop> HeldLines<K> {
     pub fn lines(&self) -> Lines<'_, K>
         ensures { lines_left result ≡ self.now }
     {
-        Lines::new(&self.blocks, &self.last, Place { block: 0, line: 0 })
+        Lines::new(&self.blocks, &self.last, BlockPlace { block: 0, line: 0 })
     }
 }

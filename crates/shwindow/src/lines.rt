@@ -5,14 +5,14 @@ ghost use Rattle.shwindow.specs.Places.{IsNotBehind};
 
 use crate::blocks::Blocks;
 use crate::line::HeldLine;
-use crate::place::Place;
+use crate::place::BlockPlace;
 
 /// Lines in order, down to the one that did not end.
 #[derive(Drop)]
 pub struct Lines<'a, K> {
     blocks: &'a Blocks<K>,
     last: &'a HeldLine<K>,
-    pub(crate) place: Place,
+    pub(crate) place: BlockPlace,
     /// The one that did not end is passed too.
     pub(crate) past: bool,
     ghost is_place: { IsPlace blocks.now.blocks.items place },
@@ -23,7 +23,7 @@ impl<'a, K: Drop> Lines<'a, K> {
     ghost use Rattle.shwindow.specs.Walks.{lines_left};
 
     /// The lines from a place on, and then the last one.
-    pub(crate) fn new(blocks: &'a Blocks<K>, last: &'a HeldLine<K>, place: Place) -> Lines<'a, K>
+    pub(crate) fn new(blocks: &'a Blocks<K>, last: &'a HeldLine<K>, place: BlockPlace) -> Lines<'a, K>
         requires { IsPlace blocks.now.blocks.items place }
         ensures left { lines_left result ≡ lines_from blocks.now.blocks.items place ++ last.now
             ∷ [] }
@@ -40,7 +40,7 @@ impl<'a, K: Drop> Lines<'a, K> {
     }
 
     /// The place behind the lines that ended.
-    pub(crate) fn end(&self) -> Place
+    pub(crate) fn end(&self) -> BlockPlace
         ensures place { IsPlace self.now.blocks.now.blocks.items result }
         ensures order { IsNotBehind self.now.place result }
         ensures rest { lines_from self.now.blocks.now.blocks.items result ≡ [] }

@@ -2,7 +2,7 @@
 
 /// A line among lines in blocks, by its block and where it stands there; or the place behind all of them.
 #[derive(Clone, Copy, Debug)]
-pub(crate) struct Place {
+pub(crate) struct BlockPlace {
     pub(crate) block: usize,
     pub(crate) line: usize,
 }

@@ -6,7 +6,7 @@ ghost use Rattle.shwindow.specs.Places.{GivesWay, IsNotBehind, in_block};
 
 use crate::block::MOST_LINES;
 use crate::blocks::Blocks;
-use crate::place::Place;
+use crate::place::BlockPlace;
 use shtext::replace_items;
 use std::alloc::AllocError;
 
@@ -14,8 +14,8 @@ impl<K: Drop> Blocks<K> {
     /// Puts other lines in the place of those from one place up to another.
     pub(crate) fn replace_lines(
         &mut self,
-        from: Place,
-        upto: Place,
+        from: BlockPlace,
+        upto: BlockPlace,
         new: Blocks<K>,
     ) -> Result<(), AllocError>
         requires from { IsPlace self.old.blocks.items from }
@@ -38,7 +38,7 @@ impl<K: Drop> Blocks<K> {
 
     /// The line of a block before which lines give way, where all that do are lines of that
     /// block from a place on. It may be the one behind the last.
-    fn end_in_block(&self, from: Place, upto: Place) -> Option<usize>
+    fn end_in_block(&self, from: BlockPlace, upto: BlockPlace) -> Option<usize>
         requires from { IsPlace self.now.blocks.items from }
         requires upto { IsPlace self.now.blocks.items upto }
         requires order { IsNotBehind from upto }
@@ -60,7 +60,7 @@ impl<K: Drop> Blocks<K> {
     }
 
     /// The same, where few lines come and the block is left with some, but not with too many.
-    fn end_by_count(&self, from: Place, upto: Place, new: &Blocks<K>) -> Option<usize>
+    fn end_by_count(&self, from: BlockPlace, upto: BlockPlace, new: &Blocks<K>) -> Option<usize>
         requires from { IsPlace self.now.blocks.items from }
         requires upto { IsPlace self.now.blocks.items upto }
         requires order { IsNotBehind from upto }
@@ -88,7 +88,7 @@ impl<K: Drop> Blocks<K> {
     ///
     /// Neighbours are made one only where lines have become fewer: what is the rule,
     /// that one gives way to one, moves no line.
-    fn replace_in_block(&mut self, from: Place, to: usize, new: Blocks<K>) -> Result<(), AllocError>
+    fn replace_in_block(&mut self, from: BlockPlace, to: usize, new: Blocks<K>) -> Result<(), AllocError>
         requires gives { GivesWay self.old.blocks.items from to }
         requires few { vec_len new.blocks ≤ 1 }
         requires some { to - from.line < length (block_at self.old.blocks.items from.block) + length
@@ -116,7 +116,7 @@ impl<K: Drop> Blocks<K> {
 
     /// Puts other lines in the place of those from a place up to a block. The place
     /// may be behind the last line of its block.
-    fn replace_from(&mut self, from: Place, to: usize, new: Blocks<K>) -> Result<(), AllocError>
+    fn replace_from(&mut self, from: BlockPlace, to: usize, new: Blocks<K>) -> Result<(), AllocError>
         requires order { from.block ≤ to }
         requires within { to ≤ vec_len self.old.blocks }
         requires kept { 0 < from.line → (from.block < to)
@@ -144,7 +144,7 @@ impl<K: Drop> Blocks<K> {
 
     /// Takes the lines of a block from a place on, which is before another block, and
     /// answers the block behind the lines that it keeps.
-    fn keep_before(&mut self, place: Place, to: usize) -> usize
+    fn keep_before(&mut self, place: BlockPlace, to: usize) -> usize
         requires order { place.block ≤ to }
         requires within { to ≤ vec_len self.old.blocks }
         requires kept { 0 < place.line → (place.block < to)

@@ -12,7 +12,7 @@ ghost use Rattle.shwindow.specs.Window.{Ends};
 use crate::blocks::Blocks;
 use crate::line::{HeldLine, LineReader};
 use crate::lines::Lines;
-use crate::place::Place;
+use crate::place::BlockPlace;
 use shtext::Source;
 use std::alloc::{AllocError, Global};
 
@@ -22,7 +22,7 @@ pub(crate) struct Window<K> {
     /// The lines that ended.
     pub(crate) lines: Blocks<K>,
     /// The old lines before this place give way, and those from it on stay.
-    pub(crate) upto: Place,
+    pub(crate) upto: BlockPlace,
     /// The line that did not end, where the window reaches the end of the text.
     pub(crate) last: Option<HeldLine<K>>,
 }

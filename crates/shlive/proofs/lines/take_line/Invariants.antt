@@ -1,5 +1,5 @@
 use Rattle.std.proofs.Common.{◌<◌, ◌+◌, ◌-◌, List, ℕ, length}
-use Rattle.shlive.specs.Ahead.{IsOpen, Takes, ahead_of, too_many}
+use Rattle.shlive.specs.Ahead.{IsOpen, TakesBytes, ahead_of, too_many}
 use Rattle.shlive.specs.Lines.{IsInLine, KeepsText}
 use Rattle.shlive.proofs.lines.take_line.Given as goal
 
@@ -7,7 +7,7 @@ abbrev pub invariant-bytes : goal.invariant-bytes
 invariant-bytes g l =
     IsOpen l.input × (l.incoming.count < too_many)
     × ((text : List ℕ) × IsInLine text × KeepsText l.line text
-    × Takes (ahead_of g.R.Read.remaining l.fn.input l.fn.incoming)
+    × TakesBytes (ahead_of g.R.Read.remaining l.fn.input l.fn.incoming)
     (ahead_of g.R.Read.remaining l.input l.incoming) text)
 
 abbrev pub decreases-bytes : goal.decreases-bytes

@@ -2,7 +2,7 @@ use Rattle.std.proofs.Common.{◌≡◌, ◌++◌, [], ◌∷◌, ◌∙◌, Lis
 use Rattle.std.proofs.lemmas.Result.{err_from_is_err_and}
 use Rattle.shtext.specs.Edit.{ASplice, IsTally}
 use Rattle.shtext.specs.Device.{input_ended, input_failed}
-use Rattle.shlive.specs.Ahead.{StopsBy, Takes, ahead_of}
+use Rattle.shlive.specs.Ahead.{StopsBy, TakesBytes, ahead_of}
 use Rattle.shlive.specs.Parts.{AreSplices}
 use Rattle.shlive.specs.Requests.{Sense, splice_by, unfinished, with_bytes}
 use Rattle.shlive.proofs.Asked.{behind_none, behind_some, bytes_cut_line, bytes_whole}
@@ -19,7 +19,7 @@ returns-in_err-line-clause-cut g c =
     let start = ahead c.args.input.now c.args.incoming.now in
     let new = ahead c.take_line.new.input c.take_line.new.incoming in
     rw e.1
-    (subst (λ stop. (taken : List ℕ) × Takes start new taken
+    (subst (λ stop. (taken : List ℕ) × TakesBytes start new taken
     × ((next : ASplice → Sense) → with_bytes part next taken ≡ unfinished)
     × StopsBy stop (input_failed c.take_line.new.input) (input_ended c.take_line.new.input) new)
     (sym e.2) (

@@ -1,6 +1,6 @@
 use Rattle.std.proofs.Common.{◌≡◌, ◌+◌, ◌<◌, ◌++◌, [], List, List as Row, ℕ, length}
 use Rattle.shtext.specs.Edit.{ASplice}
-use Rattle.shlive.specs.Ahead.{IsOpen, Takes, ahead_of, too_many}
+use Rattle.shlive.specs.Ahead.{IsOpen, TakesBytes, ahead_of, too_many}
 use Rattle.shlive.specs.Parts.{Hold}
 use Rattle.shlive.specs.Requests.{more_parts}
 use Rattle.shlive.proofs.parts.take_parts.Given as goal
@@ -10,7 +10,7 @@ invariant-parts g l = record {
   reads : IsOpen l.input;
   few : l.incoming.count < too_many;
   so : (taken : List ℕ) × (ss : Row ASplice)
-      × Takes (ahead_of g.R.Read.remaining l.fn.input l.fn.incoming)
+      × TakesBytes (ahead_of g.R.Read.remaining l.fn.input l.fn.incoming)
       (ahead_of g.R.Read.remaining l.input l.incoming) taken
       × ((rest : List ℕ) → more_parts l.count [] (taken ++ rest) ≡ more_parts l.left ss rest)
       × ((len : ℕ) → Hold l.fn.parts len [] → Hold l.parts len ss)

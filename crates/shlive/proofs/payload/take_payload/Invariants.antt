@@ -1,5 +1,5 @@
 use Rattle.std.proofs.Common.{◌≡◌, ◌<◌, ◌+◌, List, ℕ, length, option_map}
-use Rattle.shlive.specs.Ahead.{IsOpen, Takes, ahead_of, too_many}
+use Rattle.shlive.specs.Ahead.{IsOpen, TakesBytes, ahead_of, too_many}
 use Rattle.shlive.specs.Payload.{AreKept}
 use Rattle.shlive.proofs.payload.take_payload.Given as goal
 
@@ -7,7 +7,7 @@ abbrev pub invariant-pieces : goal.invariant-pieces
 invariant-pieces g l =
     IsOpen l.input × (l.incoming.count < too_many)
     × ((bytes : List ℕ) × (length bytes + l.left ≡ l.count) × AreKept (option_map (λ v. v.items) l.kept) bytes
-    × Takes (ahead_of g.R.Read.remaining l.fn.input l.fn.incoming)
+    × TakesBytes (ahead_of g.R.Read.remaining l.fn.input l.fn.incoming)
     (ahead_of g.R.Read.remaining l.input l.incoming) bytes)
 
 abbrev pub decreases-pieces : goal.decreases-pieces

@@ -1,6 +1,6 @@
 use Rattle.std.proofs.Common.{◌≡◌, ◌≤◌, ◌+◌, ℕ, List, List as Row, [], ap, arith, length, refl, subst, ◌∙◌}
 use Rattle.std.proofs.lemmas.List.{append-nil}
-use Rattle.shtext.specs.Edit.{AreAllowed, limit, one}
+use Rattle.shtext.specs.Edit.{AreAllowed, limit, one_splice}
 use Rattle.shtext.specs.Chunks.{HasSums, joined, ends_of, lines_of}
 use Rattle.shtext.proofs.Moving.{sums_on_none}
 use Rattle.shtext.proofs.Summing.{sums_none}
@@ -8,7 +8,7 @@ use Rattle.shtext.proofs.buffer.Buffer.from_slice.Goals as goal
 
 pub add_up_anew-requires-clause-small : goal.add_up_anew-requires-clause-small
 add_up_anew-requires-clause-small c =
-    let is : AreAllowed [] (one 0 0 c.args.bytes.now) = c.in_ok-may_be_text.ensures.ok in
+    let is : AreAllowed [] (one_splice 0 0 c.args.bytes.now) = c.in_ok-may_be_text.ensures.ok in
     let small : length c.args.bytes.now ≤ limit = rw (append-nil c.args.bytes.now) at is.small in
     let same = ap (λ ks. length (joined ks)) c.deref.ensures.value ∙ ap length c.in_ok-chunks.ensures.bytes in
     omega (arith, small, same)
@@ -31,7 +31,7 @@ add_up_anew-requires-clause-lines_on c =
 
 pub invariant_of-result : goal.invariant_of-result
 invariant_of-result c =
-    let is : AreAllowed [] (one 0 0 c.args.bytes.now) = c.in_ok-may_be_text.ensures.ok in
+    let is : AreAllowed [] (one_splice 0 0 c.args.bytes.now) = c.in_ok-may_be_text.ensures.ok in
     let small : length c.args.bytes.now ≤ limit = rw (append-nil c.args.bytes.now) at is.small in
     let value : c.deref.result.now ≡ c.in_ok-chunks.chunks.items = c.deref.ensures.value in
     let count = ap length value in

@@ -2,7 +2,7 @@ use Rattle.std.proofs.Common.{◌≡◌, ◌++◌, ◌∷◌, [], ◌∙◌, ℕ
 use Rattle.std.proofs.Common.{unwrap_or}
 use Rattle.shwindow.specs.declared.blocks.Blocks.{Blocks}
 use Rattle.shwindow.specs.declared.line.HeldLine.{HeldLine}
-use Rattle.shwindow.specs.declared.place.Place.{Place}
+use Rattle.shwindow.specs.declared.place.BlockPlace.{BlockPlace}
 use Rattle.shwindow.specs.Blocks.{IsPlace, in_one_row, lines_before, lines_from}
 use Rattle.shwindow.specs.Held.{RoseByWindow}
 use Rattle.shwindow.specs.Lines.{IsRow, extent}
@@ -91,7 +91,7 @@ replace_lines-requires-clause-upto g c =
 
 pub replace_lines-requires-clause-order : goal.replace_lines-requires-clause-order
 replace_lines-requires-clause-order g c =
-    subst (λ (p : Place). IsNotBehind p c.in_ok-lines.field-0.upto) c.new-old.ensures.place c.in_ok-lines.ensures.order
+    subst (λ (p : BlockPlace). IsNotBehind p c.in_ok-lines.field-0.upto) c.new-old.ensures.place c.in_ok-lines.ensures.order
 
 -- the lines of the new text
 row_then : (g : Over) (c : In_ok-lines g) →
