@@ -15,14 +15,14 @@ impl<'a, S: Source, const KEEP: u8> Cursor<'a, S, KEEP> {
     /// Passes the comment here, if one stands.
     #[inline(always)]
     #[tactic(auto, unfolding(shgrammar::specs::Commands::a_comment, shgrammar::specs::Commands::next_token, shgrammar::specs::Comments::comment_at, crate::specs::InHand::InHand))]
-    pub(crate) fn remark(&mut self) -> Option<Comment>
+    pub(crate) fn comment(&mut self) -> Option<Comment>
         ensures { Finds self.old (a_comment self.old.next)
             (option_map view_comment result, self.new.next) self.new }
     {
         let Token::Comment = self.next.token else {
             return None;
         };
-        match self.comment() {
+        match self.comment_at() {
             Some(comment) => {
                 self.next_token(Position::Command);
                 Some(comment)
@@ -94,7 +94,7 @@ impl<'a, S: Source, const KEEP: u8> Cursor<'a, S, KEEP> {
                 at,
             });
         }
-        let _ = self.remark();
+        let _ = self.comment();
         self.at = self.next_at;
         let at = self.origin + self.start();
         let Token::End = self.next.token else {

@@ -71,7 +71,7 @@ impl<'a, S: Source, const KEEP: u8> Cursor<'a, S, KEEP> {
     /// and the token behind it. Answers whether there was one.
     #[cycle(commands)]
     #[tactic(auto, unfolding(shgrammar::specs::Commands::item_turn, crate::specs::InHand::InHand))]
-    fn next_item(
+    fn item_turn(
         &mut self,
         items: &mut Vec<Item>,
         place: &mut Position,
@@ -108,7 +108,7 @@ impl<'a, S: Source, const KEEP: u8> Cursor<'a, S, KEEP> {
             place.old self.old.next)) result (λ _. so_many (view_items items.new) place.new
             self.new.next) self.new }
     {
-        'turns: while self.next_item(items, place, room)? {}
+        'turns: while self.item_turn(items, place, room)? {}
         Ok(())
     }
 

@@ -31,7 +31,7 @@ impl<'a, S: Source, const KEEP: u8> Cursor<'a, S, KEEP> {
     /// Passes the comment in hand, if one is.
     #[inline]
     #[tactic(auto, unfolding(shgrammar::specs::Comments::comment_at, shgrammar::specs::Comments::past_comment))]
-    pub(crate) fn comment(&mut self) -> Option<Comment>
+    pub(crate) fn comment_at(&mut self) -> Option<Comment>
         ensures value { option_map view_comment result ≡ comment_at (text_of self.old)
             self.old.origin (start_of self.old) }
         ensures place { IfSome result (λ c. here_of self.new ≡ past_comment (text_of self.old)

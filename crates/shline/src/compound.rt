@@ -83,7 +83,7 @@ impl<'a, S: Source, const KEEP: u8> Cursor<'a, S, KEEP> {
     /// One more branch, behind an `elif`. Answers whether there was one.
     #[cycle(commands)]
     #[tactic(auto, unfolding(shgrammar::specs::Compounds::elif_turn, crate::specs::InHand::InHand))]
-    fn elif(&mut self, branches: &mut Vec<Branch>, room: usize) -> Result<bool, Stop>
+    fn elif_turn(&mut self, branches: &mut Vec<Branch>, room: usize) -> Result<bool, Stop>
         ensures { Turns self.old (elif_turn (level room) (branched (view_branches branches.old)
             self.old.next)) result (branched (view_branches branches.new) self.new.next) self.new }
     {
@@ -106,7 +106,7 @@ impl<'a, S: Source, const KEEP: u8> Cursor<'a, S, KEEP> {
             (λ branches. branched (view_branches branches) self.new.next) self.new }
     {
         let mut branches = Vec::new(self.alloc);
-        'turns: while self.elif(&mut branches, room)? {}
+        'turns: while self.elif_turn(&mut branches, room)? {}
         Ok(branches)
     }
 

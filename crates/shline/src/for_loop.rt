@@ -103,7 +103,7 @@ impl<'a, S: Source, const KEEP: u8> Cursor<'a, S, KEEP> {
     /// it. Answers whether there was one.
     #[cycle(commands)]
     #[tactic(auto, unfolding(shgrammar::specs::Compounds::word_turn, crate::specs::InHand::InHand))]
-    fn for_word(&mut self, words: &mut Vec<Item>, room: usize) -> Result<bool, Stop>
+    fn word_turn(&mut self, words: &mut Vec<Item>, room: usize) -> Result<bool, Stop>
         ensures { Turns self.old (word_turn (level room) (so_many (view_items words.old) Suffix
             self.old.next)) result (so_many (view_items words.new) Suffix self.new.next) self.new }
     {
@@ -122,7 +122,7 @@ impl<'a, S: Source, const KEEP: u8> Cursor<'a, S, KEEP> {
             result (λ words. so_many (view_items words) Suffix self.new.next) self.new }
     {
         let mut words = Vec::new(self.alloc);
-        'turns: while self.for_word(&mut words, room)? {}
+        'turns: while self.word_turn(&mut words, room)? {}
         Ok(words)
     }
 

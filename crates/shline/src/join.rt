@@ -19,7 +19,7 @@ impl<'a, S: Source, const KEEP: u8> Cursor<'a, S, KEEP> {
             result (join_so (view_join join.new) self.new.next) self.new }
         ensures tree { IfOk result (λ more. GrowsNone KEEP join.old join.new) }
     {
-        if let Some(comment) = self.remark() {
+        if let Some(comment) = self.comment() {
             join.broken = true;
             if self.grows() {
                 join.comments.push(comment)?;

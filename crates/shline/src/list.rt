@@ -128,7 +128,7 @@ impl<'a, S: Source, const KEEP: u8> Cursor<'a, S, KEEP> {
     #[cycle(commands)]
     #[inline(always)]
     #[tactic(auto, unfolding(shgrammar::specs::Lists::entry_turn, shgrammar::specs::Lists::one_entry, shgrammar::specs::Commands::an_entry, shgrammar::specs::Commands::an_and_or, shgrammar::specs::Commands::a_pipeline))]
-    fn next_entry(&mut self, listed: &mut Listed, room: usize) -> Result<bool, Stop>
+    fn entry_turn(&mut self, listed: &mut Listed, room: usize) -> Result<bool, Stop>
         ensures { Turns self.old (entry_turn (level room) (list_so (view_listed listed.old)
             self.old.next)) result (list_so (view_listed listed.new) self.new.next) self.new }
     {
@@ -142,7 +142,7 @@ impl<'a, S: Source, const KEEP: u8> Cursor<'a, S, KEEP> {
         let commands = self.pipes(room)?;
         let pipelines = self.joined_pipelines(room)?;
         let separator = self.separator();
-        let comment = self.remark();
+        let comment = self.comment();
         listed.begun = true;
         listed.commands = true;
         listed.parted = past_separator(separator);
@@ -171,7 +171,7 @@ impl<'a, S: Source, const KEEP: u8> Cursor<'a, S, KEEP> {
         ensures { Takes self.old (many (entry_turn (level room)) (list_so (view_listed listed.old)
             self.old.next)) result (λ _. list_so (view_listed listed.new) self.new.next) self.new }
     {
-        'turns: while self.next_entry(listed, room)? && self.next.token.begins_pipeline() {}
+        'turns: while self.entry_turn(listed, room)? && self.next.token.begins_pipeline() {}
         Ok(())
     }
 
@@ -182,7 +182,7 @@ impl<'a, S: Source, const KEEP: u8> Cursor<'a, S, KEEP> {
         ensures { Takes self.old (a_remark (list_so (view_listed listed.old) self.old.next)) result
             (λ _. list_so (view_listed listed.new) self.new.next) self.new }
     {
-        if let Some(comment) = self.remark() {
+        if let Some(comment) = self.comment() {
             let blank = listed.blank && !listed.begun;
             listed.begun = true;
             if self.grows() {
@@ -213,7 +213,7 @@ impl<'a, S: Source, const KEEP: u8> Cursor<'a, S, KEEP> {
     #[cycle(commands)]
     #[inline(always)]
     #[tactic(auto, unfolding(shgrammar::specs::Lists::list_turn))]
-    fn list_line(&mut self, listed: &mut Listed, room: usize) -> Result<bool, Stop>
+    fn list_turn(&mut self, listed: &mut Listed, room: usize) -> Result<bool, Stop>
         ensures { Turns self.old (list_turn (level room) (list_so (view_listed listed.old)
             self.old.next)) result (list_so (view_listed listed.new) self.new.next) self.new }
     {
@@ -230,7 +230,7 @@ impl<'a, S: Source, const KEEP: u8> Cursor<'a, S, KEEP> {
         ensures { Takes self.old (many (list_turn (level room)) (list_so (view_listed listed.old)
             self.old.next)) result (λ _. list_so (view_listed listed.new) self.new.next) self.new }
     {
-        'turns: while self.list_line(listed, room)? {}
+        'turns: while self.list_turn(listed, room)? {}
         Ok(())
     }
 

@@ -58,7 +58,7 @@ impl<'a, S: Source, const KEEP: u8> Cursor<'a, S, KEEP> {
     #[cycle(commands)]
     #[inline(always)]
     #[tactic(auto, unfolding(shgrammar::specs::Commands::pipe_turn, crate::specs::InHand::InHand))]
-    fn pipe(&mut self, parts: &mut Vec<PipelinePart>, room: usize) -> Result<bool, Stop>
+    fn pipe_turn(&mut self, parts: &mut Vec<PipelinePart>, room: usize) -> Result<bool, Stop>
         ensures { Turns self.old (pipe_turn (level room) (piped (view_pipeline_parts parts.old)
             self.old.next)) result (piped (view_pipeline_parts parts.new) self.new.next) self.new }
     {
@@ -78,7 +78,7 @@ impl<'a, S: Source, const KEEP: u8> Cursor<'a, S, KEEP> {
             (λ parts. piped (view_pipeline_parts parts) self.new.next) self.new }
     {
         let mut parts = Vec::new(self.alloc);
-        'turns: while self.pipe(&mut parts, room)? {}
+        'turns: while self.pipe_turn(&mut parts, room)? {}
         Ok(parts)
     }
 

@@ -52,8 +52,8 @@ decreases-redirects g l = 128 * l.room + 18
 abbrev pub decreases-with_redirect_list : goal.decreases-with_redirect_list
 decreases-with_redirect_list g l = 128 * l.room + 20
 
-abbrev pub decreases-next_item : goal.decreases-next_item
-decreases-next_item g l = 128 * l.room + 16
+abbrev pub decreases-item_turn : goal.decreases-item_turn
+decreases-item_turn g l = 128 * l.room + 16
 
 abbrev pub decreases-words : goal.decreases-words
 decreases-words g l = 128 * l.room + 14
@@ -130,8 +130,8 @@ decreases-one_pipeline g l = 128 * l.room + 40
 abbrev pub decreases-joined_pipelines : goal.decreases-joined_pipelines
 decreases-joined_pipelines g l = 128 * l.room + 44
 
-abbrev pub decreases-next_entry : goal.decreases-next_entry
-decreases-next_entry g l = 128 * l.room + 50
+abbrev pub decreases-entry_turn : goal.decreases-entry_turn
+decreases-entry_turn g l = 128 * l.room + 50
 
 abbrev pub decreases-entries : goal.decreases-entries
 decreases-entries g l = 128 * l.room + 52
@@ -139,8 +139,8 @@ decreases-entries g l = 128 * l.room + 52
 abbrev pub decreases-on_line : goal.decreases-on_line
 decreases-on_line g l = 128 * l.room + 54
 
-abbrev pub decreases-list_line : goal.decreases-list_line
-decreases-list_line g l = 128 * l.room + 56
+abbrev pub decreases-list_turn : goal.decreases-list_turn
+decreases-list_turn g l = 128 * l.room + 56
 
 abbrev pub decreases-list_lines : goal.decreases-list_lines
 decreases-list_lines g l = 128 * l.room + 58
@@ -172,8 +172,8 @@ decreases-otherwise g l = 128 * l.room + 62
 abbrev pub decreases-one_case : goal.decreases-one_case
 decreases-one_case g l = 128 * l.room + 62
 
-abbrev pub decreases-elif : goal.decreases-elif
-decreases-elif g l = 128 * l.room + 64
+abbrev pub decreases-elif_turn : goal.decreases-elif_turn
+decreases-elif_turn g l = 128 * l.room + 64
 
 abbrev pub decreases-elifs : goal.decreases-elifs
 decreases-elifs g l = 128 * l.room + 66
@@ -193,14 +193,14 @@ decreases-case_command g l = 128 * l.room + 68
 abbrev pub decreases-form : goal.decreases-form
 decreases-form g l = 128 * l.room + 70
 
-abbrev pub decreases-for_word : goal.decreases-for_word
-decreases-for_word g l = 128 * l.room + 12
+abbrev pub decreases-word_turn : goal.decreases-word_turn
+decreases-word_turn g l = 128 * l.room + 12
 
 abbrev pub decreases-pattern_turn : goal.decreases-pattern_turn
 decreases-pattern_turn g l = 128 * l.room + 14
 
-abbrev pub decreases-pipe : goal.decreases-pipe
-decreases-pipe g l = 128 * l.room + 34
+abbrev pub decreases-pipe_turn : goal.decreases-pipe_turn
+decreases-pipe_turn g l = 128 * l.room + 34
 
 abbrev pub decreases-join_pipeline : goal.decreases-join_pipeline
 decreases-join_pipeline g l = 128 * l.room + 42

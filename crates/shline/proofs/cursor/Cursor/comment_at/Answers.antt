@@ -2,7 +2,7 @@ use Rattle.std.proofs.Common.{◌≡◌, ◌∙◌, true, sym, arith}
 use Rattle.shgrammar.specs.Standing.{raw_stands}
 use Rattle.shline.specs.Clauses.{start_of, text_of}
 use Rattle.shline.proofs.Comments.{comment_begins}
-use Rattle.shline.proofs.cursor.Cursor.comment.Goals as goal
+use Rattle.shline.proofs.cursor.Cursor.comment_at.Goals as goal
 
 pub before_blanks-requires : goal.before_blanks-requires
 before_blanks-requires g c =
