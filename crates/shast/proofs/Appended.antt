@@ -1,4 +1,4 @@
--- One list behind another, as a row.
+-- One list after another, as a row.
 use Rattle.std.proofs.Common.{◌≡◌, List as Row, [], ◌∷◌, ◌++◌, refl}
 use Rattle.shast.specs.Tree.{AnEntry, entries_of}
 use Rattle.shast.specs.Moved.{appended}

@@ -1,4 +1,4 @@
--- The bodies of the parts of a list, one part behind the other: what a row that reads
+-- The bodies of the parts of a list, one part after the other: what a row that reads
 -- one more part says of the bodies.
 use Rattle.std.proofs.Common.{◌≡◌, List as Row, [], ◌∷◌, ◌++◌, refl}
 use Rattle.std.specs.Prelude.{Some, None}

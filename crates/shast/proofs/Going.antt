@@ -124,7 +124,7 @@ unfolding filled
 filled_some [] es some = absurd (omega arith)
 filled_some (b ∷ bs) es some = refl
 
--- ---- an entry behind the last body
+-- ---- an entry after the last body
 
 pub none_left : (e : AnEntry) (bs : Row Span) (n : ℕ) → length bs ≤ n → fill_entry e (drop n bs) ≡ (e, drop n bs)
 none_left e bs n over = rw (drop_all n bs over) (entry_none e)

@@ -309,7 +309,7 @@ module _ (limit : ℕ) where
   fits_end before (entry (remark c) background blank comment ∷ es) low so =
       fits_end before es low (All-tail EntryFits _ es so)
 
-  -- ---- two rows of entries, one behind the other
+  -- ---- two rows of entries, one after the other
 
   pub within_append : (es ls : Row AnEntry) → AreWithin limit (entries_of es) → AreWithin limit (entries_of ls) →
       AreWithin limit (entries_of (es ++ ls))

@@ -108,7 +108,7 @@ joined :
     None)
 joined = refl
 
--- the comment behind a command, one on a line of its own, the background and the empty line
+-- the comment after a command, one on a line of its own, the background and the empty line
 listed :
     shape_of (codes "a & # b\n\n# c\n\nd")
     (more_entries (entry (command (and_or (a_pipeline (at 0 1)) no_and_or)) true false (Some (at 4 7)))
@@ -121,7 +121,7 @@ listed = refl
 
 -- ---- functions and compound commands
 
--- the name as it stands, the comment before the body, and the redirections behind it
+-- the name as it stands, the comment before the body, and the redirections after it
 named :
     shape_of (codes "f\\\ng() # a\n{ b; } >c")
     (one (function (at 0 4) (at 7 10 ∷ [])
@@ -172,7 +172,7 @@ for_each :
     (one (formed_as (for_in (a_word (codes "e")) no_in (a_list (codes "f")))))
 for_each = refl
 
--- the word of a case, the comments before an item and behind the last, and patterns
+-- the word of a case, the comments before an item and after the last, and patterns
 matched :
     shape_of (codes "case a in # b\n(c|d) e;&\n# f\nesac")
     (one (over (case_in (a_word (at 5 6))

@@ -30,7 +30,7 @@ list n = alone (of_command (one n))
 abbrev tested : ℕ → ℕ → Numbered ABranchOf
 tested m n = branch (list m) (list n)
 
--- a form with a document behind it
+-- a form with a document after it
 abbrev before : Numbered AFormOf → ℕ → Numbered ACommandOf
 before form n = compound (formed form 0 (more_items (document n) no_item))
 

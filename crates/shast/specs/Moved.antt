@@ -1,4 +1,4 @@
--- A list at another base: with each of its spans moved, and one list behind another.
+-- A list at another base: with each of its spans moved, and one list after another.
 use Rattle.std.specs.Prelude.{ℕ, zero, suc, Bool, true, false, List as Row, [], ◌∷◌, map, option_map}
 use Rattle.shast.specs.declared.tree.Span.{Span}
 use Rattle.shast.specs.Tree.{AJoin, AHere, Entries, no_entry, more_entries, AnEntry, entry, AContent, command, remark, AnAndOr, and_or, AnAndOrPart, AndOrParts, no_and_or, more_and_or, APipeline, pipeline, APipelinePart, PipelineParts, no_pipe, more_pipes, ACommand, simple, compound, function, ACompound, formed, AForm, brace, subshell, if_then, while_do, until_do, for_in, case_in, ABranch, branch, Branches, no_branch, more_branches, Otherwise, no_else, otherwise, ForWords, no_in, in_words, CaseItems, no_case, more_cases, ACaseItem, case_item, marked, Patterns, no_pattern, more_patterns, Items, no_item, more_items, AnItem, item, AnItemContent, assign, argument, redirect, AWord, word, Substs, no_subst, more_substs, ASubst, subst}
@@ -134,7 +134,7 @@ body_by base s zero = s
 body_by base s (suc n) = placed_span base s
 
 -- The body of a here-document. One that is not read yet is the empty text at 0, and stays so: a
--- body that was read ends behind a newline, and so above 0.
+-- body that was read ends just past a newline, and so above 0.
 abbrev pub placed_body : ℕ → Span → Span
 placed_body base s = body_by base s s.«end»
 
@@ -152,7 +152,7 @@ moved_entry base e = placed_entry true base e
 abbrev pub outer_entry : ℕ → AnEntry → AnEntry
 outer_entry base e = placed_entry false base e
 
--- ---- one list behind another
+-- ---- one list after another
 
 abbrev pub appended : Entries → Entries → Entries
 appended no_entry ls = ls

@@ -33,7 +33,7 @@ abbrev pub items_span : Items → Span
 items_span no_item = record { start = 0; «end» = 0 }
 items_span (more_items i is) = through (item_span i) (last_item (item_span i) is)
 
--- from its opener to its closer, or to the last redirection behind that
+-- from its opener to its closer, or to the last redirection after that
 abbrev pub compound_span : ACompound → Span
 compound_span (formed form span redirects) = through span (last_item span redirects)
 
@@ -60,7 +60,7 @@ last_pipeline before (more_and_or operator join p ps) = last_pipeline (pipeline_
 abbrev pub and_or_span : AnAndOr → Span
 and_or_span (and_or first rest) = through (pipeline_span first) (last_pipeline (pipeline_span first) rest)
 
--- where an and-or list ends, behind what ends before it; a comment is none
+-- where an and-or list ends, after what ends before it; a comment is none
 abbrev pub command_end : ℕ → AContent → ℕ
 command_end before (command a) = (and_or_span a).«end»
 command_end before (remark c) = before
@@ -110,7 +110,7 @@ abbrev mutual
   entries_nodes no_entry = []
   entries_nodes (more_entries e es) = entry_nodes e ++ entries_nodes es
 
-  -- the comment behind a command on its line is no part of the command
+  -- the comment after a command on its line is no part of the command
   pub entry_nodes : AnEntry → Row NodeLine
   entry_nodes (entry what background blank comment) = content_nodes what ++ map comment_node (option_to_list comment)
 
@@ -208,7 +208,7 @@ abbrev mutual
 abbrev pub by_place : NodeLine → NodeLine → Ordering
 by_place a b = ordering_then (nat_cmp a.start b.start) (nat_cmp b.«end» a.«end»)
 
--- a node among nodes that are in order: behind those alone that have to stand before it
+-- a node among nodes that are in order: after those alone that have to stand before it
 abbrev pub inserted : NodeLine → Row NodeLine → Row NodeLine
 inserted n [] = n ∷ []
 inserted n (m ∷ ms) = (if is_lt (by_place m n) then m ∷ inserted n ms else n ∷ m ∷ ms)

@@ -48,7 +48,7 @@ module _ {T M : Type 0} where
     are_normal no_entry = true
     are_normal (more_entries e es) = is_normal_entry e && are_normal es
 
-    -- a comment on a line of its own is not in the background, and no other one stands behind it
+    -- a comment on a line of its own is not in the background, and no other one stands after it
     pub is_normal_entry : AnEntryOf T M → Bool
     is_normal_entry (entry (command a) background blank comment) = is_normal_and_or a
     is_normal_entry (entry (remark c) background blank comment) = not background && is_none comment

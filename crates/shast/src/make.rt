@@ -17,7 +17,7 @@ pub fn list_of(entries: Vec<Entry>) -> List
 }
 
 /// A command as an entry: whether `&` ends it, whether an empty line stands before it,
-/// and the comment behind it on its line.
+/// and the comment after it on its line.
 pub fn command_entry(
     and_or: AndOr,
     background: bool,
@@ -55,7 +55,7 @@ pub fn and_or_of(first: Pipeline, rest: Vec<AndOrPart>) -> AndOr
     AndOr { first, rest }
 }
 
-/// An operator of an and-or list, what stands around it, and the pipeline behind it.
+/// An operator of an and-or list, what stands around it, and the pipeline after it.
 pub fn and_or_part_of(operator: AndOrOperator, join: Join, pipeline: Pipeline) -> AndOrPart
     ensures { view_and_or_part result
         ≡ record { operator = operator; join = view_join join; pipeline = view_pipeline pipeline } }
@@ -76,7 +76,7 @@ pub fn pipeline_of(bang: Option<Span>, first: Command, rest: Vec<PipelinePart>) 
     Pipeline { bang, first, rest }
 }
 
-/// The command behind a `|`, and what stands around that.
+/// The command after a `|`, and what stands around that.
 pub fn pipeline_part_of(join: Join, command: Command) -> PipelinePart
     ensures { view_pipeline_part result
         ≡ record { join = view_join join; command = view_command command } }
@@ -92,7 +92,7 @@ pub fn simple_of(items: Vec<Item>) -> Command
 }
 
 /// A compound command of this form, from its opener to its closer, and the
-/// redirections behind it (XCU 2.9.4).
+/// redirections after it (XCU 2.9.4).
 pub fn compound_of(form: Form, span: Span, redirects: Vec<Item>) -> Compound
     ensures { view_compound result
         ≡ formed (view_form form) span (items_of (map view_item redirects.items)) }
@@ -196,7 +196,7 @@ pub fn until_of(branch: Branch) -> Form
     Form::Until(branch)
 }
 
-/// A `for` of this name, the words behind its `in` where that stands, and what it runs (XCU 2.9.4.2).
+/// A `for` of this name, the words after its `in` where that stands, and what it runs (XCU 2.9.4.2).
 pub fn for_of(name: Word, words: Option<Vec<Item>>, body: List) -> Form
     ensures { view_form result
         ≡ for_in (view_word name) (for_words_of (option_map (λ v. map view_item v.items) words))
@@ -205,7 +205,7 @@ pub fn for_of(name: Word, words: Option<Vec<Item>>, body: List) -> Form
     Form::For { name, words, body }
 }
 
-/// A `case` of this word, its items, and the comments behind the last one (XCU 2.9.4.3).
+/// A `case` of this word, its items, and the comments after the last one (XCU 2.9.4.3).
 pub fn case_of(word: Word, items: Vec<CaseItem>, tail: Vec<Comment>) -> Form
     ensures { view_form result
         ≡ case_in (view_word word) (cases_of (map view_case_item items.items))
@@ -293,7 +293,7 @@ pub fn redirect_of(redirection: Box<Redirection>, broken: bool) -> Item
     }
 }
 
-/// A command substitution with the list in it, from its `$` to behind its `)` (XCU 2.6.3).
+/// A command substitution with the list in it, from its `$` to just past its `)` (XCU 2.6.3).
 pub fn subst_of(list: List, span: Span) -> Subst
     ensures { view_subst result ≡ subst (view_list list) span }
 {

@@ -33,7 +33,7 @@ pub enum NodeKind {
     Subst,
     /// A simple command, from its first item to its last (XCU 2.9.1).
     Simple,
-    /// `{ list }`, from its opener to the last redirection behind it, as all compound commands (XCU 2.9.4).
+    /// `{ list }`, from its opener to the last redirection after it, as all compound commands (XCU 2.9.4).
     Brace,
     /// `( list )`
     Subshell,

@@ -63,7 +63,7 @@ pub fn items_span(items: &[Item]) -> Span
     }
 }
 
-/// From its opener to its closer, or to the last redirection behind that.
+/// From its opener to its closer, or to the last redirection after that.
 pub fn compound_span(compound: &Compound) -> Span
     ensures { result ≡ compound_span (view_compound compound.now) }
 {

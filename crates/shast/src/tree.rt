@@ -33,7 +33,7 @@ pub struct Entry {
     /// At least two newline tokens stand between it and the entry before it: an empty
     /// line. The first entry of a list is never blank.
     pub blank: bool,
-    /// The comment behind it on its line.
+    /// The comment after it on its line.
     pub comment: Option<Comment>,
 }
 
@@ -54,7 +54,7 @@ pub struct AndOr {
     pub rest: Vec<AndOrPart>,
 }
 
-/// An operator of an and-or list, and the pipeline behind it.
+/// An operator of an and-or list, and the pipeline after it.
 #[cycle(tree)]
 #[derive(Debug, Drop)]
 pub struct AndOrPart {
@@ -91,7 +91,7 @@ pub struct Pipeline {
     pub rest: Vec<PipelinePart>,
 }
 
-/// The `|` of a pipeline, and the command behind it.
+/// The `|` of a pipeline, and the command after it.
 #[cycle(tree)]
 #[derive(Debug, Drop)]
 pub struct PipelinePart {
@@ -119,7 +119,7 @@ pub struct Function {
     pub body: Compound,
 }
 
-/// A compound command, and the redirections behind it (XCU 2.9.4).
+/// A compound command, and the redirections after it (XCU 2.9.4).
 #[cycle(tree)]
 #[derive(Debug, Drop)]
 pub struct Compound {
@@ -149,14 +149,14 @@ pub enum Form {
     Until(Branch),
     For {
         name: Word,
-        /// The words behind `in`, where it stands.
+        /// The words after `in`, where it stands.
         words: Option<Vec<Item>>,
         body: List,
     },
     Case {
         word: Word,
         items: Vec<CaseItem>,
-        /// The comments behind the last item.
+        /// The comments after the last item.
         tail: Vec<Comment>,
     },
 }
