@@ -174,7 +174,7 @@ printed_passed edition y read old new n is held passed more =
           (more edition y (take old.part.passed read) is.is);
     }
 
--- where all was read, the text of what is held behind what is printed is that of the script
+-- where all was read, the text of what is held, which follows what is printed, is that of the script
 pub whole_is : (read : List ℕ) (part : PartialScript) → Held read part → take part.passed read ++ part.text.items ≡ read
 whole_is read part is = ap (λ (xs : List ℕ). take part.passed read ++ xs) is.text ∙ take-append-drop part.passed read
 
@@ -218,7 +218,7 @@ located_there edition read fault found at first =
       (refl, at.1 ∙ ap (λ (f : Fault). line_of read f.at) same, at.2 ∙ ap (λ (f : Fault). column_of read f.at) same),
     )
 
--- the first fault of what is held behind what is printed
+-- the first fault of what is held, which follows what is printed
 pub unprinted_is : (edition : Edition) (read : List ℕ) (part : PartialScript) → Held read part →
     (bytes : List ℕ) (fault : Fault) → bytes ≡ part.text.items
     → FirstFault edition (take part.passed read ++ bytes) (Some (moved_fault (length (take part.passed read)) fault)) →

@@ -11,6 +11,6 @@ gathering_writer gathering = gathering.writer
 abbrev pub gathering_held : {W : Type 0} → Gathering W → List ℕ
 gathering_held gathering = gathering.held.items
 
--- the bytes that it was given: those of the device, where they are known, and behind them those it holds
+-- the bytes that it was given: those of the device, where they are known, and after them those it holds
 abbrev pub gathered : {W : Type 0} → (W → Option (List ℕ)) → Gathering W → Option (List ℕ)
 gathered contents gathering = append_known (contents gathering.writer) (gathering_held gathering)

@@ -24,7 +24,7 @@ pub record Held (read : List ℕ) (part : PartialScript) : Type 0 where
   pub newlines : part.newlines ≡ count_by is_newline (take part.passed read)
   pub fresh : since_newline (take part.passed read) ≡ 0
 
--- whatever follows these bytes, by this edition the first fault is that behind those passed
+-- whatever follows these bytes, by this edition the first fault is that after those passed
 pub record Holds (edition : Edition) (read : List ℕ) (part : PartialScript) : Type 0 where
   pub held : Held read part
   pub by : part.edition ≡ edition

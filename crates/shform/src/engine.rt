@@ -50,7 +50,8 @@ fn read_piece<R: Read>(
     Ok(count)
 }
 
-/// Reads the input to its end into a sink. It stands apart, so that no piece lies on the stack behind it.
+/// Reads the input to its end into a sink. It stands apart, so that no piece lies on the stack once it is
+/// done.
 #[inline(never)]
 fn read_into<R: Read, S: Sink>(input: &mut Input<R>, mut sink: S) -> Result<S, RunError>
     requires sound { input_failed input.old ≡ false }

@@ -13,7 +13,7 @@ use std::io::{Error, ErrorKind, Write};
 /// Memory for more of them is given back at the flush.
 const LARGE: usize = 4096;
 
-/// The room that is asked for behind a large piece: what ends a reply has it, so that nothing grows for that.
+/// The room that is asked for beyond a large piece: what ends a reply has it, so that nothing grows for that.
 const BEHIND_LARGE: usize = 16;
 
 /// A writer before a device.
@@ -83,7 +83,7 @@ impl<W: Write> Write for Gathering<W> {
     ghost contents = { gathered W.contents };
 
     /// Holds these bytes. Where none is held and they are many, or where there is no memory for them, the
-    /// device takes what it can of them, behind what was held.
+    /// device takes what it can of them, after what was held.
     fn write(&mut self, buf: &[u8]) -> io::Result<usize> {
         let goes_through = self.held.is_empty() && buf.len() >= LARGE;
         if !goes_through && self.hold(buf).is_ok() {

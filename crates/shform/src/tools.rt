@@ -1,6 +1,6 @@
 //! The tool that the settings ask for, over readers and writers: what a run of the program does, but for
 //! the opening of its ends. Each tool stands apart, so that nothing of the others lies on the stack
-//! behind it.
+//! beneath it.
 ghost use Rattle.std.specs.Prelude.{◌≡◌, IfSome, false, is_some};
 ghost use Rattle.shlive.specs.Ahead.{IsOpen};
 ghost use Rattle.shtext.specs.Device.{input_ended, input_failed, output_failed};

@@ -110,7 +110,7 @@ fn long_texts(rt: HostRuntime) -> Result<(), Fail> {
     Ok(())
 }
 
-/// A fault behind much that is printed by then: nothing of it is written.
+/// A fault after much that is printed by then: nothing of it is written.
 #[test]
 fn late_fault(rt: HostRuntime) -> Result<(), Fail> {
     let mut output = Page::new(128, WhenFull::Fails);

@@ -130,7 +130,7 @@ fn without_file(rt: HostRuntime) -> Result<(), Fail> {
     Ok(())
 }
 
-/// By 2024 a quote behind a backslash ends no text in dollar-single quotes; by 2017 it does, and the next
+/// By 2024 a quote after a backslash ends no text in dollar-single quotes; by 2017 it does, and the next
 /// one is not closed.
 #[test]
 fn editions(rt: HostRuntime) -> Result<(), Fail> {
