@@ -218,7 +218,7 @@ module _ {edition : Edition} {T T2 : List ℕ} {a L : ℕ} {to : ℕ → ℕ} {c
       subst (Safe T a L) (sym (joined_none T p (no_backslash T p (on_no_backslash T p on)))) (one_byte low on rest)
   place_safe (two_bytes {p = p} low c rest) = subst (Safe T a L) (sym (joined_more T p c)) (place_safe rest)
 
-  -- behind a byte as it stands
+  -- after a byte as it stands
   raw_safe : {p : ℕ} → Safe T a L p → raw_in goes_on T p ≡ true → (p ≡ L → ⊥) → Safe T a L (p + 1)
   raw_safe at_limit on other = absurd (other refl)
   raw_safe (halts low lt none stop) on other = absurd (both_ways _ stop on)
@@ -239,7 +239,7 @@ module _ {edition : Edition} {T T2 : List ℕ} {a L : ℕ} {to : ℕ → ℕ} {c
     unfolding stands_in raw_in
     read_raw p e = e
 
-    -- behind a byte that is read
+    -- after a byte that is read
     pub next_safe : {p : ℕ} → Safe T a L p → stands_in test T p ≡ true → Safe T a L (past_byte T p)
     next_safe {p = p} s e =
         let r = read_raw p e in

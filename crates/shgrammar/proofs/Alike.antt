@@ -133,7 +133,7 @@ module _ (g : Given) where
   alike_pick false true is one two = absurd cc
   alike_pick false false is one two = two
 
-  -- behind the same token
+  -- after the same token
   pub alike_at : {X : Type 0} {S : X → X → Type 0} (r : Next → Form X) → ((n : Next) → Alike S (r n) (r n)) →
       (n m : Next) → n ≡ m → Alike S (r n) (r m)
   alike_at {S = S} r each n m same = subst (λ z. Alike S (r n) (r z)) same (each n)
@@ -736,7 +736,7 @@ module _ (g : Given) where
     alike_closing c n = alike_pick (is_closing c n.token) _ refl (alike_reserved_or_paren _ (is_close_paren c) _)
         (alike_unexpected n)
 
-    -- what was read last, and the token behind it
+    -- what was read last, and the token after it
     abbrev SameClosed : {X : Type 0} → Closed X → Closed X → Type 0
     SameClosed x y = x.next ≡ y.next
 
@@ -746,7 +746,7 @@ module _ (g : Given) where
         alike_then (alike_at (closing inner c) (alike_closing c) n m same)
         (λ x y so. alike_give (ap (λ (z : Span × Next). z.1) so))
 
-    -- a list that another closing word follows, and the token behind that
+    -- a list that another closing word follows, and the token after that
     alike_branch : (n : Next) → Alike SameNext (a_branch inner n) (a_branch inner n)
     unfolding a_branch
     alike_branch n =

@@ -27,7 +27,7 @@ use Rattle.shgrammar.specs.Pieces.{closes_by, next_escaped}
 abbrev pub Good : List ℕ → ℕ → ℕ → ℕ → Type 0
 Good T a M p = Safe T a M p
 
--- behind continuations none stands
+-- after continuations none stands
 none_there : (T : List ℕ) (p : ℕ) → continues T (past_continuations T p) ≡ false
 none_there T p = must_fail _ (λ c. let is = place_same T p in let more = joined_more T (past_continuations T p) c in
     let low = place_low T (past_continuations T p + 2) in absurd (omega (arith, is, more, low)))
@@ -170,7 +170,7 @@ module _ {edition : Edition} {T U : List ℕ} {a M : ℕ} {to : ℕ → ℕ} {li
   no_newline : (q : ℕ) → raw_stands T (q + 1) 10 ≡ false → continues T q ≡ false
   no_newline q e = must_fail _ (λ c. both_ways (raw_stands T (q + 1) 10) e (continued T q c).1)
 
-  -- from p, behind which b stands, up to what is looked for, which is no newline
+  -- from p, after which b stands, up to what is looked for, which is no newline
   found_good : (test : ℕ → Bool) (b p : ℕ) → a ≤ p → p ≤ b → raw_stands T (raw_past test T b) 10 ≡ false →
       G (raw_past test T b) → G p × (raw_past test U (to b) ≡ to (raw_past test T b))
   found_good test b p low le other s =
@@ -224,7 +224,7 @@ module _ {edition : Edition} {T U : List ℕ} {a M : ℕ} {to : ℕ → ℕ} {li
   newline_by : (x : Option ℕ) → x ≡ Some 10 → passes (λ b. not (b == 10)) x ≡ false
   newline_by x is = rw is refl
 
-  -- a newline at the limit is the next one, or behind it
+  -- a newline at the limit is the next one, or after it
   pub newline_near : limit ≡ 10 → (p : ℕ) → p ≤ M → next_newline T p ≤ M
   unfolding raw_in
   newline_near ten p le =
@@ -234,7 +234,7 @@ module _ {edition : Edition} {T U : List ℕ} {a M : ℕ} {to : ℕ → ℕ} {li
   pub same_newline : (p : ℕ) → a ≤ p → next_newline T p ≤ M → next_newline U (to p) ≡ to (next_newline T p)
   same_newline p low near = raw_there E.kept (λ b. not (b == 10)) p low (omega (arith, near))
 
-  -- before q, behind a byte at p that is no blank
+  -- before q, after a byte at p that is no blank
   before_there : (n p q : ℕ) → q ≤ p + n → a ≤ p → p < q → q ≤ M → raw_in is_blank T p ≡ false →
       (before_blanks U (to q) ≡ to (before_blanks T q)) × (p ≤ before_blanks T q)
   before_there zero p q few low lt le first = absurd (omega (arith, few, lt))
@@ -310,7 +310,7 @@ module _ {edition : Edition} {T U : List ℕ} {a M : ℕ} {to : ℕ → ℕ} {li
   place_in : {p : ℕ} → G p → past_continuations T p ≤ M
   place_in s = let h = seen E s in omega (arith, h.inside)
 
-  -- behind a byte that is not that of the limit
+  -- after a byte that is not that of the limit
   escape_in : (p b : ℕ) → G p → byte_at T p ≡ Some b → (b == limit) ≡ false → past_byte T p ≤ M
   escape_in p b s is other =
       ⊎_elim (λ lt. omega (arith, behind_is T p, lt))
@@ -319,7 +319,7 @@ module _ {edition : Edition} {T U : List ℕ} {a M : ℕ} {to : ℕ → ℕ} {li
       let f : limit ≡ b = cc in
       absurd (both_ways (b == limit) other (grind (arith, nat_tests, f)))) (cases_lt (past_continuations T p) M)
 
-  -- where this byte is read, and behind it
+  -- where this byte is read, and after it
   next_byte : (p b c : ℕ) → G p → byte_at T p ≡ Some b → (b == c) ≡ true → goes_on c ≡ true → (limit == c) ≡ false →
       G (past_byte T p)
   unfolding stands_in
@@ -361,7 +361,11 @@ module _ {edition : Edition} {T U : List ℕ} {a M : ℕ} {to : ℕ → ℕ} {li
   piece_same mode p n (Some b) free s is =
       same_if (b == 92) _ _ _ _
       (λ e. let clear = not_backslash limit E.ender in let other : (b == limit) ≡ false = grind (arith, nat_tests) in
-      rw (same_behind E s, same_end (past_byte T p) (omega (arith, low_of s, behind_low T p)) (escape_in p b s is other))
+      rw (
+        same_behind E s,
+        same_end (past_byte T p) (omega (arith, low_of s, behind_low T p))
+            (escape_in p b s is other),
+      )
       refl)
       (λ e. same_if (b == 96) _ _ _ _ (λ f. refl)
       (λ f. same_if (b == 36) _ _ _ _ (λ g. dollar_same p b s is g) (λ g. byte_same mode p n b free s is)))

@@ -1,5 +1,5 @@
 -- Where a here-document ends is found in the bytes from where its body begins, wherever they
--- stand, and in no byte behind the newline of its delimiter.
+-- stand, and in no byte after the newline of its delimiter.
 use Rattle.std.proofs.Common.{◌≡◌, ℕ, zero, suc, ◌+◌, ◌-◌, ◌==◌, ◌<◌, ◌≤◌, Bool, true, false, cond, not, List, [], ◌∷◌, ◌++◌, List as Row, length, take, drop, Option, Some, None, option_map, Ok, slice_get, refl, sym, ap, subst, ◌∙◌, arith}
 use Rattle.std.specs.Prelude.{◌&&◌, min, Result}
 use Rattle.std.proofs.lemmas.List.{length-append, length-drop, drop-drop, take-append-le, drop-append-le}
@@ -58,7 +58,7 @@ ends b [] Y so = ends_by b [] Y (λ other. absurd (cc)) (b == 10) refl
 ends b (c ∷ bs) Y so = ends_by b (c ∷ bs) Y (λ other. ends c bs Y so) (b == 10) refl
 
 module _ (w : Waiting) where
-  -- the first line, or what is found behind it
+  -- the first line, or what is found after it
   abbrev pub turn : Bool → List ℕ → ℕ → Option ℕ → Option ℕ
   turn taken line k rest = cond (not taken && is_delimiter w line) (Some 0) (option_map (λ (q : ℕ). k + q) rest)
 

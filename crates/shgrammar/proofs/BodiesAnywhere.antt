@@ -137,7 +137,7 @@ module _ (w : Waiting) where
       (found_in w n (takes_newline w (front (b ∷ bs))) (drop (past_front (b ∷ bs)) (b ∷ bs))) (omega arith)
       (not taken && is_delimiter w (front (b ∷ bs))) refl found
 
-  -- ---- the same body, and other bytes behind it that begin with the delimiter's line
+  -- ---- the same body, and other bytes after it that begin with the delimiter's line
 
   pub rewritten : (n m : ℕ) (taken : Bool) (L Y Z : List ℕ) → closed L ≡ true → length L < m →
       ((k : ℕ) → found_in w (suc k) false Z ≡ Some 0)

@@ -30,7 +30,7 @@ module _ (g : Given) (limit : ℕ) where
       ⊎_elim (λ lt. tells_so Whole g (low r Whole g s) (λ x t on. λ b. absurd (omega (arith, lt, on, b))))
       (λ ge. so (omega (arith, ge))) (cases_lt limit (g.offset + s.at))
 
-  -- ---- the bodies behind a newline
+  -- ---- the bodies after a newline
 
   body_step : (w : Waiting) (ws : Row Waiting) (bodies : Row Span) (p : ℕ) (x : Row Span × ℕ) → g.offset + x.1 ≤ limit →
       All (IsSpanWithin limit) bodies
@@ -91,6 +91,6 @@ module _ (g : Given) (limit : ℕ) where
   held (ends_as kind at r) s so = tells_ending Whole g (held r s so)
   held (change c) s so = tells_change Whole g (λ t is. λ b. change_within c s t so b is)
   held (with_bytes r) s so = tells_with_bytes Whole g (held r s so) (λ a t there. there)
-  -- behind a level the bodies are those before it
+  -- after a level the bodies are those before it
   held (a_level r) s so = tells_level Whole g {r = r} {s = s} (tells_any Whole g) (λ a t there. λ b. so)
   held (in_substitution r) s so = tells_inside Whole g (held r s so)

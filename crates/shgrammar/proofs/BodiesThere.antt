@@ -64,7 +64,7 @@ abbrev ended_in : State → Read (Unit {0}) → State
 ended_in s (Ok (x, t)) = t
 ended_in s (Err f) = s
 
--- bodies that begin behind a newline end behind one, or where the text ends
+-- bodies that begin just past a newline end just past one, or where the text ends
 ends_by : (g : Given) (s t : State) (x : Result (Row Span × ℕ) Fault) → bodies_from g s.waiting s.bodies s.at ≡ x →
     nothing_read (state_by x) ≡ Ok (tt, t) → raw_stands g.text (s.at - 1) 10 ≡ true
     → (raw_stands g.text (t.at - 1) 10 ≡ true) ⊎ (at_end g.text t.at ≡ true)
@@ -190,7 +190,7 @@ module _ {edition : Edition} {T U : List ℕ} {a M : ℕ} {to : ℕ → ℕ} {li
         ∙ ap (λ v. Ok (over v)) same
     read_there s t from high_t newline (Err f) read is = absurd cc
 
-    -- the bodies that end behind the limit, where that is a newline
+    -- the bodies that end just past the limit, where that is a newline
     pub read_to_limit : (s t : State) → a ≤ s.at → t.at ≡ M + 1 → limit ≡ 10 →
         changed bodies_here (given edition T o) s ≡ Ok t →
         changed bodies_here (given edition U u) (over s) ≡ Ok (over t)

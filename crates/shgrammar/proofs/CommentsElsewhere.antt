@@ -30,7 +30,7 @@ module _ (U : List ℕ) (q : ℕ) (w zs : List ℕ) (is : drop q U ≡ w ++ zs) 
   pub byte_in : (i : ℕ) → i < length w → slice_get U (q + i) ≡ slice_get w i
   byte_in i lt = sym (get_drop q U i) ∙ ap (λ B. slice_get B i) is ∙ get_front w zs i lt
 
-  -- the one behind it
+  -- the one after it
   pub byte_behind : slice_get U (q + length w) ≡ slice_get zs 0
   byte_behind = sym (get_drop q U (length w)) ∙ ap (λ B. slice_get B (length w)) is ∙ get_behind w zs
 
@@ -53,7 +53,7 @@ pub comment_is : (T : List ℕ) (o p : ℕ) (c : Span) → comment_at T o p ≡ 
 unfolding comment_at
 comment_is T o p c is = comment_by (raw_stands T p 35) _ c is
 
--- behind a byte that is no blank no more than blanks are taken away
+-- after a byte that is no blank no more than blanks are taken away
 before_is : (T : List ℕ) (p q : ℕ) → p < q → raw_in is_blank T p ≡ false → (p < before_blanks T q)
     × ((before_blanks T q ≤ q) × (raw_in is_blank T (before_blanks T q - 1) ≡ false))
 unfolding before_blanks

@@ -7,7 +7,7 @@ use Rattle.shgrammar.specs.Bytes.{byte_at, stands}
 use Rattle.shgrammar.specs.HereDocuments.{Quoting, behind_quote, has_dollar_single, is_live, is_quote}
 use Rattle.shgrammar.proofs.Unquoted.{rest_stands}
 
--- with these bytes behind the next one
+-- with these bytes after the next one
 abbrev turn : Quoting → Bool → ℕ → List ℕ → List ℕ → Bool
 turn q second b rest behind = cond (is_live q 92 b) (has_dollar_single q second behind)
     (cond (is_quote q b) (has_dollar_single (behind_quote q b) false rest)

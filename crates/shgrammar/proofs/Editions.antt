@@ -55,7 +55,8 @@ pub tokens_same : (position : Position) (T : List ℕ) (p : ℕ) (x : Option ℕ
 tokens_same position T p None = refl
 tokens_same position T p (Some b) =
     either (is_newline b) _ _ _ _ refl
-    (either (b == 59) _ _ _ _ (either (stands T (past_byte T p) 59) _ _ _ _ refl (neither (stands T (past_byte T p) 38)))
+    (either (b == 59) _ _ _ _ (either (stands T (past_byte T p) 59) _ _ _ _ refl
+    (neither (stands T (past_byte T p) 38)))
     (either (b == 38) _ _ _ _ (either (stands T (past_byte T p) 38) _ _ _ _ refl refl)
     (either (b == 124) _ _ _ _ (either (stands T (past_byte T p) 124) _ _ _ _ refl refl)
     (either (b == 40) _ _ _ _ refl
@@ -164,20 +165,23 @@ none_falls position g s by = rw by (no_falling (token_at position g.text (past_b
 
 -- a backslash takes one byte, also the closing one
 past_escapes : does dollar_single Whole (given Y2024 (codes "$'a\\'b' c") 10) (standing 0) ≡ Ok (tt, standing 7)
-unfolding dollar_single escaped_turn many turns turns_below past_byte past_continuations count_joined raw_past count_front
+unfolding dollar_single escaped_turn many turns turns_below past_byte past_continuations count_joined raw_past
+    count_front
     at_end raw_stands past_taken
 past_escapes = refl
 
 -- the end inside it, and a backslash as the last byte, are faults at the `$`
 open_at_end : does dollar_single Whole (given Y2024 (codes "$'a") 10) (standing 0)
     ≡ Err (record { kind = UnclosedDollarSingle; at = 10 })
-unfolding dollar_single escaped_turn many turns turns_below past_byte past_continuations count_joined raw_past count_front
+unfolding dollar_single escaped_turn many turns turns_below past_byte past_continuations count_joined raw_past
+    count_front
     at_end raw_stands past_taken
 open_at_end = refl
 
 open_at_backslash : does dollar_single Whole
     (given Y2024 (codes "$'a\\") 10) (standing 0) ≡ Err (record { kind = UnclosedDollarSingle; at = 10 })
-unfolding dollar_single escaped_turn many turns turns_below past_byte past_continuations count_joined raw_past count_front
+unfolding dollar_single escaped_turn many turns turns_below past_byte past_continuations count_joined raw_past
+    count_front
     at_end raw_stands past_taken
 open_at_backslash = refl
 
@@ -197,7 +201,7 @@ ender_told_so : (tell (ender_told true) (codes "a;\\\n& b") 1 5 ≡ codes ";&" �
     × (tell (ender_told false) (codes "a;; b") 1 3 ≡ [])
 ender_told_so = (refl, refl)
 
--- a word with `$'` is no delimiter; in double quotes, and behind `$$`, there is no `$'`
+-- a word with `$'` is no delimiter; in double quotes, and after `$$`, there is no `$'`
 quoted_so : (has_dollar_single not_quoted false (codes "a$'E'") ≡ true)
     × (has_dollar_single not_quoted false (codes "\"$'\"") ≡ false)
     × (has_dollar_single not_quoted false (codes "$$'E'") ≡ false)

@@ -202,8 +202,9 @@ module _ {edition : Edition} {T U : List ℕ} {a L : ℕ} {to : ℕ → ℕ} (K 
           here_behind K (inside_of w (ap ends is ∙ plain_stays b b_plain)),
         )
 
-    -- behind such a byte
-    next_goes : {r : ℕ} → Goes r → stands_in test T r ≡ true → Goes (past_byte T r) × (past_byte U (to r) ≡ to (past_byte T r))
+    -- after such a byte
+    next_goes : {r : ℕ} → Goes r → stands_in test T r ≡ true → Goes (past_byte T r)
+        × (past_byte U (to r) ≡ to (past_byte T r))
     unfolding stands_in
     next_goes {r = r} w e = next_by w (byte_at T r) refl e
 
@@ -223,7 +224,7 @@ module _ {edition : Edition} {T U : List ℕ} {a L : ℕ} {to : ℕ → ℕ} (K 
         (subst Goes (sym none) w, past_none test U (to r) (same_test w ∙ e) ∙ ap to (sym none)))
         (cases_Bool (stands_in test T r))
 
-    -- behind all such bytes
+    -- after all such bytes
     past_goes : {r : ℕ} → Goes r → Goes (past test T r) × (past test U (to r) ≡ to (past test T r))
     past_goes {r = r} w = past_below (suc (length T - r)) r (omega arith) w
 
@@ -415,7 +416,7 @@ begun position T p so no_blank = begun_by position T p (byte_at T p) refl so no_
 
 -- ---- what may follow an item
 
--- what may stand behind an item in a printed text: a blank, a newline, `;` or `)`
+-- what may stand after an item in a printed text: a blank, a newline, `;` or `)`
 abbrev pub follows : List ℕ → Bool
 follows [] = false
 follows (c ∷ cs) = c == 32 || (c == 10 || (c == 59 || c == 41))

@@ -1,4 +1,4 @@
--- No span of what was read, that of a here-document's body among them, names an offset behind the place where
+-- No span of what was read, that of a here-document's body among them, names an offset past the place where
 -- the reading stands then; and each simple command that was read has an item.
 use Rattle.std.proofs.Common.{◌≡◌, sym, subst, ℕ, zero, suc, ◌+◌, ◌≤◌, Bool, true, false, Ok, List, List as Row, [], ◌∷◌, Option, Some, None, arith}
 use Rattle.std.specs.Prelude.{All, unwrap_or}
@@ -203,7 +203,7 @@ module _ {g : Given} {limit : ℕ} where
         picks (ends_item n.token) (ender_in (falls_through n.token) s)
         (picks (is_closing closings.Esac n.token) (gives (low, All-nil (IsSpanWithin limit))) (stopped inner n))
 
-    -- the items so far, and the comments behind them
+    -- the items so far, and the comments after them
     abbrev CasesIn : CasesSo → Type 0
     CasesIn c = All (CaseIn limit) c.items × AreIn limit c.comments
 

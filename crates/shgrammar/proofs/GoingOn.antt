@@ -267,7 +267,7 @@ module _ {edition : Edition} {T U : List ℕ} {a M : ℕ} {to : ℕ → ℕ} {li
   go_pick false true is one two = absurd cc
   go_pick false false is one two = two
 
-  -- behind the same
+  -- after the same
   pub go_at : {Z X Y : Type 0} {S : X → Y → Type 0} (r : Z → Form X) (q : Z → Form Y) → ((n : Z) → Goes S (r n) (q n)) →
       (n m : Z) → n ≡ m → Goes S (r n) (q m)
   go_at {S = S} r q each n m same = subst (λ z. Goes S (r n) (q z)) same (each n)

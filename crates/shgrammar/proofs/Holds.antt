@@ -22,7 +22,7 @@ use Rattle.shgrammar.proofs.Turns.{turns_on, turns_rest, turns_done, turns_fault
 use Rattle.shgrammar.specs.Sights.{escaped_on}
 use Rattle.shgrammar.proofs.Places.{next_escaped_low}
 
--- P holds of what is read and of the state behind it; of a fault nothing is said
+-- P holds of what is read and of the state after it; of a fault nothing is said
 abbrev pub Holds : {X : Type 0} → (X → State → Type 0) → Read X → Type 0
 Holds P (Ok (x, t)) = P x t
 Holds P (Err f) = Unit {0}
@@ -163,14 +163,14 @@ module _ (keep : Keep) (g : Given) where
         turn_by a s (f a s) refl (each a s so).told
         (λ b t less there. turns_hold n b t (omega (arith, less, low)) there)
 
-    -- a repetition: P holds before each turn, and Q behind the last
+    -- a repetition: P holds before each turn, and Q after the last
     pub tells_until : (a : A) (s : State) → P a s → Tells (many turn a) Q s
     unfolding f many
     tells_until a s so = record { told = turns_hold (suc (length g.text - s.at)) a s (omega arith) so }
 
   module _ {A : Type 0} (turn : A → Form (Step A)) (P : A → State → Type 0)
       (each : (a : A) (s : State) → P a s → Tells (turn a) (Turned P) s) where
-    -- P holds before and behind each turn
+    -- P holds before and after each turn
     pub tells_many : (a : A) (s : State) → P a s → Tells (many turn a) P s
     tells_many a s so = tells_until turn P P P each (λ b t good. good) (λ b t good. good) a s so
 
@@ -260,7 +260,7 @@ change_low (waits w) g s t is = let same : record { at = s.at; waiting = s.waiti
 change_low bodies_here g s t is =
     state_low s t (bodies_from g s.waiting s.bodies s.at) (λ y read. bodies_low g s.waiting s.bodies s.at y read) is
 
--- behind a state
+-- after a state
 abbrev pub Behind : {X : Type 0} → State → X → State → Type 0
 Behind s x t = s.at ≤ t.at
 

@@ -58,7 +58,7 @@ module _ {edition : Edition} {T U : List ℕ} {a L : ℕ} {to : ℕ → ℕ} (K 
   pub clear : (p : ℕ) → a ≤ p → past_continuations T p < L → Clear p → In p
   clear p from lt e = here K p from lt (λ f. absurd (raw_clear p e f))
 
-  -- a byte that is read behind p, and one at p
+  -- a byte that is read after p, and one at p
   pub before : (p : ℕ) → a ≤ p → In (past_byte T p) → In p
   before p from i =
       let lt = i.inside in
@@ -68,7 +68,7 @@ module _ {edition : Edition} {T U : List ℕ} {a L : ℕ} {to : ℕ → ℕ} (K 
   pub high : {p : ℕ} → In p → p ≤ L
   high {p = p} i = let lt = i.inside in let le = place_low T p in omega (arith, lt, le)
 
-  -- ---- a byte as it stands, and the one behind a backslash
+  -- ---- a byte as it stands, and the one after a backslash
 
   pub same_taken : (q : ℕ) → a ≤ q → q < L → past_taken U (to q) ≡ to (past_taken T q)
   unfolding past_taken
@@ -372,7 +372,7 @@ module _ {edition : Edition} {T U : List ℕ} {a L : ℕ} {to : ℕ → ℕ} (K 
       inside : State
       inside = at (past_byte T s.at) s
 
-  -- the quote behind the `$` is before the limit too
+  -- the quote after the `$` is before the limit too
   pub dollar_single_in : (s : State) → a ≤ s.at → Clear K s.at → Clear K (past_byte T s.at) →
       Holds (Ends dollar_single (λ p. In K p × In K (past_byte T p)) s) (does dollar_single Whole g s)
   unfolding dollar_single many

@@ -1,4 +1,4 @@
--- The script of a row of lines is what their lines give, one behind the other.
+-- The script of a row of lines is what their lines give, one after the other.
 use Rattle.std.proofs.Common.{◌≡◌, ℕ, ◌+◌, ◌≤◌, Bool, true, false, not, ◌&&◌, List, List as Row, [], ◌∷◌, ◌++◌, map, drop, length, Ok, Err, None, Some, refl, sym, ap, subst, ◌∙◌, arith, append-nil}
 use Rattle.std.proofs.lemmas.List.{drop_all, length-drop}
 use Rattle.shgrammar.specs.declared.fault.Fault.{Fault}
@@ -45,7 +45,7 @@ added p so es =
     (rows_appended so.entries (there p (is_blank_line so) es))
 
 module _ (edition : Edition) (B : List ℕ) where
-  -- behind the last byte nothing is read
+  -- after the last byte nothing is read
   at_end : (so : SoFar) (p : ℕ) → length B ≤ p →
       script_on edition B so p ≡ record { entries = entries_of so.entries; wrong = None }
   at_end so p le =
@@ -63,7 +63,7 @@ module _ (edition : Edition) (B : List ℕ) where
   abbrev Rest : ℕ → Row ALine → Type 0
   Rest q ls = (so : SoFar) → Joins q so ls
 
-  -- a line that a newline token ended, and what the lines behind it give
+  -- a line that a newline token ended, and what the lines after it give
   line_on : (p : ℕ) (so : SoFar) (es : Row AnEntry) (rest : Entries → Bool → AScript) (y : AScript) →
       y ≡ rest (entries_of (so.entries ++ there p (is_blank_line so) es)) (is_empty es)
       → y ≡ line_joined_by rest (kind_of es true) (entries_of so.entries) so.gap p

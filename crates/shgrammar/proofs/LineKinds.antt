@@ -30,7 +30,7 @@ none_within limit [] true = tt
 none_within limit [] false = tt
 none_within limit (e ∷ es) newline = tt
 
--- a line without fault has none that could lie behind it
+-- a line without fault has none that could lie after it
 pub no_fault_within : (limit : ℕ) (kind : AKind) (es : List AnEntry) (newline : Bool) → kind ≡ kind_of es newline →
     FaultWithin limit kind
 no_fault_within limit kind es newline is = subst (FaultWithin limit) (sym is) (none_within limit es newline)

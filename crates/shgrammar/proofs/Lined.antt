@@ -65,7 +65,7 @@ end_ended inner keep g s n = record { told = ended_by inner keep g s (is_newline
 abbrev LineEnded : State → Row AnEntry × Bool → State → Type 0
 LineEnded s x t = x.1 ≡ true → s.at < t.at
 
--- what comes behind s comes behind what is before it
+-- what is at t or past it is so of s, which is before t
 further : (keep : Keep) (g : Given) {X : Type 0} (r : Form X) (s t : State) → s.at ≤ t.at → Tells keep g r (Behind s) t
 further keep g r s t on = tells_so keep g (low r keep g t) (λ x u more. omega (arith, on, more))
 

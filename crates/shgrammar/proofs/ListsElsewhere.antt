@@ -282,7 +282,7 @@ module _ {edition : Edition} {T U : List ℕ} {a M : ℕ} {to : ℕ → ℕ} {li
       one n = picks (is_semicolon n.token) _ refl
           (then moves_on (λ x y all. then (next Command) (λ m k same. gives (ap (λ z. (true, z)) same)))) (gives refl)
 
-  -- the offset behind it does not count
+  -- the offset after it does not count
   abbrev SameSeparator : Option ASeparator × Next → Option ASeparator × Next → Type 0
   SameSeparator x y = (is_background x.0 ≡ is_background y.0)
       × ((is_some (past_separator x.0) ≡ is_some (past_separator y.0)) × (x.1 ≡ y.1))

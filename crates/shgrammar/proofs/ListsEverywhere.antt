@@ -1,4 +1,4 @@
--- Words, commands and lists: no span in them names an offset behind the place where the
+-- Words, commands and lists: no span in them names an offset past the place where the
 -- reading stands then, and each simple command has an item.
 use Rattle.std.proofs.Common.{◌≡◌, refl, ℕ, ◌+◌, ◌≤◌, Bool, false, List as Row, [], Option, Some, None, is_some, ap, ◌∙◌, arith}
 use Rattle.std.specs.Prelude.{All, MatchOption, ◌||◌}
@@ -45,7 +45,7 @@ module _ (limit : ℕ) where
   abbrev pub SomeItems : Items → Type 0
   SomeItems i = ItemsIn i × IsSome (items_of i.items)
 
-  -- and there is one, or the token behind them begins one
+  -- and there is one, or the token after them begins one
   abbrev pub ItemsBegin : Items → Type 0
   ItemsBegin i = ItemsIn i × (begins_simple i.next.token ≡ false → IsSome (items_of i.items))
 
@@ -55,7 +55,7 @@ module _ (limit : ℕ) where
   abbrev pub PartsIn : Joined → Type 0
   PartsIn a = All (PartIn limit) a.parts
 
-  -- the offset behind a separator
+  -- the offset after a separator
   abbrev pub PartedIn : Option ℕ → Type 0
   PartedIn parted = MatchOption parted (Unit {0}) (λ p. p ≤ limit)
 

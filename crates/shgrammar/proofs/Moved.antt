@@ -251,7 +251,8 @@ token_like k o c P s (Ok (x, t)) (Err e) like = absurd like
 token_like k o c P s (Err e) (Ok (y, t)) like = absurd like
 token_like k o c P s (Err e) (Err f) like = like
 
-pub moves_token : {z : Place} {X : Type 0} {c : X → X} {P : X → Type 0} {how : Telling} {r q : Form X} → Moves z c P r q →
+pub moves_token : {z : Place} {X : Type 0} {c : X → X} {P : X → Type 0} {how : Telling} {r q : Form X} → Moves z c P r q
+    →
     Moves z (each c (placed_span z.base)) (of_first P) (token how r) (token how q)
 moves_token {z = z} {c = c} {P = P} {r = r} {q = q} one =
     record {
@@ -430,7 +431,7 @@ module _ (edition : Edition) (T : List ℕ) (k o : ℕ) where
       rw (← row) (more (bodies ++ span o p q ∷ []) (past_line T q)
       (omega (arith, from, low.0, low.1, next_newline_low T q)))
 
-  -- bodies that begin behind a newline
+  -- bodies that begin just past a newline
   bodies_moved : (ws : Row Waiting) (bodies : Row Span) (p : ℕ) → 1 ≤ p →
       bodies_from (given edition T (k + o)) (map (moved_waiting k) ws) (map (placed_body k) bodies) p
       ≡ moved_bodies k (bodies_from (given edition T o) ws bodies p)
@@ -448,7 +449,7 @@ module _ {z : Place} {Y : Type 0} (d : Y → Y) (Q : Y → Type 0) (f h : Unit {
   change_like (Ok x) y is = rw is (rest.like (record { at = x.1; waiting = []; bodies = x.0 }))
   change_like (Err e) y is = rw is refl
 
-  -- the bodies behind a newline
+  -- the bodies after a newline
   pub moves_newline : Moves z d Q (both (move one_byte) (λ u. both (change bodies_here) f))
       (both (move one_byte) (λ u. both (change bodies_here) h))
   unfolding past_byte

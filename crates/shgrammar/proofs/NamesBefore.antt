@@ -79,9 +79,11 @@ module _ (edition : Edition) (room : ℕ) (T : List ℕ) (o opener : ℕ) where
       let b = byte_in is_name T r f in
       let inside = stands_in_low is_name T r f in
       let high : past_byte T r ≤ length T = omega (arith, inside, behind_is T r) in
-      many_again (a_piece (level room) Plain opener) Whole (given edition T o) c c (standing r) (standing (past_byte T r))
+      many_again (a_piece (level room) Plain opener) Whole (given edition T o) c c (standing r)
+      (standing (past_byte T r))
       (name_turn r b.0 c b.1 b.2) (behind_low T r) high
-      ∙ names_on n (past_byte T r) c (omega (arith, few, high, behind_low T r)) (subst (λ q. ends_word T q ≡ true) more e)
+      ∙ names_on n (past_byte T r) c (omega (arith, few, high, behind_low T r))
+      (subst (λ q. ends_word T q ≡ true) more e)
       ∙ ap (λ (q : ℕ). Ok (c, standing q)) (sym more))
       (λ (f : stands_in is_name T r ≡ false). let none = past_none is_name T r f in
       many_done (a_piece (level room) Plain opener) Whole (given edition T o) c c (standing r) (standing r)
@@ -276,7 +278,7 @@ module _ (room : ℕ) (g : Given) (p n : ℕ) (read : ReadsWord room g p n) (sti
         subst (λ x. stands U (to x) c ≡ stands T x c) (sym end) (other_there c plain ∙ sym (other c plain)))
         (cases_Bool (stands_in is_name T r))
 
-    -- behind a byte that stands before the limit
+    -- after a byte that stands before the limit
     next_spelled : {r : ℕ} (c : ℕ) → is_plain Plain c ≡ true → Goes r → stands T r c ≡ true → Goes (past_byte T r)
         × (past_byte U (to r) ≡ to (past_byte T r))
     next_spelled {r = r} c plain go f =

@@ -64,7 +64,7 @@ pub row_more : (is : Row AnItem) (i : AnItem) (broken : Bool) → NormalRow is �
 row_more is i broken row one e =
     record { first = first_item is i broken row.first e; all = items_more is i row.all one }
 
--- two rows, one behind the other
+-- two rows, one after the other
 pub entries_join : (es ls : Row AnEntry) → are_normal (entries_of es) ≡ true → are_normal (entries_of ls) ≡ true →
     are_normal (entries_of (es ++ ls)) ≡ true
 entries_join [] ls all more = more
@@ -138,7 +138,7 @@ and_false : (b : Bool) → (b && false) ≡ false
 and_false true = refl
 and_false false = refl
 
--- behind a newline
+-- after a newline
 pub newline_more : (blank : Bool) (l : Listed) → NormalList blank l → NormalList blank (next_line l)
 newline_more blank l so = record {
   first = so.first;

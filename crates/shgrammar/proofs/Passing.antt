@@ -1,5 +1,5 @@
 -- Lines at the front of a script: what follows them has no part in how they are read,
--- and the first fault behind them is the script's.
+-- and the first fault after them is the script's.
 use Rattle.std.proofs.Common.{◌≡◌, ℕ, zero, suc, ◌+◌, ◌-◌, ◌<◌, Bool, true, false, Ok, Err, List, List as Row, Option, Some, option_map, length, take, drop, slice_get, refl, sym, ap, subst, ◌∙◌, arith, length-drop}
 use Rattle.std.proofs.Math.Seq.{drop-drop, take-take}
 use Rattle.shgrammar.specs.declared.keep.Keep.TheVariants.{Nothing, Outer, Whole}
@@ -33,7 +33,7 @@ kept_by t (Ok ((es, true), s)) z fs z_is one = let same = rw z_is at one in
 kept_by t (Ok ((es, false), s)) z fs z_is one = let same = rw z_is at one in let no : false ≡ true = same.1 in absurd cc
 kept_by t (Err e) z fs z_is one = let same = rw z_is at one in absurd same
 
--- where the bytes T stand up to behind the newline that ends their line, that line is read
+-- where the bytes T stand up to just past the newline that ends their line, that line is read
 pub line_there : (edition : Edition) → (T U : List ℕ) (n : ℕ) (es : Row AnEntry) (t : State) → t.at ≡ n + 1 →
     slice_get T n ≡ Some 10 → ((r : ℕ) → r < n + 1 → slice_get U r ≡ slice_get T r)
     → does (the_line false) Whole (given edition T 0) (standing 0) ≡ Ok ((es, true), t) →
@@ -49,7 +49,7 @@ line_there edition T U n es t ends newline same read =
     (omega arith) (Ok ((es, true), t)) one.0 part (refl, ends) in
     sym ((is_form (a_line inner false) (given edition U 0) (standing 0)).only (Ok ((es, true), t)) again.1.0 again.1.1)
 
--- bytes that are the same behind the first p of them
+-- bytes that are the same after the first p of them
 same_behind : (p n : ℕ) (B D : List ℕ) → take (p + n) D ≡ take (p + n) B → (r : ℕ) → r < n →
     slice_get (drop p D) r ≡ slice_get (drop p B) r
 same_behind p n B D same r lt = get_drop p D r ∙ same_front (p + n) B D same (p + r) (omega (arith, lt))
@@ -125,7 +125,7 @@ stops_faulty edition bytes p blank f is q line =
     let same : SameBy false p blank (Err f) (Ok ((own.0, true), line.1)) =
     rw (is, own.1) at (line_outer edition bytes p blank) in absurd same
 
--- ---- the first fault behind some bytes, and that of the script
+-- ---- the first fault after some bytes, and that of the script
 
 abbrev later : ℕ → Option Fault → Option Fault
 later n f = option_map (moved_fault n) f
@@ -175,7 +175,7 @@ module _ (edition : Edition) (n : ℕ) (B : List ℕ) where
       (line_from edition D Whole (is_blank_line to) p) (line_told edition B Whole false (n + p) 0)
       (line_moved edition B (n + p) (is_blank_line so)) moved
 
-  -- the first fault from an offset on is that of the bytes behind it, moved
+  -- the first fault from an offset on is that of the bytes after it, moved
   pub behind_is : first_fault_from edition B n ≡ later n (first_fault_from edition (drop n B) 0)
   unfolding first_fault_from script_on
   behind_is =

@@ -69,7 +69,7 @@ module _ {edition : Edition} {T U : List ℕ} {a L : ℕ} {to : ℕ → ℕ} (K 
   Agree c d = SameHeld c d × SameSubsts c.substs d.substs
 
   -- what a construct holds is the same elsewhere, wherever its opener stands and
-  -- behind substitutions of the same shape
+  -- after substitutions of the same shape
   abbrev pub Holding : (Row ASubst → Form (Row ASubst)) → Row ASubst → State → Row ASubst → State → Type 0
   Holding r ss s x t = t.at ≤ L → Inside s.at
       × ((zs : Row ASubst) → SameSubsts ss zs → (y : Row ASubst)
@@ -285,7 +285,7 @@ module _ {edition : Edition} {T U : List ℕ} {a L : ℕ} {to : ℕ → ℕ} (K 
       goal_high (again d) t goal = goal.0
       goal_high (done d) t goal = goal.0
 
-      -- a construct, from behind its opener on
+      -- a construct, from just after its opener on
       open_row : (x : Piece) (m : Mode) → Closed m → (k k2 r : ℕ) → a ≤ r
           → (Inside r → Inside p × (Told x
           × ((d : WordSoFar) → does (piece_row inner mode b2 d x) Whole h (over s)
@@ -338,7 +338,7 @@ module _ {edition : Edition} {T U : List ℕ} {a L : ℕ} {to : ℕ → ℕ} (K 
           let j = before K p from k in
           (j, (told j k, λ d. rw (here_behind K j, here_behind K k, w.1, rest_in K mode r i) refl)))
 
-      -- a substitution, from behind its opener on
+      -- a substitution, from just after its opener on
       substitution : (Inside p → Inside q → Inside (past_byte T q) → Told pieces.Subst) → Again pieces.Subst
       substitution told =
           let k2 = o2 + past_continuations U (to p) in

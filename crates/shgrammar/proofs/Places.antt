@@ -98,17 +98,17 @@ end_high T p e = high (slice_get T p) refl e
     high None is end = none_high T p is
     high (Some b) is end = absurd cc
 
--- behind a byte is to the right of it
+-- the place after a byte is to the right of it
 pub behind_low : (T : List ℕ) (p : ℕ) → p < past_byte T p
 unfolding past_byte
 behind_low T p = omega (arith, place_low T p)
 
--- past continuations is before the place behind the byte
+-- the place past continuations is before the one after the byte
 pub behind_place : (T : List ℕ) (p : ℕ) → past_continuations T p < past_byte T p
 unfolding past_byte
 behind_place T p = omega arith
 
--- where a byte is read, the place behind it is within the text
+-- where a byte is read, the place after it is within the text
 pub behind_high : (T : List ℕ) (p : ℕ) → past_continuations T p < length T → past_byte T p ≤ length T
 unfolding past_byte
 behind_high T p lt = omega arith
@@ -160,7 +160,7 @@ pub raw_past_high : (test : ℕ → Bool) (T : List ℕ) (p : ℕ) → p ≤ len
 unfolding raw_past
 raw_past_high test T p within = omega (arith, count_short test (drop p T), length-drop p T)
 
--- behind a stretch there is no byte of its kind
+-- after a stretch there is no byte of its kind
 pub raw_past_stops : (test : ℕ → Bool) (T : List ℕ) (p : ℕ) → raw_in test T (raw_past test T p) ≡ false
 unfolding raw_past raw_in
 raw_past_stops test T p = ap (passes test) (sym (get_drop p T (count_front test (drop p T))))
@@ -233,7 +233,7 @@ below_stops (suc n) test T p low =
     cond_both (stands_in test T p) _ _ (λ q. stands_in test T q ≡ false)
     (λ e. below_stops n test T (past_byte T p) (omega (arith, behind_low T p))) (λ e. e)
 
--- behind a stretch no byte of its kind is read
+-- after a stretch no byte of its kind is read
 pub past_stops : (test : ℕ → Bool) (T : List ℕ) (p : ℕ) → stands_in test T (past test T p) ≡ false
 unfolding past
 past_stops test T p = below_stops (length T - p) test T p (omega arith)
@@ -253,17 +253,17 @@ pub blanks_stop : (T : List ℕ) (p : ℕ) → stands_in is_blank T (past_blanks
 unfolding past_blanks
 blanks_stop T p = stands_in_past is_blank T (past is_blank T p) ∙ past_stops is_blank T p
 
--- behind a reserved word
+-- after a reserved word
 pub reserved_low : (T : List ℕ) (p : ℕ) → p ≤ past_reserved T p
 unfolding past_reserved
 reserved_low T p = omega (arith, behind_low T p, past_low is_name T (past_byte T p))
 
--- behind digits
+-- after digits
 pub digits_low : (T : List ℕ) (p : ℕ) → p ≤ past_digits T p
 unfolding past_digits
 digits_low T p = past_low is_digit T p
 
--- behind a parameter
+-- after a parameter
 pub parameter_low : (T : List ℕ) (p : ℕ) → p ≤ past_parameter T p
 unfolding past_parameter
 parameter_low T p =

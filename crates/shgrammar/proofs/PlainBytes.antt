@@ -153,7 +153,7 @@ module _ (inner : Inner) (keep : Keep) (g : Given) (mode : Mode) (b : ℕ) (ws :
       let there : p + (q - p) ≡ q = omega arith in
       plain_run h p (q - p) (λ k k_low k_high. plain k k_low (omega (arith, k_high))) (omega arith) ∙ ap (all h) there
 
-  -- one piece, and the plain bytes behind it
+  -- one piece, and the plain bytes after it
   pub piece_and_plain : (h i : WordSoFar) (vs : Row Waiting) (es : Row Span) (p q r : ℕ) (x : Read WordSoFar) →
       all_from vs es h p ≡ x → turn h (placed vs es p) ≡ Ok (again i, placed ws ds q) → p < q → q ≤ length g.text
       → ArePlain mode g.text q r → q ≤ r → r ≤ length g.text → all i r ≡ x
@@ -170,7 +170,7 @@ module _ (inner : Inner) (keep : Keep) (g : Given) (mode : Mode) (b : ℕ) (ws :
   contents_done h ss vs es p s q so last =
       ap given_by (sym so ∙ many_done (a_piece inner mode b) keep g h h (placed ws ds p) (placed ws ds q) last)
 
-  -- plain bytes, and what closes behind them
+  -- plain bytes, and what closes after them
   pub plain_closed : (ss : Row ASubst) (p q : ℕ) → ArePlain mode g.text p q → p ≤ q → q ≤ length g.text →
       piece_in g.edition mode (piece_at g.text mode 0 q) ≡ pieces.Closer
       → does (contents inner mode b ss) keep g (placed ws ds p) ≡ Ok (ss, placed ws ds (past_closer g.text mode q))
@@ -185,7 +185,7 @@ module _ (inner : Inner) (keep : Keep) (g : Given) (mode : Mode) (b : ℕ) (ws :
   unfolding a_piece past_byte
   ordinary_piece h p ordinary = rw ordinary refl
 
-  -- an ordinary byte, and the plain ones behind it
+  -- an ordinary byte, and the plain ones after it
   pub ordinary_contents : (ss : Row ASubst) (p q : ℕ) →
       piece_in g.edition mode (piece_at g.text mode 0 p) ≡ pieces.Ordinary →
       ArePlain mode g.text (past_continuations g.text p + 1) q
@@ -200,7 +200,7 @@ module _ (inner : Inner) (keep : Keep) (g : Given) (mode : Mode) (b : ℕ) (ws :
       (ordinary_piece h p ordinary) (omega (arith, place_low g.text p)) (omega (arith, low, high))
       ∙ plain_turns h r q plain low high)
 
-  -- plain bytes, and what stands behind them
+  -- plain bytes, and what stands after them
   pub plain_contents : (ss : Row ASubst) (p q : ℕ) → ArePlain mode g.text p q → p ≤ q → q ≤ length g.text
       → does (contents inner mode b ss) keep g (placed ws ds p)
       ≡ does (contents inner mode b ss) keep g (placed ws ds q)
@@ -217,7 +217,7 @@ closed_here edition inner keep ws ds T o mode b ss q high end =
     plain_closed inner keep (given edition T o) mode b ws ds ss q q (λ k low below. absurd (omega (arith, low, below)))
     (omega arith) high end
 
--- an ordinary byte, and the plain ones behind it
+-- an ordinary byte, and the plain ones after it
 pub ordinary_here : (edition : Edition) →
     (inner : Inner) (keep : Keep) (ws : Row Waiting) (ds : Row Span) (T : List ℕ) (o : ℕ) (mode : Mode) (b : ℕ)
     (ss : Row ASubst) (p q : ℕ) → piece_in edition mode (piece_at T mode 0 p) ≡ pieces.Ordinary

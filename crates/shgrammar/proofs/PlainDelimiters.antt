@@ -1,5 +1,5 @@
 -- Delimiters whose text stands in the word: of ordinary bytes alone, of such in
--- quotes, or of such behind a backslash.
+-- quotes, or of such after a backslash.
 use Rattle.std.proofs.Common.{◌≡◌, ℕ, ◌+◌, ◌-◌, ◌==◌, ◌≤◌, Bool, true, false, ◌||◌, not, List, [], ◌∷◌, ◌++◌, length, take, drop, Option, Some, None, get_or, refl, sym, ap, ◌∙◌, arith}
 use Rattle.std.specs.Prelude.{◌&&◌, nat_lt}
 use Rattle.std.specs.List.{list_all}
@@ -147,7 +147,7 @@ quoted_bare b bs is =
     let first : bare (b ∷ bs) ≡ b ∷ bare bs = bare_one b bs (λ c cs e. first_false _ _ (quote_quotes b is)) in
     rw (first, quote_quotes b is, is) refl
 
--- ---- of them behind a backslash
+-- ---- of them after a backslash
 
 no_newline : (c : ℕ) → is_plain Plain c ≡ true → (c == 10) ≡ false
 no_newline c plain = (none_of_three (is_blank c) (c == 10) (is_operator c) (ap not (no_end c plain))).1

@@ -85,7 +85,7 @@ module _ {edition : Edition} {T T2 : List ℕ} {a L : ℕ} {to : ℕ → ℕ} (K
   safe_high (one_byte low on rest) = omega (arith, safe_high rest)
   safe_high (two_bytes low c rest) = omega (arith, safe_high rest)
 
-  -- behind a byte that is no backslash
+  -- after a byte that is no backslash
   pub safe_byte : (p : ℕ) → a ≤ p → raw_stands T p 92 ≡ false → Safe T a L (p + 1) → Safe T a L p
   safe_byte p low e rest =
       ⊎_elim (λ on. one_byte low on rest)

@@ -41,7 +41,7 @@ module _ {edition : Edition} {T U : List ℕ} {a M : ℕ} {to : ℕ → ℕ} (E 
   abbrev h : Given
   h = given edition U o2
 
-  -- a line that ends behind the newline
+  -- a line that ends just past the newline
   abbrev Closed : Read (Row AnEntry × Bool) → Type 0
   Closed (Ok ((es, newline), t)) = (newline ≡ true) × (t.at ≡ M + 1)
   Closed (Err f) = ⊥
@@ -70,7 +70,7 @@ module _ {edition : Edition} {T U : List ℕ} {a M : ℕ} {to : ℕ → ℕ} (E 
   unfolding past_byte
   behind_is p = refl
 
-  -- behind the newline here
+  -- after the newline here
   abbrev past : State → State
   past s = record { at = past_byte T s.at; waiting = s.waiting; bodies = s.bodies }
 
@@ -87,7 +87,7 @@ module _ {edition : Edition} {T U : List ℕ} {a M : ℕ} {to : ℕ → ℕ} (E 
       (ten_goes_not (slice_get T s.at) here))
       (λ ge. let is : M ≡ s.at = omega (arith, ge, le) in subst (Good T a M) is at_limit) (cases_lt s.at M)
 
-  -- what is given behind the newline, and where nothing waits at the end
+  -- what is given after the newline, and where nothing waits at the end
   abbrev line_true : Row AnEntry → Result State Fault → Read (Row AnEntry × Bool)
   line_true es x = ◌▸◌ {Y = Row AnEntry × Bool} (◌▸◌ {Y = Bool} (nothing_read x) (λ z t. Ok (true, t)))
       (λ newline t. Ok ((es, newline), t))

@@ -80,7 +80,8 @@ module _ (T : List ℕ) (p : ℕ) where
       (λ e. cond_both (stands T (past_byte T (past_byte T p)) 45) _ _ Long (λ f l. stands_read T (past_byte T p) 60 e)
       (λ f l. stands_read T (past_byte T p) 60 e))
       (λ e. cond_both (stands T (past_byte T p) 38) _ _ Long (λ f l. stands_read T (past_byte T p) 38 f)
-      (λ f. cond_both (stands T (past_byte T p) 62) _ _ Long (λ g l. stands_read T (past_byte T p) 62 g) (λ g l. absurd cc)))
+      (λ f. cond_both (stands T (past_byte T p) 62) _ _ Long (λ g l. stands_read T (past_byte T p) 62 g)
+      (λ g l. absurd cc)))
 
   -- `<<-` has a third one
   abbrev Strip : RedirectOperator → Type 0
@@ -163,7 +164,8 @@ redirect_read : (T : List ℕ) (p : ℕ) (o : RedirectOperator) → (is_long o �
     IsRead T (past_byte T p)
 redirect_read T p o so z is long = let same : o ≡ z = cc in so (rw same long)
 
-strip_read : (T : List ℕ) (p : ℕ) (o : RedirectOperator) → (is_strip o ≡ true → IsRead T (past_byte T (past_byte T p))) →
+strip_read : (T : List ℕ) (p : ℕ) (o : RedirectOperator) → (is_strip o ≡ true → IsRead T (past_byte T (past_byte T p)))
+    →
     (z : RedirectOperator) → redirect_operator_of (tokens.Redirect o) ≡ Some z → is_strip z ≡ true →
     IsRead T (past_byte T (past_byte T p))
 strip_read T p o so z is strip = let same : o ≡ z = cc in so (rw same strip)
@@ -419,7 +421,7 @@ pub blanks_still : (T : List ℕ) (p : ℕ) → past_continuations T (past_blank
 unfolding past_blanks
 blanks_still T p = place_same T _
 
--- a token says this of the bytes behind blanks
+-- a token says this of the bytes after blanks
 pub shown : (position : Position) (T : List ℕ) (p : ℕ) →
     Shows (token_at position T (past_blanks T p)) T (past_blanks T p)
 unfolding token_at stands_in raw_stands

@@ -132,7 +132,7 @@ of_so : {X : Type 0} (P Q : X → Row Spelled → Type 0) (y : Read X) (k : Row 
 of_so P Q (Ok (x, t)) k one so = so x one
 of_so P Q (Err f) k one so = tt
 
--- behind the tokens k
+-- after the tokens k
 of_behind : {X : Type 0} (Q : X → Row Spelled → Type 0) (k : Row Spelled) (y : Read X) (l : Row Spelled) →
     Of (λ x m. Q x (k ++ m)) y l → Of Q y (k ++ l)
 of_behind Q k (Ok (x, t)) l so = so

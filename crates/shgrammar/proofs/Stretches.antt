@@ -41,7 +41,7 @@ raw_none test T p e =
     let count : count_front test (drop p T) ≡ 0 = count_at test T p ∙ rw e refl in
     omega (arith, count)
 
--- a stretch from what stands in it and behind it
+-- a stretch from what stands in it and after it
 pub raw_is : (test : ℕ → Bool) (T : List ℕ) (p n : ℕ) → ((k : ℕ) → p ≤ k → k < p + n → raw_in test T k ≡ true) →
     raw_in test T (p + n) ≡ false → raw_past test T p ≡ p + n
 raw_is test T p zero in_it after =
@@ -52,7 +52,7 @@ raw_is test T p (suc n) in_it after =
     raw_more test T p (in_it p (omega arith) (omega arith))
     ∙ raw_is test T (p + 1) n (λ k low high. in_it k (omega arith) (omega arith)) (rw next after) ∙ next
 
--- a stretch goes on behind what stands in it
+-- a stretch goes on after what stands in it
 pub raw_on : (test : ℕ → Bool) (T : List ℕ) (p n : ℕ) → ((k : ℕ) → p ≤ k → k < p + n → raw_in test T k ≡ true) →
     raw_past test T p ≡ raw_past test T (p + n)
 raw_on test T p zero in_it =

@@ -84,7 +84,7 @@ pub no_entries : (inner : Inner) (l : ListSo) (keep : Keep) (g : Given) (s : Sta
     begins_pipeline l.next.token ≡ false → does (many (entry_turn inner) l) keep g s ≡ Ok (l, s)
 no_entries inner l keep g s none = many_done (entry_turn inner) keep g l l s s (no_entry inner l keep g s none)
 
--- the last entry of a line, where none begins behind what parts it from the next
+-- the last entry of a line, where none begins after what parts it from the next
 pub last_entry : (inner : Inner) (l m : ListSo) (keep : Keep) (g : Given) (s t : State) →
     does (entry_turn inner l) keep g s ≡ Ok (again m, t) → s.at < t.at → t.at ≤ length g.text
     → begins_pipeline m.next.token ≡ false → does (many (entry_turn inner) l) keep g s ≡ Ok (m, t)

@@ -102,14 +102,14 @@ joined_on class T p some =
 pub blanks_stop_raw : (T : List ℕ) (p : ℕ) → raw_in is_blank T (raw_past is_blank T p) ≡ false
 blanks_stop_raw T p = raw_past_stops is_blank T p
 
--- where no continuation stands behind them, a token begins there
+-- where no continuation stands after them, a token begins there
 pub blanks_whole : (T : List ℕ) (p : ℕ) → continues T (raw_past is_blank T p) ≡ false →
     past_blanks T p ≡ raw_past is_blank T p
 unfolding past_blanks
 blanks_whole T p none = ap (past_continuations T) (past_whole Blank T p none)
     ∙ joined_none T (raw_past is_blank T p) none
 
--- else behind what follows the continuation
+-- else after what follows the continuation
 pub blanks_on : (T : List ℕ) (p : ℕ) → past_blanks T p ≡ past_continuations T (past is_blank T (raw_past is_blank T p))
 unfolding past_blanks
 blanks_on T p = ap (past_continuations T) (past_raw Blank T p)

@@ -13,7 +13,7 @@ use Rattle.shgrammar.specs.HereDocuments.{Quoting, behind_quote, byte_left, doll
 use Rattle.shgrammar.specs.Unquoting.{escapes, left_of}
 use Rattle.shgrammar.proofs.Stretches.{get_drop, joined_more, joined_none}
 
--- ---- text and what is left behind it
+-- ---- text and what is left after it
 
 push_left : (text : List ℕ) (c : ℕ) (left : Option (List ℕ)) →
     left_of text (left_before c left) ≡ left_of (text ++ c ∷ []) left

@@ -27,7 +27,7 @@ comment_by_test true o p last next c one two is = let spans : span o p last ≡ 
     subst (λ (d : Span). IsSpanWithin (o + next) d) spans (omega (arith, one), omega (arith, two))
 comment_by_test false o p last next c one two is = absurd cc
 
--- a comment ends before the place behind it
+-- a comment ends before the place after it
 pub comment_ends : (T : List ℕ) (o p : ℕ) (c : Span) → comment_at T o p ≡ Some c → IsSpanWithin (o + past_comment T p) c
 unfolding comment_at past_comment
 comment_ends T o p c is =
@@ -150,7 +150,7 @@ module _ {g : Given} {limit : ℕ} where
       (tokens {P = λ x. Unit {0}} (record { told = tells_so Whole g (low r Whole g s) (λ x t on. λ b. tt) }))
       (λ x so. so.1)
 
-  -- a repetition: P holds before the first turn, and Q, from which P follows, behind each
+  -- a repetition: P holds before the first turn, and Q, from which P follows, after each
   pub grows : {A : Type 0} (P Q : A → Type 0) (turn : A → Form (Step A)) →
       ((a : A) (s : State) → P a → UpTo g limit (turn a) (Stepped Q) s) → ((a : A) → Q a → P a) → (a : A) (s : State) →
       P a

@@ -1,4 +1,4 @@
--- No node of what was read names an offset behind the place where the reading stands then.
+-- No node of what was read names an offset past the place where the reading stands then.
 use Rattle.std.proofs.Common.{◌≡◌, refl, sym, subst, ℕ, zero, suc, ◌+◌, ◌≤◌, Bool, true, false, cond, Ok, Err, List, List as Row, [], ◌∷◌, ◌++◌, Option, Some, None, is_some, arith, ⊎_elim}
 use Rattle.std.specs.Prelude.{All, MatchOption, unwrap_or}
 use Rattle.std.proofs.lemmas.Bool.{cases_lt, cond_both}
@@ -63,7 +63,7 @@ comment_by_test true o p last next c one two is = let spans : span o p last ≡ 
     subst (λ (d : Span). IsSpanWithin (o + next) d) spans (omega (arith, one), omega (arith, two))
 comment_by_test false o p last next c one two is = absurd cc
 
--- a comment ends before the place behind it
+-- a comment ends before the place after it
 comment_low : (T : List ℕ) (o p : ℕ) (c : Span) → comment_at T o p ≡ Some c → IsSpanWithin (o + past_comment T p) c
 unfolding comment_at past_comment
 comment_low T o p c is =
@@ -431,7 +431,7 @@ module _ (keep : Keep) (g : Given) (limit : ℕ) where
         (repeats PartsFit (join_pipeline inner) join_pipeline_fits (joined_so [] p.1) t (All-nil (PartFits limit)))
         (λ a u all. gives (fits_and_or limit p.0 a.parts one all)))
 
-    -- the offset behind a separator
+    -- the offset after a separator
     abbrev PartedFits : Option ℕ → Type 0
     PartedFits parted = MatchOption parted (Unit {0}) (λ p. p ≤ limit)
 
@@ -697,7 +697,7 @@ module _ (keep : Keep) (g : Given) (limit : ℕ) where
         picks (ends_item n.token) (ender_fits (falls_through n.token) s)
         (picks (is_closing closings.Esac n.token) (gives (low, All-nil (CommentFits limit))) (stopped n))
 
-    -- the items so far, and the comments behind them
+    -- the items so far, and the comments after them
     abbrev CasesFit : CasesSo → Type 0
     CasesFit c = All (CaseFits limit) c.items × All (CommentFits limit) c.comments
 

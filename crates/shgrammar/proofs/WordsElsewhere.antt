@@ -298,7 +298,8 @@ module _ (room : ℕ) (all : Everywhere (level room)) where
           found : (zs : Row ASubst) → SameSubsts K o o2 B B2 ss zs
               → (y : Row ASubst) × ((does (a_substitution inner b2 zs) Whole h (over_there outer)
               ≡ Ok (y, over_there (outer_level outer last)))
-              × SameSubsts K o o2 B B2 (ss ++ one_more (filled u.bodies (entries_of l.list.entries)) b (o + past_byte T M)
+              × SameSubsts K o o2 B B2 (ss
+              ++ one_more (filled u.bodies (entries_of l.list.entries)) b (o + past_byte T M)
               ∷ []) y)
           unfolding a_substitution one_substitution
           found zs same = (

@@ -37,7 +37,7 @@ use Rattle.shgrammar.specs.Tokens.{is_later}
 use Rattle.shgrammar.proofs.Places.{next_escaped_low}
 use Rattle.std.proofs.Common.{◌&&◌}
 
--- behind a byte, or two
+-- after a byte, or two
 taken_on : (T : List ℕ) (q : ℕ) → q < length T → (raw_stands T q 92 ≡ true → q + 1 < length T) → (q < past_taken T q)
     × (past_taken T q ≤ length T)
 unfolding past_taken
@@ -144,7 +144,7 @@ module _ (g : Given) where
 
   -- ---- pieces
 
-  -- behind a construct of this mode, or a word
+  -- after a construct of this mode, or a word
   abbrev pub Last : Mode → State → Type 0
   Last mode t = (t.at ≤ length T) × (mode ≡ Plain → ends_word T t.at ≡ true)
 
@@ -357,7 +357,7 @@ module _ (g : Given) where
         by_waiting (Some b) = tt
         by_waiting None = refl
 
-    -- a list, and the `)` behind it
+    -- a list, and the `)` after it
     substitution_list_end : (s : State) → Tells Whole g (substitution_list inner) (λ x t. t.at ≤ length T) s
     unfolding substitution_list
     substitution_list_end s =

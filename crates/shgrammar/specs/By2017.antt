@@ -40,7 +40,7 @@ next_2017 position T p = record {
 
 -- ---- the pieces of a word (XCU 2.2, 2.6)
 
--- by the byte behind a `$`, which is read at q
+-- by the byte after a `$`, which is read at q
 abbrev pub dollar_2017 : List ℕ → ℕ → Option ℕ → Piece
 dollar_2017 T q None = pieces.Ordinary
 dollar_2017 T q (Some b) = if b == 36 then pieces.Pid

@@ -18,7 +18,7 @@ past_continuations T p = p + count_joined (drop p T)
 abbrev pub byte_at : List ℕ → ℕ → Option ℕ
 byte_at T p = slice_get T (past_continuations T p)
 
--- the place behind that byte
+-- the place after that byte
 unfoldable pub past_byte : List ℕ → ℕ → ℕ
 past_byte T p = past_continuations T p + 1
 
@@ -42,7 +42,7 @@ unfoldable pub past_below : ℕ → (ℕ → Bool) → List ℕ → ℕ → ℕ
 past_below zero test T p = p
 past_below (suc n) test T p = if stands_in test T p then past_below n test T (past_byte T p) else p
 
--- the place behind the bytes that are read from p on and pass the test
+-- the place after the bytes that are read from p on and pass the test
 unfoldable pub past : (ℕ → Bool) → List ℕ → ℕ → ℕ
 past test T p = past_below (length T - p) test T p
 

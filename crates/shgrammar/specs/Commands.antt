@@ -79,8 +79,8 @@ abbrev pub is_bang : Token → Bool
 is_bang (tokens.Reserved reserved.Bang) = true
 is_bang _ = false
 
--- The position behind the word that this token begins, if it begins one: an assignment, or a word, which in a
--- simple command is its name or an argument. Behind a word none is an assignment.
+-- The position after the word that this token begins, if it begins one: an assignment, or a word, which in a
+-- simple command is its name or an argument. After a word none is an assignment.
 abbrev pub behind_word : Token → Option Position
 behind_word tokens.Assignment = Some Prefix
 behind_word tokens.Word = Some Suffix
@@ -125,7 +125,7 @@ and_or_operator_of _ = None
 
 -- ---- comments, and what is unexpected
 
--- the comment here, where one stands, and the token behind it
+-- the comment here, where one stands, and the token after it
 abbrev pub comment_by : Next → Option Span → Form (Option Span × Next)
 comment_by n (Some c) = move a_comment_on >> next_token Command >>= λ m. give (Some c, m)
 comment_by n None = give (None, n)
@@ -140,7 +140,7 @@ wrong_with true p None = (UnexpectedEnd, p)
 wrong_with false p w = (Unexpected, p)
 
 -- What is wrong where no row takes this token. A word is read whole first, so a fault inside
--- it comes first; a comment goes with the token behind it.
+-- it comes first; a comment goes with the token after it.
 unfoldable pub what_is_wrong : Inner → Next → Form (FaultKind × ℕ)
 what_is_wrong inner n =
     pick (begins_word n.token)
@@ -152,7 +152,7 @@ unexpected inner n = what_is_wrong inner n >>= λ w. stop w.0 w.1
 
 -- ---- items
 
--- the items so far, the position in which the token behind them stands, and that token
+-- the items so far, the position in which the token after them stands, and that token
 pub record Items : Type 0 where
   pub items : Row AnItem
   pub place : Position
@@ -165,12 +165,12 @@ so_many is position n = record { items = is; place = position; next = n }
 abbrev pub breaks : Items → Bool
 breaks i = not (is_empty i.items) && i.next.broken
 
--- what a word is, by the position behind it
+-- what a word is, by the position after it
 abbrev pub as_item : Position → AWord → AnItemContent
 as_item Prefix w = assign w
 as_item _ w = argument w
 
--- one more item that is a word, and the token behind it
+-- one more item that is a word, and the token after it
 unfoldable pub an_item : Inner → Items → Position → Form (Step Items)
 an_item inner i position =
     a_word inner >>= λ w.
@@ -180,7 +180,7 @@ an_item inner i position =
 
 -- ---- redirections (XCU 2.7)
 
--- the number before an operator, where the token is one, and the token behind it
+-- the number before an operator, where the token is one, and the token after it
 unfoldable pub a_number : Next → Form (Option Span × Next)
 a_number n = pick (is_number_token n.token)
     (token bared (move the_digits) >>= λ x. next_token Suffix >>= λ m. give (Some x.1, m)) (give (None, n))
@@ -235,7 +235,7 @@ document_by b p strip None = stop BadHereWord p
 unfoldable pub a_document : RedirectOperator → ℕ → ℕ → Spelled → Form (Option AHere)
 a_document o b p bytes = pick (takes_here o) (see (the_delimiter bytes) >>= document_by b p (is_strip o)) (give None)
 
--- the redirection that begins here, as one more of these items, and the token behind
+-- the redirection that begins here, as one more of these items, and the token after
 -- it, which stands in this position
 unfoldable pub one_redirect : Inner → Bool → Position → Row AnItem → Next → Form (Step Items)
 one_redirect inner broken position is n =
@@ -248,7 +248,7 @@ one_redirect inner broken position is n =
     next_token position >>= λ m.
     give (again (so_many more position m))
 
--- Behind a redirection no word is reserved. One may be an assignment, if the command's
+-- After a redirection no word is reserved. One may be an assignment, if the command's
 -- name does not stand before it.
 abbrev pub behind_redirect : Position → Position
 behind_redirect Suffix = Suffix
@@ -265,19 +265,19 @@ item_by inner i None = pick (begins_redirect i.next.token)
 unfoldable pub item_turn : Inner → Items → Form (Step Items)
 item_turn inner i = item_by inner i (behind_word i.next.token)
 
--- The simple command that has these items so far, and the token behind it. It is not
+-- The simple command that has these items so far, and the token after it. It is not
 -- empty: where it has none yet, the token here begins one.
 unfoldable pub a_simple : Inner → Items → Form (ACommand × Next)
 a_simple inner so = many (item_turn inner) so >>= λ i. give (simple (items_of i.items), i.next)
 
 -- ---- newlines and `;`
 
--- a newline with the bodies that follow it, where the token is one, and the token behind it
+-- a newline with the bodies that follow it, where the token is one, and the token after it
 unfoldable pub a_newline : Next → Form (Bool × Next)
 a_newline n = pick (is_newline_token n.token)
     (move one_byte >> change bodies_here >> next_token Command >>= λ m. give (true, m)) (give (false, n))
 
--- a `;`, where the token is one, and the token behind it
+-- a `;`, where the token is one, and the token after it
 unfoldable pub a_semicolon : Next → Form (Bool × Next)
 a_semicolon n = pick (is_semicolon n.token) (move one_byte >> next_token Command >>= λ m. give (true, m))
     (give (false, n))
@@ -292,7 +292,7 @@ nothing_waits = see a_document_waits >>= none_waits
 
 -- ---- joins: what stands around an operator that joins two operands (XCU 2.9.2, 2.9.3)
 
--- the join so far, and the token behind it
+-- the join so far, and the token after it
 pub record JoinSo : Type 0 where
   pub join : AJoin
   pub next : Next
@@ -307,7 +307,7 @@ abbrev pub with_comment : Row Span → Option Span → Form (Row Span)
 with_comment cs (Some c) = push cs c
 with_comment cs None = give cs
 
--- One more comment and newline behind the operator, or none of them. Both break the
+-- One more comment and newline after the operator, or none of them. Both break the
 -- join: a comment ends its line.
 unfoldable pub join_turn : JoinSo → Form (Step JoinSo)
 join_turn j =
@@ -316,7 +316,7 @@ join_turn j =
     a_newline c.1 >>= λ l.
     give (step_if l.0 (join_so (a_join_of ((j.join.broken || is_some c.0) || l.0) cs) l.1))
 
--- From behind an operator to the token with which the operand begins. A continuation
+-- From just after an operator to the token with which the operand begins. A continuation
 -- on either side breaks the join.
 unfoldable pub a_join : Bool → Form (AJoin × Next)
 a_join broken = next_token Command >>= λ n.
@@ -325,12 +325,12 @@ a_join broken = next_token Command >>= λ n.
 
 -- ---- pipelines (XCU 2.9.2)
 
--- one more redirection behind a compound command, or none; the first one may be broken too
+-- one more redirection after a compound command, or none; the first one may be broken too
 unfoldable pub redirect_turn : Inner → Items → Form (Step Items)
 redirect_turn inner r = pick (begins_redirect r.next.token) (one_redirect inner r.next.broken Command r.items r.next)
     (give (done r))
 
--- a compound command with the redirections behind it, and the token behind them
+-- a compound command with the redirections after it, and the token after them
 unfoldable pub with_redirect_list : Inner → ACommand × Next → Form (ACommand × Next)
 with_redirect_list inner c = many (redirect_turn inner) (so_many [] Command c.1) >>= λ r.
     give (with_redirects c.0 (items_of r.items), r.next)
@@ -353,19 +353,19 @@ a_word_command inner =
     pick (is_paren n.token) (named_function inner good (word_span w))
     (push [] (item false (argument w)) >>= λ is. a_simple inner (so_many is Suffix n))
 
--- the command that the token here begins, and the token behind it
+-- the command that the token here begins, and the token after it
 unfoldable pub a_command : Inner → Next → Form (ACommand × Next)
 a_command inner n =
     pick (is_word n.token) (a_word_command inner)
     (pick (begins_simple n.token) (a_simple inner (so_many [] Command n))
     (compound_by inner n (opener_of n.token)))
 
--- the `!` of a pipeline, where the token is one, and the token behind it
+-- the `!` of a pipeline, where the token is one, and the token after it
 unfoldable pub a_bang : Next → Form (Option Span × Next)
 a_bang n = pick (is_bang n.token)
     (token (by (codes "!")) (move one_byte) >>= λ x. next_token Command >>= λ m. give (Some x.1, m)) (give (None, n))
 
--- the commands behind the first so far, and the token behind them
+-- the commands after the first so far, and the token after them
 pub record Piped : Type 0 where
   pub parts : Row APipelinePart
   pub next : Next
@@ -373,7 +373,7 @@ pub record Piped : Type 0 where
 abbrev pub piped : Row APipelinePart → Next → Piped
 piped ps n = record { parts = ps; next = n }
 
--- one more command, behind a `|`
+-- one more command, after a `|`
 unfoldable pub one_command : Inner → Piped → Form (Step Piped)
 one_command inner p =
     token (by (codes "|")) (move one_byte) >> a_join p.next.broken >>= λ j.
@@ -394,7 +394,7 @@ a_pipeline inner n =
 
 -- ---- and-or lists (XCU 2.9.3)
 
--- the pipelines behind the first so far, and the token behind them
+-- the pipelines after the first so far, and the token after them
 pub record Joined : Type 0 where
   pub parts : Row AnAndOrPart
   pub next : Next
@@ -402,7 +402,7 @@ pub record Joined : Type 0 where
 abbrev pub joined_so : Row AnAndOrPart → Next → Joined
 joined_so ps n = record { parts = ps; next = n }
 
--- one more pipeline, behind this operator
+-- one more pipeline, after this operator
 unfoldable pub one_pipeline : Inner → Joined → AndOrOperator → Form (Step Joined)
 one_pipeline inner a o =
     token (by (and_or_text o)) (move one_byte >> move one_byte) >> a_join a.next.broken >>= λ j.
@@ -435,7 +435,7 @@ abbrev pub told_separator : Separator → Telling
 told_separator Semicolon = untold
 told_separator Ampersand = by (codes "&")
 
--- a separator, and the offset behind it
+-- a separator, and the offset after it
 abbrev pub ASeparator : Type 0
 ASeparator = Separator × ℕ
 
@@ -445,7 +445,7 @@ separator_by n (Some s) = token (told_separator s) (move one_byte) >>= λ x.
     give (Some (s, x.1.«end»), m)
 separator_by n None = give (None, n)
 
--- `;` or `&`, where the token is one of them, and the token behind it
+-- `;` or `&`, where the token is one of them, and the token after it
 unfoldable pub a_separator : Next → Form (Option ASeparator × Next)
 a_separator n = separator_by n (separator_of n.token)
 
@@ -455,19 +455,19 @@ is_background None = false
 is_background (Some (Semicolon, p)) = false
 is_background (Some (Ampersand, p)) = true
 
--- the offset behind it
+-- the offset after it
 abbrev pub past_separator : Option ASeparator → Option ℕ
 past_separator None = None
 past_separator (Some (s, p)) = Some p
 
--- an entry, the offset behind its separator, where another may follow on its line, and the token behind it
+-- an entry, the offset after its separator, where another may follow on its line, and the token after it
 pub record Entered : Type 0 where
   pub entry : AnEntry
   pub parted : Option ℕ
   pub next : Next
 
 -- the command that the token here begins, with what parts it from the next one, and
--- the comment behind it on its line
+-- the comment after it on its line
 unfoldable pub an_entry : Inner → Bool → Next → Form Entered
 an_entry inner blank n =
     an_and_or inner n >>= λ a.

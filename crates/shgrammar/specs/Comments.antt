@@ -11,6 +11,6 @@ span o p q = record { start = o + p; «end» = o + q }
 unfoldable pub comment_at : List ℕ → ℕ → ℕ → Option Span
 comment_at T o p = if raw_stands T p 35 then Some (span o p (before_blanks T (next_newline T p))) else None
 
--- the place behind it
+-- the place after it
 unfoldable pub past_comment : List ℕ → ℕ → ℕ
 past_comment T p = if raw_stands T p 35 then next_newline T p else p

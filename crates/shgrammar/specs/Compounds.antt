@@ -70,27 +70,27 @@ abbrev pub past_opener : Bool → Move
 past_opener true = one_byte
 past_opener false = the_reserved
 
--- Behind `for` and `case` stands a word, reserved or not (XCU 2.10.2). Behind all others a command may begin.
+-- After `for` and `case` stands a word, reserved or not (XCU 2.10.2). After all others a command may begin.
 abbrev pub behind_opener : Opener → Position
 behind_opener openers.For = Suffix
 behind_opener openers.Case = Suffix
 behind_opener _ = Command
 
--- the round bracket or the reserved word here, told by this text, and the token behind
+-- the round bracket or the reserved word here, told by this text, and the token after
 -- it, which stands in this position
 unfoldable pub reserved_or_paren : Spelled → Bool → Position → Form (Span × Next)
 reserved_or_paren text paren position = token (by text) (move (past_opener paren)) >>= λ x.
     next_token position >>= λ n.
     give (x.1, n)
 
--- what has to stand here, and the token behind it
+-- what has to stand here, and the token after it
 unfoldable pub closing : Inner → Closing → Next → Form (Span × Next)
 closing inner c n = pick (is_closing c n.token) (reserved_or_paren (closing_text c) (is_close_paren c) Command)
     (unexpected inner n)
 
--- ---- compound commands, from behind their openers
+-- ---- compound commands, from just after their openers
 
--- what was read, its closer, and the token behind it
+-- what was read, its closer, and the token after it
 pub record Closed (X : Type 0) : Type 0 where
   pub what : X
   pub closer : Span
@@ -110,7 +110,7 @@ a_branch inner n = a_list inner n >>= λ c.
     a_list inner t.1 >>= λ b.
     give (branch c.0 b.0, b.1)
 
--- the branches behind the first so far, and the token behind them
+-- the branches after the first so far, and the token after them
 pub record Branched : Type 0 where
   pub branches : Row ABranch
   pub next : Next
@@ -118,7 +118,7 @@ pub record Branched : Type 0 where
 abbrev pub branched : Row ABranch → Next → Branched
 branched bs n = record { branches = bs; next = n }
 
--- one more branch behind an `elif`, or none
+-- one more branch after an `elif`, or none
 unfoldable pub elif_turn : Inner → Branched → Form (Step Branched)
 elif_turn inner b =
     pick (is_closing closings.Elif b.next.token)
@@ -150,7 +150,7 @@ a_loop inner n =
 
 -- ---- `for` (XCU 2.9.4.2)
 
--- the word behind `for`, which has to be a NAME (XCU 2.10.2, rule 5), and the token behind it
+-- the word after `for`, which has to be a NAME (XCU 2.10.2, rule 5), and the token after it
 unfoldable pub a_for_name : Inner → Next → Form (AWord × Next)
 a_for_name inner n =
     pick (begins_word n.token)
@@ -158,16 +158,16 @@ a_for_name inner n =
     pick good (next_token Command >>= λ m. give (w, m)) (stop BadForName p))
     (unexpected inner n)
 
--- comments and newlines, behind these comments, and the token behind them
+-- comments and newlines, after these comments, and the token after them
 unfoldable pub a_linebreak : Row Span → Next → Form JoinSo
 a_linebreak cs n = many join_turn (join_so (a_join_of false cs) n)
 
--- `;` or a newline, with newlines and comments behind it
+-- `;` or a newline, with newlines and comments after it
 unfoldable pub a_sequential_sep : Inner → Row Span → Next → Form JoinSo
 a_sequential_sep inner cs n =
     a_semicolon n >>= λ s. a_linebreak cs s.1 >>= λ l. pick (s.0 || l.join.broken) (give l) (unexpected inner l.next)
 
--- what stands between the name of a for and its `do`: words, comments, and the token behind them
+-- what stands between the name of a for and its `do`: words, comments, and the token after them
 pub record Headed : Type 0 where
   pub words : ForWords
   pub comments : Row Span
@@ -176,7 +176,7 @@ pub record Headed : Type 0 where
 abbrev pub headed : ForWords → JoinSo → Headed
 headed ws l = record { words = ws; comments = l.join.comments; next = l.next }
 
--- one more word behind `in`, or none; a redirection is none
+-- one more word after `in`, or none; a redirection is none
 unfoldable pub word_turn : Inner → Items → Form (Step Items)
 word_turn inner i = pick (is_word i.next.token) (an_item inner i Suffix) (give (done i))
 
@@ -188,7 +188,7 @@ for_words inner cs =
     a_sequential_sep inner cs ws.next >>= λ l.
     give (headed (in_words (items_of ws.items)) l)
 
--- `in` may stand behind newlines (XCU 2.10.2, rule 6), and not behind `;`
+-- `in` may stand after newlines (XCU 2.10.2, rule 6), and not after `;`
 abbrev pub begins_words : Bool → Token → Bool
 begins_words semicolon t = not semicolon && is_closing closings.In t
 
@@ -214,7 +214,7 @@ a_for inner n =
 
 -- ---- `case` (XCU 2.9.4.3)
 
--- the word behind `case`, and the token behind it
+-- the word after `case`, and the token after it
 unfoldable pub a_case_word : Inner → Next → Form (AWord × Next)
 a_case_word inner n = pick (begins_word n.token) (a_word inner >>= λ w. next_token Command >>= λ m. give (w, m))
     (unexpected inner n)
@@ -225,7 +225,7 @@ begins_pattern (tokens.Reserved reserved.Esac) = false
 begins_pattern (tokens.Reserved r) = true
 begins_pattern t = begins_word t
 
--- the patterns so far, and the token behind them
+-- the patterns so far, and the token after them
 pub record Patterned : Type 0 where
   pub patterns : Row AWord
   pub next : Next
@@ -233,11 +233,11 @@ pub record Patterned : Type 0 where
 abbrev pub patterned : Row AWord → Next → Patterned
 patterned ws n = record { patterns = ws; next = n }
 
--- the pattern that begins here, behind these, and the token behind it
+-- the pattern that begins here, after these, and the token after it
 unfoldable pub a_pattern : Inner → Row AWord → Form Patterned
 a_pattern inner ws = a_word inner >>= λ w. push ws w >>= λ vs. next_token Suffix >>= λ n. give (patterned vs n)
 
--- one more pattern, behind a `|`
+-- one more pattern, after a `|`
 unfoldable pub one_pattern : Inner → Row AWord → Form (Step Patterned)
 one_pattern inner ws =
     token (by (codes "|")) (move one_byte) >> next_token Suffix >>= λ n.
@@ -251,19 +251,19 @@ unfoldable pub a_pattern_list : Inner → Next → Form Patterned
 a_pattern_list inner n = pick (begins_pattern n.token) (a_pattern inner [] >>= λ p. many (pattern_turn inner) p)
     (unexpected inner n)
 
--- the `(` before the patterns, where the token is one, and the token behind it; a tree does not tell it
+-- the `(` before the patterns, where the token is one, and the token after it; a tree does not tell it
 unfoldable pub an_open_bracket : Next → Form Next
 an_open_bracket n = pick (is_paren n.token) (move one_byte >> next_token Command) (give n)
 
--- the entries of a body, which may hold no command, and the token behind them
+-- the entries of a body, which may hold no command, and the token after them
 unfoldable pub a_body : Inner → Next → Form ListSo
 a_body inner n = many (list_turn inner) (list_so (none_listed false) n)
 
--- the offset behind the last token of a body: a separator, or a command, or what stands before the body
+-- the offset after the last token of a body: a separator, or a command, or what stands before the body
 abbrev pub body_end : ℕ → Listed → ℕ
 body_end before l = unwrap_or l.parted (commands_end before (entries_of l.entries))
 
--- where an item ends, the comments behind it, and the token behind those
+-- where an item ends, the comments after it, and the token after those
 pub record ItemEnd : Type 0 where
   pub at : ℕ
   pub comments : Row Span
@@ -277,7 +277,7 @@ abbrev pub ender_told : Bool → Telling
 ender_told true = by (codes ";&")
 ender_told false = untold
 
--- `;;` here, or `;&`, with newlines and comments behind it
+-- `;;` here, or `;&`, with newlines and comments after it
 unfoldable pub an_ender : Bool → Form ItemEnd
 an_ender falling =
     token (ender_told falling) (move one_byte >> move one_byte) >> see here >>= λ p.
@@ -285,13 +285,13 @@ an_ender falling =
     a_linebreak [] n >>= λ l.
     give (item_end p l.join.comments l.next)
 
--- An item ends behind its `;;` or `;&`. The last one of a case may have none: then it ends there.
+-- An item ends after its `;;` or `;&`. The last one of a case may have none: then it ends there.
 unfoldable pub an_item_end : Inner → ℕ → Next → Form ItemEnd
 an_item_end inner there n =
     pick (ends_item n.token) (an_ender (falls_through n.token))
     (pick (is_closing closings.Esac n.token) (give (item_end there [] n)) (unexpected inner n))
 
--- the items so far, the comments behind them, and the token behind those
+-- the items so far, the comments after them, and the token after those
 pub record CasesSo : Type 0 where
   pub items : Row ACaseItem
   pub comments : Row Span
@@ -317,7 +317,7 @@ one_case inner c =
 unfoldable pub case_turn : Inner → CasesSo → Form (Step CasesSo)
 case_turn inner c = pick (is_closing closings.Esac c.next.token) (give (done c)) (one_case inner c)
 
--- what stands between `case` and its items: the word, comments, and the token behind them
+-- what stands between `case` and its items: the word, comments, and the token after them
 unfoldable pub a_case_head : Inner → Next → Form (AWord × Row Span × Next)
 a_case_head inner n =
     a_case_word inner n >>= λ w.
@@ -326,7 +326,7 @@ a_case_head inner n =
     a_linebreak l.join.comments i.1 >>= λ h.
     give (w.0, h.join.comments, h.next)
 
--- the comments of the head stand before the first item, those behind the last item before `esac`
+-- the comments of the head stand before the first item, those after the last item before `esac`
 unfoldable pub a_case : Inner → Next → Form (Closed AForm)
 a_case inner n =
     a_case_head inner n >>= λ h.
@@ -352,7 +352,7 @@ abbrev pub held_apart : Row ACommand → ACommand
 held_apart [] = simple no_item
 held_apart (c ∷ cs) = c
 
--- the compound command that opens here, and the token behind it
+-- the compound command that opens here, and the token after it
 unfoldable pub a_compound : Inner → Opener → Form (ACommand × Next)
 a_compound inner o =
     reserved_or_paren (opener_text o) (is_open_paren o) (behind_opener o) >>= λ x.
@@ -367,7 +367,7 @@ abbrev pub under_name : Span → Row Span → ACommand → ACommand
 under_name name comments (compound body) = function name comments body
 under_name name comments other = other
 
--- the brackets behind a name, newlines and comments, and the body, which is a compound command
+-- the brackets after a name, newlines and comments, and the body, which is a compound command
 unfoldable pub a_function : Inner → Span → Form (ACommand × Next)
 a_function inner name =
     reserved_or_paren (opener_text openers.Paren) true Command >>= λ o.

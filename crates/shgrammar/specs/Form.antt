@@ -27,7 +27,7 @@ pub data Telling : Type 0 where
   bared : Telling
   by : Spelled → Telling
 
--- what was read, and the state behind it; or the fault that stopped the reading
+-- what was read, and the state after it; or the fault that stopped the reading
 abbrev pub Read : Type 0 → Type 0
 Read X = Result (X × State) Fault
 

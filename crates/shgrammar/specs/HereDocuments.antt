@@ -27,7 +27,7 @@ is_quote not_quoted b = b == 39 || b == 34
 is_quote in_single b = b == 39
 is_quote in_double b = b == 34
 
--- how the bytes behind this quote are quoted
+-- how the bytes after this quote are quoted
 abbrev pub behind_quote : Quoting → ℕ → Quoting
 behind_quote not_quoted b = if b == 39 then in_single else in_double
 behind_quote q b = not_quoted
@@ -37,7 +37,7 @@ abbrev pub is_live : Quoting → ℕ → ℕ → Bool
 is_live in_single c b = false
 is_live q c b = b == c
 
--- this byte, before what is left of those behind it
+-- this byte, before what is left of those after it
 abbrev pub left_before : ℕ → Option (List ℕ) → Option (List ℕ)
 left_before b left = option_map (λ bs. b ∷ bs) left
 
@@ -46,18 +46,18 @@ abbrev pub stays_before : Quoting → ℕ → Bool
 stays_before in_double c = not (c == 36 || c == 96 || c == 34 || c == 92)
 stays_before q c = false
 
--- the byte behind a backslash: a continuation is dropped (XCU 2.2.1)
+-- the byte after a backslash: a continuation is dropped (XCU 2.2.1)
 abbrev pub escape_left : Quoting → ℕ → Option (List ℕ) → Option (List ℕ)
 escape_left q c left = if c == 10 then left
     else (if stays_before q c then left_before 92 (left_before c left) else left_before c left)
 
--- A `$`, and the bytes behind it: `$(`, `$((` and `${` leave nothing. Whether it is
+-- A `$`, and the bytes after it: `$(`, `$((` and `${` leave nothing. Whether it is
 -- the second of `$$`, and then whether the next is.
 abbrev pub dollar_left : Bool → List ℕ → (Bool → Option (List ℕ)) → Option (List ℕ)
 dollar_left true bs left = left_before 36 (left false)
 dollar_left false bs left = if stands bs 0 40 || stands bs 0 123 then None else left_before 36 (left (stands bs 0 36))
 
--- a byte that is not behind a backslash, and the bytes behind it; text in backquotes leaves nothing
+-- a byte that is not after a backslash, and the bytes after it; text in backquotes leaves nothing
 abbrev pub byte_left : Quoting → Bool → ℕ → List ℕ → (Quoting → Bool → Option (List ℕ)) → Option (List ℕ)
 byte_left q second b bs left = if is_quote q b then left (behind_quote q b) false
     else (if is_live q 96 b then None
@@ -108,7 +108,7 @@ delimiter_in edition bytes = if is_later edition && has_dollar_single not_quoted
 abbrev pub rest_of_line : List ℕ → ℕ → List ℕ
 rest_of_line T p = take (next_newline T p - p) (drop p T)
 
--- the place behind that line and its newline, where it has one
+-- the place after that line and its newline, where it has one
 abbrev pub past_line : List ℕ → ℕ → ℕ
 past_line T p = min (next_newline T p + 1) (length T)
 
@@ -148,8 +148,8 @@ abbrev pub body_by : (Row Span → ℕ → Result (Row Span × ℕ) Fault) → G
 body_by rest g w bodies p None = Err (record { kind = UnclosedHere; at = w.operator })
 body_by rest g w bodies p (Some q) = rest (bodies ++ span g.offset p q ∷ []) (past_line g.text q)
 
--- the bodies of these documents from p on, behind those read so far, and the place
--- behind the last delimiter's line
+-- the bodies of these documents from p on, after those read so far, and the place
+-- after the last delimiter's line
 unfoldable pub bodies_from : Given → Row Waiting → Row Span → ℕ → Result (Row Span × ℕ) Fault
 bodies_from g [] bodies p = Ok (bodies, p)
 bodies_from g (w ∷ ws) bodies p = body_by (bodies_from g ws) g w bodies p (delimiter_from g.text w p)
@@ -158,7 +158,7 @@ abbrev pub state_by : Result (Row Span × ℕ) Fault → Result State Fault
 state_by (Ok x) = Ok (record { at = x.1; waiting = []; bodies = x.0 })
 state_by (Err f) = Err f
 
--- from behind a newline token: the bodies of what waits, and nothing waits any more
+-- from just after a newline token: the bodies of what waits, and nothing waits any more
 abbrev pub with_bodies : Given → State → Result State Fault
 with_bodies g s = state_by (bodies_from g s.waiting s.bodies s.at)
 
@@ -180,7 +180,7 @@ first_waiting s = operator_of s.waiting
 pub data Change : Type 0 where
   -- one more document waits
   waits : Waiting → Change
-  -- the bodies of those that wait are read, from behind a newline token on
+  -- the bodies of those that wait are read, from just after a newline token on
   bodies_here : Change
 
 abbrev pub changed : Change → Given → State → Result State Fault
@@ -189,7 +189,7 @@ changed bodies_here g s = with_bodies g s
 
 -- ---- levels
 
--- a substitution is a level of its own: nothing waits where it begins, and behind it
+-- a substitution is a level of its own: nothing waits where it begins, and after it
 -- what waited before it waits again
 abbrev pub own_level : State → State
 own_level s = record { at = s.at; waiting = []; bodies = [] }

@@ -16,8 +16,8 @@ abbrev pub has_entry : Entries → Bool
 has_entry no_entry = false
 has_entry (more_entries e es) = true
 
--- One line that begins at the base, behind entries; the gap tells that a blank line is
--- behind the last of them.
+-- One line that begins at the base, after entries; the gap tells that a blank line is
+-- after the last of them.
 abbrev pub line_joined_by : (Entries → Bool → AScript) → AKind → Entries → Bool → ℕ → AScript
 line_joined_by rest blank_line es gap base = rest es true
 line_joined_by rest (entries_line xs) es gap base =
@@ -25,7 +25,7 @@ line_joined_by rest (entries_line xs) es gap base =
 line_joined_by rest end_line es gap base = record { entries = es; wrong = None }
 line_joined_by rest (faulty_line f) es gap base = record { entries = es; wrong = Some (moved_fault base f) }
 
--- the lines from the base on, behind these entries
+-- the lines from the base on, after these entries
 abbrev pub lines_joined : Row ALine → Entries → Bool → ℕ → AScript
 lines_joined [] es gap base = record { entries = es; wrong = None }
 lines_joined (l ∷ ls) es gap base = line_joined_by (λ es gap. lines_joined ls es gap (base + l.next)) l.kind es gap base

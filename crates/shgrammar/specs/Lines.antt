@@ -18,7 +18,7 @@ use Rattle.shgrammar.specs.Commands.{pick, is_newline_token, next_token, nothing
 use Rattle.shgrammar.specs.Lists.{list_so, none_listed, on_line}
 use Rattle.shgrammar.specs.Levels.{most_open, level}
 
--- the newline with the bodies that follow it, or the end, behind the entries; whether it was a newline
+-- the newline with the bodies that follow it, or the end, after the entries; whether it was a newline
 abbrev pub line_end_by : Inner → Bool → Bool → Next → Form Bool
 line_end_by inner newline end n =
     pick newline (move one_byte >> change bodies_here >> give true)
@@ -49,7 +49,7 @@ pub data AKind : Type 0 where
   end_line : AKind
   faulty_line : Fault → AKind
 
--- what a line is, the place behind it, and whether a newline token ended it and is its last byte
+-- what a line is, the place after it, and whether a newline token ended it and is its last byte
 pub record ALine : Type 0 where
   pub kind : AKind
   pub next : ℕ

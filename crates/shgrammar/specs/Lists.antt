@@ -16,10 +16,10 @@ pub record Listed : Type 0 where
   pub begun : Bool
   -- one of them is a command
   pub commands : Bool
-  -- the offset behind the separator of the last command, where it has one
+  -- the offset after the separator of the last command, where it has one
   pub parted : Option ℕ
 
--- and the token behind them
+-- and the token after them
 pub record ListSo : Type 0 where
   pub list : Listed
   pub next : Next
@@ -41,7 +41,7 @@ with_command l es parted = record { entries = es; blank = l.blank; begun = true;
 abbrev pub with_remark : Listed → Row AnEntry → Listed
 with_remark l es = record { entries = es; blank = l.blank; begun = true; commands = l.commands; parted = l.parted }
 
--- behind a newline: a line without entries makes the next entry blank, if one stands before it. So an entry
+-- after a newline: a line without entries makes the next entry blank, if one stands before it. So an entry
 -- is blank where at least two newline tokens stand between it and the entry before it.
 abbrev pub next_line : Listed → Listed
 next_line l = record {
@@ -62,7 +62,7 @@ one_entry inner l =
 unfoldable pub entry_turn : Inner → ListSo → Form (Step ListSo)
 entry_turn inner l = pick (begins_pipeline l.next.token) (one_entry inner l) (give (done l))
 
--- the comment of a line without entries, or behind its last separator, stands for itself
+-- the comment of a line without entries, or after its last separator, stands for itself
 abbrev pub remark_by : ListSo → Option Span × Next → Form ListSo
 remark_by l (Some c, n) = push l.list.entries (entry (remark c) false (is_blank_next l.list) None) >>= λ es.
     give (list_so (with_remark l.list es) n)
@@ -81,7 +81,7 @@ list_turn inner l = on_line inner l >>= λ m.
     a_newline m.next >>= λ x.
     give (step_if x.0 (list_so (next_line m.list) x.1))
 
--- A list that holds a command, and the token behind it. It ends where no entry may
+-- A list that holds a command, and the token after it. It ends where no entry may
 -- begin; who reads it asks for what has to follow.
 unfoldable pub a_list : Inner → Next → Form (Entries × Next)
 a_list inner n =

@@ -16,7 +16,7 @@ use Rattle.shgrammar.specs.Bytes.{byte_at, past_byte, stands, stands_in, ends, p
 
 -- ---- what a byte begins in a mode
 
--- by the byte behind a `$`, which is read at q (XCU 2.6)
+-- by the byte after a `$`, which is read at q (XCU 2.6)
 abbrev pub dollar_by : List ℕ → ℕ → Option ℕ → Piece
 dollar_by T q None = pieces.Ordinary
 dollar_by T q (Some b) = if b == 36 then pieces.Pid
@@ -50,11 +50,12 @@ abbrev pub end_by : Mode → Piece
 end_by Plain = pieces.Closer
 end_by _ = pieces.Missing
 
--- By the byte at p, or none. Outside of single quotes a backslash takes the byte behind it, whatever that is:
+-- By the byte at p, or none. Outside of single quotes a backslash takes the byte after it, whatever that is:
 -- where it does not quote it (XCU 2.2.3), that byte begins nothing either.
 abbrev pub piece_by : List ℕ → ℕ → Mode → ℕ → Option ℕ → Piece
 piece_by T p mode n None = end_by mode
-piece_by T p mode n (Some b) = if b == 92 then (if at_end T (past_byte T p) then pieces.LoneBackslash else pieces.Escape)
+piece_by T p mode n (Some b) = if b == 92
+    then (if at_end T (past_byte T p) then pieces.LoneBackslash else pieces.Escape)
     else (if b == 96 then pieces.Backquote
     else (if b == 36 then dollar_at T p
     else byte_by T p mode n b))
@@ -80,11 +81,11 @@ piece_in edition mode piece = piece
 
 -- ---- where pieces lead
 
--- behind the byte that stands at p; a backslash takes the byte behind it
+-- after the byte that stands at p; a backslash takes the byte after it
 unfoldable pub past_taken : List ℕ → ℕ → ℕ
 past_taken T p = p + (if raw_stands T p 92 then 2 else 1)
 
--- behind what closes a construct; nothing closes a word
+-- after what closes a construct; nothing closes a word
 abbrev pub past_closer : List ℕ → Mode → ℕ → ℕ
 past_closer T Plain p = p
 past_closer T Double p = past_byte T p
@@ -127,7 +128,7 @@ is_last_backslash T p = raw_stands T p 92 && at_end T (p + 1)
 
 -- ---- parameter expansions (XCU 2.6.2)
 
--- the place behind the parameter at p: a name, digits, a special parameter or nothing
+-- the place after the parameter at p: a name, digits, a special parameter or nothing
 unfoldable pub past_parameter : List ℕ → ℕ → ℕ
 past_parameter T p = if stands_in is_letter T p then past is_name T p
     else (if stands_in is_digit T p then past is_digit T p
@@ -141,6 +142,6 @@ braces_in Brace = Brace
 braces_in DoubleBrace = DoubleBrace
 braces_in Arith = DoubleBrace
 
--- how the rest of an expansion is read, from behind its parameter on: behind `#` or `%` it is a pattern
+-- how the rest of an expansion is read, from just after its parameter on: after `#` or `%` it is a pattern
 unfoldable pub rest_mode : List ℕ → Mode → ℕ → Mode
 rest_mode T mode q = if stands T q 35 || stands T q 37 then Brace else braces_in mode

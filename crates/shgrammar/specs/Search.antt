@@ -10,7 +10,7 @@ use Rattle.shgrammar.specs.Standing.{raw_stands}
 use Rattle.shgrammar.specs.declared.fault.Fault.{Fault}
 
 -- The first n of these bytes may be passed: whatever follows them in a script, its
--- first fault is that behind them.
+-- first fault is that after them.
 abbrev pub MayPass : Edition → List ℕ → ℕ → Type 0
 MayPass edition bytes n = (script : List ℕ) (f : Option Fault) → take n script ≡ take n bytes →
     FirstFault edition (drop n script) f → FirstFault edition script (option_map (moved_fault n) f)

@@ -61,13 +61,13 @@ seen (the_delimiter bytes) g s = delimiter_in g.edition bytes
 -- ---- where a reading may move to
 
 pub data Move : Type 0 where
-  -- behind the byte that is read here
+  -- after the byte that is read here
   one_byte : Move
   -- past continuations
   continuations : Move
-  -- behind the byte that stands here; a backslash takes the byte behind it
+  -- after the byte that stands here; a backslash takes the byte after it
   one_taken : Move
-  -- behind what closes a construct of this mode
+  -- after what closes a construct of this mode
   the_closer : Mode → Move
   the_parameter : Move
   -- to the next single quote, and to the next such byte or backslash
@@ -77,9 +77,9 @@ pub data Move : Type 0 where
   blanks : Move
   -- to the end of the comment here
   a_comment_on : Move
-  -- behind the reserved word here
+  -- after the reserved word here
   the_reserved : Move
-  -- behind the digits here
+  -- after the digits here
   the_digits : Move
 
 abbrev pub to : Move → List ℕ → ℕ → ℕ

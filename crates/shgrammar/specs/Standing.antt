@@ -31,7 +31,7 @@ unfoldable pub count_front : (ℕ → Bool) → List ℕ → ℕ
 count_front test [] = 0
 count_front test (b ∷ bs) = if test b then 1 + count_front test bs else 0
 
--- the place behind the bytes from p on that pass the test
+-- the place after the bytes from p on that pass the test
 unfoldable pub raw_past : (ℕ → Bool) → List ℕ → ℕ → ℕ
 raw_past test T p = p + count_front test (drop p T)
 
@@ -43,11 +43,11 @@ next_such test T p = raw_past (λ b. not (test b)) T p
 abbrev pub next_of : ℕ → List ℕ → ℕ → ℕ
 next_of c T p = next_such (λ b. b == c) T p
 
--- the newline, or the end, behind p
+-- the newline, or the end, after p
 abbrev pub next_newline : List ℕ → ℕ → ℕ
 next_newline T p = next_of 10 T p
 
--- the place behind the last byte before q that is no blank
+-- the place after the last byte before q that is no blank
 unfoldable pub before_blanks : List ℕ → ℕ → ℕ
 before_blanks T zero = 0
 before_blanks T (suc q) = if raw_in is_blank T q then before_blanks T q else suc q

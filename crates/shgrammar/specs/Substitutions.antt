@@ -20,8 +20,8 @@ substitution_list inner =
     pick (is_closing closings.Paren l.next.token) (nothing_waits >> move one_byte >> give (entries_of l.list.entries))
     (unexpected inner l.next)
 
--- The substitution whose `$` stands at the offset b, from behind its `(` on, as one more of these. It is not
--- closed where the text ends in it. Its here-documents are its own.
+-- The substitution whose `$` stands at the offset b, from just after its `(` on, as one more of these. It is
+-- not closed where the text ends in it. Its here-documents are its own.
 unfoldable pub one_substitution : Inner → ℕ → Row ASubst → Form (Row ASubst)
 one_substitution inner b ss =
     a_level (ends_as UnclosedSubst b (substitution_list inner)) >>= λ es.

@@ -43,7 +43,7 @@ reserved_words = (codes "!", reserved.Bang) ∷ (codes "{", reserved.OpenBrace) 
 abbrev pub reserved_at : List ℕ → ℕ → Option Reserved
 reserved_at T p = first_of_words T p reserved_words
 
--- the place behind the reserved word that stands at p
+-- the place after the reserved word that stands at p
 unfoldable pub past_reserved : List ℕ → ℕ → ℕ
 past_reserved T p = past is_name T (past_byte T p)
 
@@ -55,7 +55,7 @@ begins_assignment T p = stands_in is_letter T p && stands T (past is_name T p) 6
 unfoldable pub is_name_at : List ℕ → ℕ → Bool
 is_name_at T p = stands_in is_letter T p && ends_word T (past is_name T p)
 
--- the place behind the digits that stand at p
+-- the place after the digits that stand at p
 unfoldable pub past_digits : List ℕ → ℕ → ℕ
 past_digits T p = past is_digit T p
 
@@ -81,7 +81,7 @@ word_by Command T p = first_word (begins_assignment T p) (reserved_at T p)
 word_by Prefix T p = word_of (begins_assignment T p)
 word_by Suffix T p = tokens.Word
 
--- The operator of a redirection that begins with `<`, or with `>`; what stands behind
+-- The operator of a redirection that begins with `<`, or with `>`; what stands after
 -- that byte stands at p (XCU 2.7).
 unfoldable pub less_at : List ℕ → ℕ → RedirectOperator
 less_at T p = if stands T p 60 then (if stands T (past_byte T p) 45 then redirects.HereStripped else redirects.Here)
@@ -93,7 +93,7 @@ greater_at T p = if stands T p 62 then redirects.Append
     else (if stands T p 38 then redirects.DuplicateOutput
     else (if stands T p 124 then redirects.Clobber else redirects.Output))
 
--- what begins with a `;`, behind which p is
+-- what begins with a `;`, where p is the place after it
 abbrev pub semicolon_at : List ℕ → ℕ → Token
 semicolon_at T p = if stands T p 59 then tokens.DoubleSemicolon
     else (if stands T p 38 then tokens.SemicolonAmpersand else tokens.Semicolon)
@@ -138,7 +138,7 @@ is_later Y2017 = false
 is_later Y2024 = true
 
 -- The token that an edition has in the place of this one. POSIX.1-2017 has no `;&`: a `;` stands there, and
--- an `&` behind it.
+-- an `&` after it.
 abbrev pub token_in : Edition → Token → Token
 token_in edition tokens.SemicolonAmpersand = if is_later edition then tokens.SemicolonAmpersand else tokens.Semicolon
 token_in edition token = token

@@ -17,7 +17,7 @@ view_quoting quotings.Double = in_double
 abbrev pub view_delimiter : the_delimiter.Delimiter → ADelimiter
 view_delimiter d = record { text = d.text.items; literal = d.literal }
 
--- what is left of a word behind this text
+-- what is left of a word after this text
 abbrev pub left_of : List ℕ → Option (List ℕ) → Option (List ℕ)
 left_of text rest = option_map (λ bs. text ++ bs) rest
 

@@ -41,15 +41,15 @@ dollar_single = see the_byte >>= λ b. move one_byte >> move one_byte >> many (e
 
 -- what may be opened where the reading stands
 pub record Inner : Type 1 where
-  -- a construct of a word in this mode, from behind its opener on, which stands at an offset,
-  -- and behind the substitutions that the word has so far
+  -- a construct of a word in this mode, from just after its opener on, which stands at an offset,
+  -- and after the substitutions that the word has so far
   pub construct : Mode → ℕ → Row ASubst → Form (Row ASubst)
-  -- a command substitution, from behind its opener on, which stands at an offset,
-  -- behind those that the word has so far
+  -- a command substitution, from just after its opener on, which stands at an offset,
+  -- after those that the word has so far
   pub substitution : ℕ → Row ASubst → Form (Row ASubst)
-  -- a compound command, from its opener on, and the token behind it
+  -- a compound command, from its opener on, and the token after it
   pub compound : Opener → Form (ACommand × Next)
-  -- a function whose name stands there, from the `(` behind the name on, and the token behind it
+  -- a function whose name stands there, from the `(` after the name on, and the token after it
   pub function : Span → Form (ACommand × Next)
 
 -- ---- pieces
@@ -62,7 +62,7 @@ pub record WordSoFar : Type 0 where
 abbrev pub having : ℕ → Row ASubst → WordSoFar
 having n ss = record { nested = n; substs = ss }
 
--- a construct, from behind its opener on
+-- a construct, from just after its opener on
 abbrev pub opened : Inner → Mode → ℕ → WordSoFar → Form (Step WordSoFar)
 opened inner mode b h = inner.construct mode b h.substs >>= λ ss. give (again (having h.nested ss))
 
@@ -105,7 +105,7 @@ holds_others _ = false
 unfoldable pub a_piece : Inner → Mode → ℕ → WordSoFar → Form (Step WordSoFar)
 a_piece inner mode b h = see (the_piece mode h.nested) >>= piece_row inner mode b h
 
--- what a construct holds, up to its end, behind these substitutions
+-- what a construct holds, up to its end, after these substitutions
 unfoldable pub contents : Inner → Mode → ℕ → Row ASubst → Form (Row ASubst)
 contents inner mode b ss = many (a_piece inner mode b) (having 0 ss) >>= λ h. give h.substs
 

@@ -39,7 +39,7 @@ impl Quoting {
         }
     }
 
-    /// How the bytes behind this quote are quoted.
+    /// How the bytes after this quote are quoted.
     fn behind(self, quote: u8) -> Quoting
         ensures { view_quoting result ≡ behind_quote (view_quoting self) quote }
     {
@@ -116,7 +116,7 @@ fn is_byte(found: Option<u8>, byte: u8) -> bool
     }
 }
 
-/// Whether the byte that was found behind a `$` makes it an expansion.
+/// Whether the byte that was found after a `$` makes it an expansion.
 fn opens(found: Option<u8>) -> bool
     ensures { result ≡ (is_byte found 40 || is_byte found 123) }
 {
@@ -133,7 +133,7 @@ struct Unquoting {
 }
 
 impl Unquoting {
-    /// The byte behind a backslash.
+    /// The byte after a backslash.
     #[tactic(auto, using(crate::proofs::Unquoted::escape_dropped, crate::proofs::Unquoted::escape_both, crate::proofs::Unquoted::escape_one))]
     fn escaped(&mut self, byte: u8) -> Result<(), AllocError>
         ensures left { IfOk result
@@ -155,7 +155,7 @@ impl Unquoting {
         Ok(())
     }
 
-    /// The `$` behind which a place of the word is. Answers that place, or `None`
+    /// The `$` just before a place of the word. Answers that place, or `None`
     /// where it begins an expansion.
     #[tactic(auto, using(crate::proofs::Unquoted::dollar_second, crate::proofs::Unquoted::dollar_opens, crate::proofs::Unquoted::dollar_on))]
     fn dollar(&mut self, word: &[u8], next: usize) -> Result<Option<usize>, AllocError>
@@ -180,7 +180,7 @@ impl Unquoting {
         Ok(Some(next))
     }
 
-    /// The byte at a place of the word, which is behind no backslash. Answers the place behind it, or
+    /// The byte at a place of the word, which is after no backslash. Answers the place after it, or
     /// `None` where an expansion stands or text in backquotes.
     #[tactic(auto, using(crate::proofs::Unquoted::byte_quote, crate::proofs::Unquoted::byte_backquote, crate::proofs::Unquoted::byte_dollar, crate::proofs::Unquoted::byte_other))]
     fn byte(&mut self, word: &[u8], at: usize) -> Result<Option<usize>, AllocError>
@@ -326,7 +326,7 @@ fn unwrapped(word: &[u8]) -> &[u8]
 }
 
 /// The part of a word that quote removal leaves, where it is of ordinary bytes: all of
-/// it, all between the quotes around it, or all behind a backslash. Most delimiters
+/// it, all between the quotes around it, or all after a backslash. Most delimiters
 /// are letters, and are quoted so, or not at all.
 #[tactic(auto, using(crate::proofs::PlainDelimiters::plain_whole))]
 pub fn plain_part(word: &[u8]) -> Option<&[u8]>

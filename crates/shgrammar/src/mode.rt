@@ -12,7 +12,7 @@ pub enum Mode {
     Plain,
     /// In a double-quoted string.
     Double,
-    /// In a `${` that opened in `Plain` or `Brace`, or in a pattern, behind `#` or `%`.
+    /// In a `${` that opened in `Plain` or `Brace`, or in a pattern, after `#` or `%`.
     Brace,
     /// In any other `${`.
     DoubleBrace,
@@ -29,7 +29,7 @@ pub enum Piece {
     Missing,
     /// A backslash that is the last byte.
     LoneBackslash,
-    /// A backslash and the byte behind it.
+    /// A backslash and the byte after it.
     Escape,
     /// Text in single quotes.
     Single,
@@ -70,7 +70,7 @@ impl Piece {
     }
 }
 
-/// Text in which a backslash takes the byte behind it, and which the next other closing byte ends.
+/// Text in which a backslash takes the byte after it, and which the next other closing byte ends.
 #[derive(Clone, Copy, Debug, PartialEq, Eq)]
 pub enum Escaping {
     /// Text in backquotes (XCU 2.6.3).

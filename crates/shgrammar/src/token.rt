@@ -32,7 +32,7 @@ pub enum Token {
     CloseParen,
     /// The operator of a redirection.
     Redirect(RedirectOperator),
-    /// A `#` and what follows it on its line; it belongs to the newline, or the end, behind it.
+    /// A `#` and what follows it on its line; it belongs to the newline, or the end, after it.
     Comment,
     /// Digits before `<` or `>`: the number of a redirection.
     Number,
@@ -45,7 +45,7 @@ pub enum Token {
 }
 
 impl Token {
-    /// The position behind the word that this token begins, if it begins one.
+    /// The position after the word that this token begins, if it begins one.
     #[inline(always)]
     pub fn behind_word(self) -> Option<Position>
         ensures { result ≡ behind_word self }
@@ -233,7 +233,7 @@ pub enum Opener {
 }
 
 impl Opener {
-    /// The position behind it.
+    /// The position after it.
     #[inline(always)]
     pub fn position_after(self) -> Position
         ensures { result ≡ behind_opener self }
@@ -267,10 +267,10 @@ pub enum Closing {
 pub enum Position {
     /// Where a command may begin: a word may be reserved, or an assignment.
     Command,
-    /// Behind an assignment, or a redirection, before the command's name: a word may be one more assignment.
+    /// After an assignment, or a redirection, before the command's name: a word may be one more assignment.
     Prefix,
-    /// Behind the command's name: a word is an argument. So is one behind the operator of a redirection,
-    /// behind `for`, behind its `in`, behind `case` and behind a pattern: none is reserved.
+    /// After the command's name: a word is an argument. So is one after the operator of a redirection,
+    /// after `for`, after its `in`, after `case` and after a pattern: none is reserved.
     Suffix,
 }
 
@@ -290,7 +290,7 @@ pub enum Separator {
 }
 
 impl Position {
-    /// The position behind a redirection that stands here.
+    /// The position after a redirection that stands here.
     pub fn behind_redirect(self) -> Position
         ensures { result ≡ behind_redirect self }
     {
