@@ -46,11 +46,11 @@ module _ (g : Given) where
   abbrev T : List ℕ
   T = g.text
 
-  -- behind a line that did not end nothing is left
+  -- after a line that did not end nothing is left
   abbrev Rest : Bool → State → Type 0
   Rest newline t = is_ended T newline t.at ≡ false → t.at ≡ length T
 
-  -- behind a newline token, with the bodies that follow it
+  -- after a newline token, with the bodies that follow it
   rest_by : (t : State) → t.at ≤ length T → (raw_stands T (t.at - 1) 10 ≡ true) ⊎ (at_end T t.at ≡ true)
       → Rest true t
   rest_by t le ends not_ended =

@@ -21,7 +21,7 @@ use Rattle.shheld.specs.Walk.{Walk, entries_with, no_line, with_line, with_lines
 use Rattle.shheld.proofs.Rows.{row_entries}
 use Rattle.shheld.proofs.TopLines.{top_lines}
 
--- ---- one list behind another
+-- ---- one list after another
 
 nodes_appended : (es ls : Entries) → entries_nodes (appended es ls) ≡ entries_nodes es ++ entries_nodes ls
 nodes_appended no_entry ls = refl

@@ -39,7 +39,7 @@ pub all_here : (ns : Row NodeLine) → map (placed 0) ns ≡ ns
 all_here [] = refl
 all_here (n ∷ ns) = rw (here n, all_here ns) refl
 
--- ---- no node holds a byte before its line, or behind it
+-- ---- no node holds a byte before its line, or after it
 
 past : (at s e n : ℕ) → e ≤ n → n ≤ at → (nat_le s at && nat_lt at e) ≡ false
 past at s e n low high = grind (arith, nat_tests)
@@ -64,7 +64,8 @@ none_behind base at (l ∷ ls) low =
     ∙ ap (λ ns. ns ++ filter (holds at) (lines_nodes (base + l.len) ls)) (none_yet base at (kind_nodes l.kind) low)
     ∙ none_behind (base + l.len) at ls (omega arith)
 
--- of the lines from the base on, none of which is behind the byte, those that stand before one that holds it
+-- of the lines from the base on, none of which begins past the byte, those that stand before one that holds
+-- it
 held_by : (edition : Edition) (T : List ℕ) (before : Row (HeldLine AKind)) (l : HeldLine AKind)
     (rest : Row (HeldLine AKind)) → IsRow (IsTopLine edition) T (before ++ l ∷ rest) → (base at : ℕ)
     → base + extent before ≤ at → at < base + extent before + l.len →

@@ -1,4 +1,4 @@
--- The outline of a script is those of its lines, one behind the other.
+-- The outline of a script is those of its lines, one after the other.
 use Rattle.std.proofs.Common.{◌≡◌, ℕ, ◌+◌, ◌<◌, ◌≤◌, Bool, true, false, cond, List, List as Row, [], ◌∷◌, ◌++◌, drop, map, refl, sym, ap, subst, ◌∙◌, arith, append-nil}
 use Rattle.std.specs.Prelude.{All}
 use Rattle.std.specs.List.{filter}

@@ -36,7 +36,7 @@ row_outcome edition B row is = script_joined edition B (map as_read row) (row_li
 
 -- ---- its entries
 
--- behind a line that ended, the script goes on
+-- after a line that ended, the script goes on
 abbrev pub GoesOn : AKind → Type 0
 GoesOn blank_line = Unit {0}
 GoesOn (entries_line xs) = Unit {0}

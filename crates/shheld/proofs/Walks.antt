@@ -20,7 +20,7 @@ unfolding extent
 walk_at so [] = omega arith
 walk_at so (l ∷ ls) = let rest = walk_at (with_line so l) ls in omega (arith, rest)
 
--- the walk from an index on goes on behind the line there
+-- the walk from an index on goes on after the line there
 pub walk_more : (so : Walk) (ls : Row (HeldLine AKind)) (i : ℕ) (d : HeldLine AKind) → i < length ls →
     with_lines so (drop i ls) ≡ with_lines (with_line so (get_or ls i d)) (drop (i + 1) ls)
 walk_more so ls i d lt = ap (with_lines so) (drop_more ls i d lt)

@@ -16,7 +16,7 @@ as_read l = record { kind = l.kind; next = l.len; ended = l.ended }
 abbrev pub IsTopLine : Edition → List ℕ → HeldLine AKind → Type 0
 IsTopLine edition text l = IsLine edition text (as_read l)
 
--- the script of the lines of a row, one behind the other
+-- the script of the lines of a row, one after the other
 abbrev pub script_of : Row (HeldLine AKind) → AScript
 script_of row = lines_joined (map as_read row) no_entry false 0
 

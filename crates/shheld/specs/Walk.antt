@@ -19,7 +19,7 @@ pub record Walk : Type 0 where
 abbrev pub no_line : Walk
 no_line = record { entries = no_entry; gap = false; at = 0 }
 
--- the entries of a line at the base, behind those before it
+-- the entries of a line at the base, after those before it
 abbrev pub more_entries_at : Entries → Bool → ℕ → Entries → Entries
 more_entries_at es gap base xs = appended es (blanked (gap && has_entry es) (moved base xs))
 
@@ -56,7 +56,7 @@ abbrev pub line_outline : ℕ → AKind → Row NodeLine
 line_outline base (entries_line xs) = outline base xs
 line_outline base _ = []
 
--- the outlines of the lines from the base on, one behind the other
+-- the outlines of the lines from the base on, one after the other
 abbrev pub outlines : ℕ → Row (HeldLine AKind) → Row NodeLine
 outlines base [] = []
 outlines base (l ∷ ls) = line_outline base l.kind ++ outlines (base + l.len) ls
