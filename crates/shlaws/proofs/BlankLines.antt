@@ -1,4 +1,4 @@
--- A newline token behind an entry ends its line, and each further one makes the next entry blank.
+-- A newline token after an entry ends its line, and each further one makes the next entry blank.
 use Rattle.std.proofs.Common.{◌≡◌, ◌↔◌, ℕ, zero, suc, ◌+◌, ◌≤◌, Bool, true, false, not, List as Row, [], ◌∷◌}
 use Rattle.std.proofs.Common.{◌++◌, Option, refl, sym, ap, ◌∙◌, arith}
 use Rattle.std.specs.Prelude.{◌&&◌}
@@ -18,7 +18,7 @@ same_entries : (n : ℕ) (l : Listed) → (past_newlines n l).entries ≡ l.entr
 same_entries zero l = refl
 same_entries (suc n) l = same_entries n l
 
--- behind an entry of this line
+-- after an entry of this line
 pub behind_entry : (l : Listed) (n : ℕ) → l.begun ≡ true → is_empty l.entries ≡ false
     → (is_blank_next (past_newlines n l) ≡ true) ↔ (2 ≤ n)
 behind_entry l zero begun some =

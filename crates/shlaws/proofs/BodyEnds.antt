@@ -76,7 +76,7 @@ line_odd T p r (suc k) low start within =
 
 -- ---- from line to line
 
--- the line behind a newline
+-- the line after a newline
 newline_at : (T : List ℕ) (r : ℕ) → next_newline T r < length T → slice_get T (next_newline T r) ≡ Some 10
 unfolding raw_in
 newline_at T r lt =

@@ -39,7 +39,7 @@ module _ (g : Given) where
   abbrev T : List ℕ
   T = g.text
 
-  -- what was read, and the token behind it
+  -- what was read, and the token after it
   abbrev pub Behind : {X : Type 0} → X × Next → State → Type 0
   Behind x t = Begins g x.1 t
 

@@ -206,7 +206,7 @@ module _ (g : Given) where
 
   -- ---- repetitions
 
-  -- what a turn gives that begins at s: where it goes on it leads on, and P holds behind it; where it is the
+  -- what a turn gives that begins at s: where it goes on it leads on, and P holds after it; where it is the
   -- last one Q does
   abbrev pub Stepped : {A : Type 0} → (A → State → Type 0) → (A → State → Type 0) → State → Step A → State
       → Type 0
@@ -227,7 +227,7 @@ module _ (g : Given) where
       (more_on one.0 on two.0, two.1)
   turns_by each a s so y k (halts {f = f} p) = (halts_on ((each a s so).on (Err f) k p).0, tt)
 
-  -- P holds before each turn, and Q behind the last
+  -- P holds before each turn, and Q after the last
   pub repeats_until : {A : Type 0} {P Q : A → State → Type 0} {turn : A → Form (Step A)}
       → ((a : A) (s : State) → P a s → Goes (turn a) (Stepped P Q s) s)
       → (a : A) (s : State) → P a s → Goes (many turn a) Q s
@@ -249,7 +249,7 @@ module _ (g : Given) where
       → leads_on g s t ≡ true → Goes r (Turned P Q) t → Goes r (Stepped P Q s) t
   led_until P Q s {t = t} on one = follows (ahead one) (led_by P Q s t on)
 
-  -- ---- repetitions where the same holds before and behind each turn
+  -- ---- repetitions where the same holds before and after each turn
 
   abbrev pub Steps : {A : Type 0} → (A → State → Type 0) → State → Step A → State → Type 0
   Steps P s c t = Stepped P P s c t
@@ -274,7 +274,7 @@ module _ (g : Given) where
       → Goes r (λ x t. p < t.at) s
   beyond p before one = follows (ahead one) (λ x t so. omega (arith, before, so.1))
 
-  -- what is left is less still behind what follows
+  -- what is left is less still after what follows
   pub led_on : {X : Type 0} {P : X → State → Type 0} {r : Form X} (s : State) {t : State}
       → leads_on g s t ≡ true → Goes r P t → Goes r (λ x u. P x u × (leads_on g s u ≡ true)) t
   led_on s {t = t} on one = follows (ahead one) (λ x u so. (so.0, leads_far g s s t u (omega arith) so.1 on))

@@ -158,7 +158,7 @@ found_first P test m (n ∷ ns) rest all is =
           (λ k d lt. all (suc k) d (omega arith)) e
     ] is
 
--- the first of one row stands at no place behind that of the other
+-- the first of one row stands at no place after that of the other
 not_behind : (m n : NodeLine) (ns rest : Row NodeLine) (b : Bool) → stands_from m.start m.«end» n ≡ b
     → AreInOrder (n ∷ ns)
     → cond b (n ∷ filter (stands_from m.start m.«end») ns)

@@ -25,7 +25,7 @@ is_unquoted Plain = true
 is_unquoted Double = true
 is_unquoted mode = false
 
--- a piece that begins with the byte b, behind which x is read or, if it is the last, nothing stands
+-- a piece that begins with the byte b, after which x is read or, if it is the last, nothing stands
 pub data Begins (later last : Bool) (b : ℕ) (x : Option ℕ) : Mode → Piece → Type 0 where
   lone : {mode : Mode} → Begins later last b x mode pieces.LoneBackslash
   escapes : {mode : Mode} → b ≡ 92 → last ≡ false → Begins later last b x mode pieces.Escape

@@ -212,7 +212,7 @@ module _ (edition : Edition) (W : List ℕ) (o : ℕ) where
         (pid_within edition W mode s.at read is) (both_leads edition W mode s.at read is) in
         (_, pid is rest.1)
 
-    -- the byte behind a backslash
+    -- the byte after a backslash
     taken_there : at_end W (past_byte W s.at) ≡ false
         → slice_get W (past_continuations W s.at + 1) ≡ Some (get_or W (past_continuations W s.at + 1) 0)
     unfolding past_byte

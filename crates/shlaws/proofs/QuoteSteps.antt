@@ -22,7 +22,7 @@ use Rattle.shgrammar.proofs.Unquoted.{rest_stands, unquoted_byte, unquoted_escap
 use Rattle.shlaws.specs.Quotes.{escape_leaves}
 use Rattle.shlaws.proofs.PieceBytes.{is_unquoted, quoting_in}
 
--- ---- text, and what is left behind it
+-- ---- text, and what is left after it
 
 pub nothing_more : (left : Option (List ℕ)) → left_of [] left ≡ left
 nothing_more None = refl
@@ -118,7 +118,7 @@ read_on f same W p b is =
     same (drop p W)
     ∙ ap f (drop-drop (count_joined (drop p W)) p W ∙ drop_here W (past_continuations W p) b is)
 
--- and what is looked for behind it
+-- and what is looked for after it
 abbrev turn : Quoting → Bool → ℕ → List ℕ → Bool
 turn q second b rest = cond (is_quote q b) (has_dollar_single (behind_quote q b) false rest)
     (cond (is_live q 36 b)
@@ -332,7 +332,7 @@ module _ (later : Bool) (W : List ℕ) where
   escape_is DoubleBrace c left read other = absurd cc
   escape_is Arith c left read other = absurd cc
 
-  -- behind continuations no other one stands
+  -- after continuations no other one stands
   not_newline : (p c : ℕ) → byte_at W p ≡ Some 92 → slice_get W (past_continuations W p + 1) ≡ Some c
       → (c == 10) ≡ false
   unfolding continues raw_stands

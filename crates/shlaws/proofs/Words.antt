@@ -77,7 +77,7 @@ module _ (g : Given) where
   abbrev pub Begins : Next → State → Type 0
   Begins n t = Shows n.token T t.at
 
-  -- what may be opened is read so, and hands on the token behind it
+  -- what may be opened is read so, and hands on the token after it
   pub record Fine (inner : Inner) : Type 0 where
     pub construct : (mode : Mode) (b : ℕ) (ss : Row ASubst) (s : State)
         → Goes g (inner.construct mode b ss) All s

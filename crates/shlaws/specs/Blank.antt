@@ -1,4 +1,4 @@
--- Which entries are blank: along a line, and behind newline tokens.
+-- Which entries are blank: along a line, and after newline tokens.
 use Rattle.std.specs.Prelude.{◌≡◌, ℕ, zero, suc, Bool, false, ◌||◌, not, List as Row, [], ◌∷◌, ◌++◌}
 use Rattle.shast.specs.Normal.{is_blank_entry}
 use Rattle.shast.specs.Tree.{AnEntry}
@@ -6,12 +6,12 @@ use Rattle.shgrammar.specs.Commands.{is_empty}
 use Rattle.shgrammar.specs.Lists.{Listed, is_blank_next, next_line}
 use Rattle.shgrammar.specs.Scripts.{SoFar, with_line}
 
--- a list behind so many newline tokens more
+-- a list after so many newline tokens more
 abbrev pub past_newlines : ℕ → Listed → Listed
 past_newlines zero l = l
 past_newlines (suc n) l = next_line (past_newlines n l)
 
--- a script behind so many lines more, which have no entry and end in newline tokens
+-- a script after so many lines more, which have no entry and end in newline tokens
 abbrev pub past_empty_lines : ℕ → SoFar → SoFar
 past_empty_lines zero so = so
 past_empty_lines (suc n) so = with_line (past_empty_lines n so) []
@@ -21,7 +21,7 @@ abbrev pub AreBlankAtFirst : Bool → Row AnEntry → Type 0
 AreBlankAtFirst blank [] = Unit {0}
 AreBlankAtFirst blank (e ∷ es) = (is_blank_entry e ≡ blank) × AreBlankAtFirst false es
 
--- behind entries of one line more
+-- after entries of one line more
 pub record HasMore (before behind : Listed) : Type 0 where
   pub entries : Row AnEntry
   pub all : behind.entries ≡ before.entries ++ entries

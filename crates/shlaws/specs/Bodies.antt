@@ -24,7 +24,7 @@ is_odd (suc n) = not (is_odd n)
 abbrev pub is_taken_in : List ℕ → Waiting → ℕ → ℕ → Bool
 is_taken_in T w p q = not w.literal && is_odd (backslashes_before T p (q - 1))
 
--- at q begins a line of the body that is the delimiter, behind leading tabs if `<<-` takes these off
+-- at q begins a line of the body that is the delimiter, after leading tabs if `<<-` takes these off
 pub record IsDelimiterLine (T : List ℕ) (w : Waiting) (p q : ℕ) : Type 0 where
   pub start : BeginsLine T p q
   -- no line begins where the text ends

@@ -6,7 +6,7 @@ use Rattle.shast.specs.declared.node.NodeLine.{NodeLine}
 abbrev pub MayPrecede : NodeLine → NodeLine → Type 0
 MayPrecede a b = (a.start < b.start) ⊎ ((a.start ≡ b.start) × (b.«end» ≤ a.«end»))
 
--- each node may stand before all those behind it
+-- each node may stand before all those after it
 abbrev pub AreInOrder : Row NodeLine → Type 0
 AreInOrder ns = AllPairs MayPrecede ns
 
@@ -14,7 +14,7 @@ AreInOrder ns = AllPairs MayPrecede ns
 abbrev pub stands_from : ℕ → ℕ → NodeLine → Bool
 stands_from start until n = n.start == start && n.«end» == until
 
--- at each place the two rows have the same nodes, one behind another alike
+-- at each place the two rows have the same nodes, one after another alike
 abbrev pub HaveTheSameAtEachPlace : Row NodeLine → Row NodeLine → Type 0
 HaveTheSameAtEachPlace ms ns =
     (start until : ℕ) → filter (stands_from start until) ms ≡ filter (stands_from start until) ns

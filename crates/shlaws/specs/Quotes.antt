@@ -15,7 +15,7 @@ use Rattle.shgrammar.specs.Standing.{at_end}
 abbrev pub piece_by_edition : Edition → List ℕ → Mode → ℕ → Piece
 piece_by_edition edition T mode p = piece_in edition mode (piece_at T mode 0 p)
 
--- What is left of a backslash and the byte behind it: the byte. In double quotes the backslash is left too,
+-- What is left of a backslash and the byte after it: the byte. In double quotes the backslash is left too,
 -- but before `$`, a backquote, `"` and a backslash (XCU 2.2.3).
 abbrev pub escape_leaves : Mode → ℕ → List ℕ
 escape_leaves Double c = if c == 36 || c == 96 || c == 34 || c == 92 then c ∷ [] else 92 ∷ c ∷ []

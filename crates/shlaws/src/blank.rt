@@ -31,7 +31,7 @@ pub fn blank_lines()
 {}
 
 /// What a list reads on one line are entries of which the first has the flag that is told before the line,
-/// and no other is blank. Behind the newline token that ends it the flag of the next line is told.
+/// and no other is blank. After the newline token that ends it the flag of the next line is told.
 pub fn flags_of_a_line()
     ensures entries { (room : ℕ) (l m : ListSo) (g : Given) (s t : State) (told : Row Spelled) →
         may (on_line (level room) l) g s (Ok (m, t)) told → HasMore l.list m.list }
