@@ -29,7 +29,7 @@ byte_of_comment (Some b) is =
     let same : b ≡ 35 = grind (arith, nat_tests, is) in
     rw same (refl, refl, refl)
 
--- it is no blank, and its line ends behind it
+-- it is no blank, and its line ends after it
 pub comment_begins : (T : List ℕ) (p : ℕ) → raw_stands T p 35 ≡ true → (raw_in is_blank T p ≡ false)
     × (p < next_newline T p)
 unfolding raw_stands raw_in at_end raw_past

@@ -4,7 +4,7 @@ use Rattle.shgrammar.specs.Standing.{raw_stands}
 use Rattle.shgrammar.proofs.Places.{end_is}
 use Rattle.shline.specs.Clauses.{Ended}
 
--- behind a newline, or with its source
+-- after a newline, or with its source
 pub newline_there : (B : List ℕ) (at q : ℕ) (newline : Bool) → at ≤ length B → q ≤ length (drop at B) →
     Ended (drop at B) q newline → newline ≡ true
     → (raw_stands (drop at B) (q - 1) 10 ≡ true) ⊎ (at + q ≡ length B)

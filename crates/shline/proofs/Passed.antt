@@ -1,4 +1,4 @@
--- Bytes of a class that stand one behind another, and blanks among continuations.
+-- Bytes of a class that stand one after another, and blanks among continuations.
 use Rattle.std.proofs.Common.{◌≡◌, ℕ, ◌+◌, Bool, true, false, List, refl, subst, sym, ap, ◌∙◌, arith}
 use Rattle.shgrammar.specs.Bytes.{past, past_blanks, past_byte, past_continuations, stands_in}
 use Rattle.shgrammar.specs.Classes.{is_blank}
@@ -33,7 +33,7 @@ no_blanks T p whole none =
     let here : raw_past is_blank T p ≡ p = raw_none is_blank T p none in
     blanks_whole T p (ap (continues T) here ∙ whole) ∙ here
 
--- where two places have the same place past continuations, the token behind the blanks there is the same
+-- where two places have the same place past continuations, the token after the blanks there is the same
 same_place : (T : List ℕ) (p q : ℕ) (x : Bool) → past_continuations T p ≡ past_continuations T q
     → stands_in is_blank T p ≡ x → past_blanks T p ≡ past_blanks T q
 unfolding past_byte past_blanks stands_in
@@ -46,7 +46,7 @@ same_place T p q false same blank =
     ap (past_continuations T) (past_none is_blank T p blank) ∙ same
     ∙ sym (ap (past_continuations T) (past_none is_blank T q there))
 
--- a continuation among blanks is passed, and the blanks behind it
+-- a continuation among blanks is passed, and the blanks after it
 blanks_over : (T : List ℕ) (p : ℕ) → continues T p ≡ true
     → past_blanks T (raw_past is_blank T (p + 2)) ≡ past_blanks T p
 unfolding past_blanks

@@ -1,4 +1,4 @@
--- What stops: a turn of a row, a piece of a word, or what stands behind plain bytes.
+-- What stops: a turn of a row, a piece of a word, or what stands after plain bytes.
 use Rattle.std.proofs.Common.{◌≡◌, ◌∙◌, ◌+◌, ◌≤◌, ℕ, List, List as Row, [], length, refl, subst}
 use Rattle.shgrammar.specs.declared.keep.Keep.{Keep}
 use Rattle.shgrammar.specs.declared.mode.Mode.{Mode}

@@ -47,7 +47,7 @@ not_not : (x : Bool) → x ≡ not (not x)
 not_not true = refl
 not_not false = refl
 
--- any byte may stand behind a word of one
+-- any byte may stand after a word of one
 alone : ℕ → Bool
 alone b = none 33 b || (none 123 b || none 125 b)
 

@@ -63,7 +63,7 @@ same_kind (simple is) redirects = refl
 same_kind (compound c) redirects = refl
 same_kind (function f cs b) redirects = refl
 
--- what stands behind a place stands in the text
+-- what stands after a place stands in the text
 pub seen_behind : (T : List ℕ) (n : ℕ) → list_any (λ b. b == 60) (drop n T) ≡ true → list_any (λ b. b == 60) T ≡ true
 seen_behind T zero so = so
 seen_behind [] (suc n) so = absurd cc

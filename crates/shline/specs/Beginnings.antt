@@ -2,7 +2,7 @@
 use Rattle.std.specs.Prelude.{ℕ, Bool, true, false, ◌==◌, ◌&&◌, ◌||◌, List, [], ◌∷◌, List as Row, if◌then◌else◌}
 use Rattle.shgrammar.specs.Tokens.{Spelling}
 
--- a word may begin with the bytes a and b as they stand: behind a backslash it may go on past a continuation
+-- a word may begin with the bytes a and b as they stand: after a backslash it may go on past a continuation
 unfoldable pub may_spell : List ℕ → ℕ → ℕ → Bool
 may_spell [] a b = true
 may_spell (c ∷ []) a b = a == c

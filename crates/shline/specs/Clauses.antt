@@ -157,7 +157,7 @@ Holds old new = Stays old new × (new.next ≡ old.next) × (start_of new ≡ st
 abbrev pub Moves : {S : Type 0} {k : ℕ} {g : _} → Cursor S k g → Cursor S k g → ℕ → Type 0
 Moves old new p = (here_of new ≡ p) × (here_of old ≤ here_of new) × Stays old new
 
--- the same of a place behind the begin of the token in hand
+-- the same of a place after the begin of the token in hand
 abbrev pub Steps : {S : Type 0} {k : ℕ} {g : _} → Cursor S k g → Cursor S k g → ℕ → Type 0
 Steps old new p = (here_of new ≡ p) × (start_of old < here_of new) × Stays old new
 
@@ -212,7 +212,7 @@ abbrev pub Reads : {S X Y : Type 0} {k : ℕ} {g : _} → Cursor S k g → Form 
     Type 0
 Reads old form result view new = Goes old form (at_place old) result view (at_place new) new
 
--- from a token in hand to the place behind what was read
+-- from a token in hand to the place after what was read
 abbrev pub Passes : {S X Y : Type 0} {k : ℕ} {g : _} → Cursor S k g → Form Y → Result X Stop → (X → Y) → Cursor S k g →
     Type 0
 Passes old form result view new = Goes old form (at_token old) result view (at_place new) new
@@ -250,7 +250,7 @@ abbrev pub Rests : {S X : Type 0} {k : ℕ} {g : _} → Cursor S k g → Form X 
     Type 0
 Rests old form s rest t new = (reads old rest t ≡ reads old form s) × (s.at ≤ t.at) × Keeps old new
 
--- a line of a text ends at q: behind its newline, or at the end, where it has none or is a delimiter's
+-- a line of a text ends at q: after its newline, or at the end, where it has none or is a delimiter's
 abbrev pub Ended : List ℕ → ℕ → Bool → Type 0
 Ended T q true = (raw_stands T (q - 1) 10 ≡ true) ⊎ (at_end T q ≡ true)
 Ended T q false = at_end T q ≡ true
@@ -266,7 +266,7 @@ abbrev pub BodiesFail : Limits → Stop → Result (Row Span × ℕ) Fault → T
 BodiesFail bound Memory all = bound.memory ≡ true
 BodiesFail bound (Wrong f) all = (all ≡ Err f) × (f.at ≤ bound.furthest)
 
--- One document's body was read: what all bodies give is what is given behind it. Or it stops all of them.
+-- One document's body was read: what all bodies give is what is given after it. Or it stops all of them.
 abbrev pub BodyRead : Limits → Result (Unit {0}) Stop → Result (Row Span × ℕ) Fault → Result (Row Span × ℕ) Fault →
     Type 0
 BodyRead bound (Ok x) all rest = all ≡ rest

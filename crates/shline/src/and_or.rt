@@ -15,7 +15,7 @@ use shtext::Source;
 use std::mem;
 
 impl<'a, S: Source, const KEEP: u8> Cursor<'a, S, KEEP> {
-    /// One more pipeline of an and-or list, behind `&&` or `||`. It stands apart to
+    /// One more pipeline of an and-or list, after `&&` or `||`. It stands apart to
     /// keep the frames of nested commands small.
     #[cycle(commands)]
     #[tactic(auto, unfolding(shgrammar::specs::Commands::one_pipeline))]
@@ -59,7 +59,7 @@ impl<'a, S: Source, const KEEP: u8> Cursor<'a, S, KEEP> {
         Ok(true)
     }
 
-    /// The pipelines of an and-or list behind its first.
+    /// The pipelines of an and-or list after its first.
     #[cycle(commands)]
     #[inline(always)]
     #[tactic(auto, using(shgrammar::proofs::Turns::many_again, shgrammar::proofs::Turns::many_done, crate::proofs::Stops::many_stop))]

@@ -62,7 +62,7 @@ impl<'a, S: Source, const KEEP: u8> Cursor<'a, S, KEEP> {
         true
     }
 
-    /// Passes `;` or `&`, if the token here is one of them, and tells the offset behind it.
+    /// Passes `;` or `&`, if the token here is one of them, and tells the offset after it.
     #[inline(always)]
     #[tactic(auto, unfolding(shgrammar::specs::Commands::a_separator, shgrammar::specs::Commands::next_token, crate::specs::InHand::InHand))]
     pub(crate) fn separator(&mut self) -> Option<(Separator, usize)>
@@ -77,7 +77,7 @@ impl<'a, S: Source, const KEEP: u8> Cursor<'a, S, KEEP> {
     }
 
     /// What is wrong where no row takes the token here. A word is read whole first; a
-    /// comment goes with the token behind it.
+    /// comment goes with the token after it.
     #[cycle(commands)]
     #[tactic(auto, unfolding(shgrammar::specs::Commands::what_is_wrong, crate::specs::InHand::InHand))]
     pub(crate) fn what_is_wrong(&mut self, room: usize) -> Result<Fault, Stop>

@@ -38,7 +38,7 @@ impl<'a, S: Source, const KEEP: u8> Cursor<'a, S, KEEP> {
         at
     }
 
-    /// The byte that is read at a place, or `None` at the end. Only behind a backslash
+    /// The byte that is read at a place, or `None` at the end. Only after a backslash
     /// another byte may be meant.
     #[inline(always)]
     #[tactic(auto, using(shgrammar::proofs::Stretches::raw_stays))]
@@ -53,7 +53,7 @@ impl<'a, S: Source, const KEEP: u8> Cursor<'a, S, KEEP> {
         self.raw_byte(at)
     }
 
-    /// The place behind the byte that is read at a place.
+    /// The place after the byte that is read at a place.
     #[inline(always)]
     #[tactic(auto, unfolding(shgrammar::specs::Bytes::past_byte))]
     pub(crate) fn past_byte(&self, at: usize) -> usize
@@ -115,7 +115,7 @@ impl<'a, S: Source, const KEEP: u8> Cursor<'a, S, KEEP> {
         }
     }
 
-    /// The place behind the bytes of this class from a place on. Most often no
+    /// The place after the bytes of this class from a place on. Most often no
     /// continuation stands among them.
     #[inline(always)]
     #[tactic(auto, using(shgrammar::proofs::Unbroken::past_raw, shgrammar::proofs::Unbroken::past_whole, shgrammar::proofs::Unbroken::raw_stops, shgrammar::proofs::Unbroken::none_here))]
@@ -131,7 +131,7 @@ impl<'a, S: Source, const KEEP: u8> Cursor<'a, S, KEEP> {
         end
     }
 
-    /// The place behind the bytes of this class from a place on where none stands, unless past continuations.
+    /// The place after the bytes of this class from a place on where none stands, unless past continuations.
     #[cold]
     #[tactic(auto, using(shgrammar::proofs::Unbroken::joined_on, shgrammar::proofs::Unbroken::joined_here, shgrammar::proofs::Unbroken::raw_stops, shgrammar::proofs::Unbroken::none_here, shgrammar::proofs::Stretches::past_none))]
     fn past_joined(&self, from: usize, class: Class) -> usize
@@ -150,7 +150,7 @@ impl<'a, S: Source, const KEEP: u8> Cursor<'a, S, KEEP> {
         at
     }
 
-    /// The place where the next token begins, from one where no blank stands: behind the continuations there,
+    /// The place where the next token begins, from one where no blank stands: after the continuations there,
     /// and the blanks among them.
     #[inline(always)]
     #[tactic(auto, using(crate::proofs::Passed::blanks_over_on, crate::proofs::Passed::no_blanks, shgrammar::proofs::Unbroken::blanks_stop_raw))]

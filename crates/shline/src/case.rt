@@ -21,7 +21,7 @@ use shtext::Source;
 use std::alloc::Global;
 use std::mem;
 
-/// The items of a `case` so far, and the comments behind them.
+/// The items of a `case` so far, and the comments after them.
 #[derive(Drop)]
 struct Cases {
     items: Vec<CaseItem>,
@@ -38,7 +38,7 @@ fn no_lines(alloc: Global) -> Join
     }
 }
 
-/// The offset behind the last token of a body: of a separator, or of a command, or of
+/// The offset after the last token of a body: of a separator, or of a command, or of
 /// what stands before the body.
 fn body_end(before: usize, body: &Listed) -> usize
     ensures { result ≡ body_end before (view_listed body.now) }
@@ -50,7 +50,7 @@ fn body_end(before: usize, body: &Listed) -> usize
 }
 
 impl<'a, S: Source, const KEEP: u8> Cursor<'a, S, KEEP> {
-    /// The word behind `case`.
+    /// The word after `case`.
     #[cycle(commands)]
     #[tactic(auto, unfolding(shgrammar::specs::Compounds::a_case_word, shgrammar::specs::Commands::next_token, crate::specs::InHand::InHand))]
     fn case_word(&mut self, room: usize) -> Result<Word, Stop>
@@ -89,7 +89,7 @@ impl<'a, S: Source, const KEEP: u8> Cursor<'a, S, KEEP> {
         Ok(())
     }
 
-    /// One more pattern, behind the `|` here.
+    /// One more pattern, after the `|` here.
     #[cycle(commands)]
     #[tactic(auto, unfolding(shgrammar::specs::Compounds::one_pattern, shgrammar::specs::Commands::next_token, crate::specs::InHand::InHand))]
     fn one_pattern(&mut self, patterns: &mut Vec<Word>, room: usize) -> Result<(), Stop>
@@ -119,7 +119,7 @@ impl<'a, S: Source, const KEEP: u8> Cursor<'a, S, KEEP> {
         Ok(true)
     }
 
-    /// The patterns behind the first one.
+    /// The patterns after the first one.
     #[cycle(commands)]
     #[tactic(auto, using(shgrammar::proofs::Turns::many_again, shgrammar::proofs::Turns::many_done, crate::proofs::Stops::many_stop))]
     fn more_patterns(&mut self, patterns: &mut Vec<Word>, room: usize) -> Result<(), Stop>
@@ -158,7 +158,7 @@ impl<'a, S: Source, const KEEP: u8> Cursor<'a, S, KEEP> {
         }
     }
 
-    /// Passes the `;;` or `;&` here and tells the offset behind it; the newlines and comments behind that go
+    /// Passes the `;;` or `;&` here and tells the offset after it; the newlines and comments after that go
     /// into `lines`.
     #[tactic(auto, unfolding(shgrammar::specs::Compounds::an_ender, shgrammar::specs::Commands::next_token))]
     fn ender(&mut self, lines: &mut Join) -> Result<usize, Stop>
@@ -174,7 +174,7 @@ impl<'a, S: Source, const KEEP: u8> Cursor<'a, S, KEEP> {
         Ok(end)
     }
 
-    /// The end of an item: behind its `;;` or `;&`, whose comments go into `lines`, or at `there` before
+    /// The end of an item: after its `;;` or `;&`, whose comments go into `lines`, or at `there` before
     /// `esac`.
     #[cycle(commands)]
     #[tactic(auto, unfolding(shgrammar::specs::Compounds::an_item_end, crate::specs::InHand::InHand))]
@@ -250,7 +250,7 @@ impl<'a, S: Source, const KEEP: u8> Cursor<'a, S, KEEP> {
         Ok(word)
     }
 
-    /// A `case`, from behind it. The comments behind its last item are its tail.
+    /// A `case`, from just after that word. The comments after its last item are its tail.
     #[cycle(commands)]
     #[tactic(auto, unfolding(shgrammar::specs::Compounds::a_case))]
     pub(crate) fn case_command(&mut self, room: usize) -> Result<(Form, Span), Stop>

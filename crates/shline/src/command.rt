@@ -20,7 +20,7 @@ use shtext::Source;
 use std::alloc::AllocError;
 use std::mem;
 
-/// A word as an item, by the position behind it.
+/// A word as an item, by the position after it.
 fn item_of(word: Word, position: Position, broken: bool) -> Item
     ensures { view_item result ≡ item broken (as_item position (view_word word)) }
 {
@@ -31,7 +31,7 @@ fn item_of(word: Word, position: Position, broken: bool) -> Item
 }
 
 impl<'a, S: Source, const KEEP: u8> Cursor<'a, S, KEEP> {
-    /// One more item, which is the word here, and the token behind it, which stands in this position.
+    /// One more item, which is the word here, and the token after it, which stands in this position.
     #[cycle(commands)]
     #[tactic(auto, unfolding(shgrammar::specs::Commands::an_item, shgrammar::specs::Commands::next_token))]
     pub(crate) fn item(
@@ -68,7 +68,7 @@ impl<'a, S: Source, const KEEP: u8> Cursor<'a, S, KEEP> {
     }
 
     /// One more item of a simple command, if the token here, which stands in this position, begins one,
-    /// and the token behind it. Answers whether there was one.
+    /// and the token after it. Answers whether there was one.
     #[cycle(commands)]
     #[tactic(auto, unfolding(shgrammar::specs::Commands::item_turn, crate::specs::InHand::InHand))]
     fn item_turn(
@@ -95,7 +95,7 @@ impl<'a, S: Source, const KEEP: u8> Cursor<'a, S, KEEP> {
         Ok(true)
     }
 
-    /// The items of a simple command behind these. The token in hand stands in the position `place`.
+    /// The items of a simple command after these. The token in hand stands in the position `place`.
     #[cycle(commands)]
     #[tactic(auto, using(shgrammar::proofs::Turns::many_again, shgrammar::proofs::Turns::many_done, crate::proofs::Stops::many_stop))]
     fn items(
@@ -126,7 +126,7 @@ impl<'a, S: Source, const KEEP: u8> Cursor<'a, S, KEEP> {
         Ok(simple_of(items))
     }
 
-    /// Adds the first word of a command, behind which the token in hand stands.
+    /// Adds the first word of a command, after which the token in hand stands.
     #[inline(always)]
     fn add_first(&self, word: Word, items: &mut Vec<Item>) -> Result<(), AllocError>
         ensures memory { IfErr result (λ e. (KEEP == 1) ≡ true) }

@@ -13,7 +13,7 @@ use shgrammar::Class;
 use shtext::Source;
 
 impl<'a, S: Source, const KEEP: u8> Cursor<'a, S, KEEP> {
-    /// The place behind the last byte before `end` that is no blank; at `from` one stands.
+    /// The place after the last byte before `end` that is no blank; at `from` one stands.
     #[tactic(auto, using(crate::proofs::Comments::blanks_before_on, crate::proofs::Comments::no_blanks_before_on))]
     fn before_blanks(&self, from: usize, end: usize) -> usize
         requires { (seen self.now (raw_in is_blank) from ≡ false) × (from < end) × Inside

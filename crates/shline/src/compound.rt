@@ -21,7 +21,7 @@ use shtext::Source;
 use std::mem;
 
 impl<'a, S: Source, const KEEP: u8> Cursor<'a, S, KEEP> {
-    /// Passes the round bracket or the reserved word here. The token behind it stands in this position.
+    /// Passes the round bracket or the reserved word here. The token after it stands in this position.
     #[tactic(auto, unfolding(shgrammar::specs::Compounds::reserved_or_paren, shgrammar::specs::Commands::next_token))]
     pub(crate) fn reserved_or_paren(&mut self, paren: bool, position: Position) -> Span
         requires { IsRead (text_of self.old) (start_of self.old) }
@@ -80,7 +80,7 @@ impl<'a, S: Source, const KEEP: u8> Cursor<'a, S, KEEP> {
         Ok(branch_of(condition, body))
     }
 
-    /// One more branch, behind an `elif`. Answers whether there was one.
+    /// One more branch, after an `elif`. Answers whether there was one.
     #[cycle(commands)]
     #[tactic(auto, unfolding(shgrammar::specs::Compounds::elif_turn, crate::specs::InHand::InHand))]
     fn elif_turn(&mut self, branches: &mut Vec<Branch>, room: usize) -> Result<bool, Stop>
@@ -124,7 +124,7 @@ impl<'a, S: Source, const KEEP: u8> Cursor<'a, S, KEEP> {
         Ok(Some(self.list(room)?))
     }
 
-    /// An `if`, from behind it.
+    /// An `if`, from just after that word.
     #[cycle(commands)]
     #[tactic(auto, unfolding(shgrammar::specs::Compounds::an_if))]
     fn if_command(&mut self, room: usize) -> Result<(Form, Span), Stop>
@@ -152,7 +152,7 @@ impl<'a, S: Source, const KEEP: u8> Cursor<'a, S, KEEP> {
         Ok((branch_of(condition, body), closer))
     }
 
-    /// What an opener opens, from behind it, and its closer.
+    /// What an opener opens, from just after it, and its closer.
     #[cycle(commands)]
     fn form(&mut self, opener: Opener, room: usize) -> Result<(Form, Span), Stop>
         ensures { Takes self.old (a_form (level room) opener self.old.next) result

@@ -255,7 +255,7 @@ impl<'a, S: Source, const KEEP: u8> Cursor<'a, S, KEEP> {
         odd
     }
 
-    /// Whether a line takes in the one behind it.
+    /// Whether a line takes in the one after it.
     fn takes_newline(&self, document: &Waiting, from: usize, end: usize) -> bool
         requires { Reaches self.now next_newline from end }
         ensures { result ≡ takes_newline (view_waiting document.now)
@@ -264,7 +264,7 @@ impl<'a, S: Source, const KEEP: u8> Cursor<'a, S, KEEP> {
         !document.literal && self.ends_odd(from, end)
     }
 
-    /// The end of the line at a place, and the place behind it.
+    /// The end of the line at a place, and the place after it.
     #[tactic(auto, using(shgrammar::proofs::Places::not_end_low, shgrammar::proofs::Places::end_high))]
     fn line_end(&self, from: usize) -> (usize, usize)
         requires { Inside self.now from }
@@ -286,7 +286,7 @@ impl<'a, S: Source, const KEEP: u8> Cursor<'a, S, KEEP> {
         self.at_end(self.at)
     }
 
-    /// To the place behind the delimiter's line of a document whose body begins here; answers where in the
+    /// To the place after the delimiter's line of a document whose body begins here; answers where in the
     /// text that line begins. The stretch goes on with the lines.
     #[tactic(auto, using(shgrammar::proofs::Delimiters::none_at_end, shgrammar::proofs::Delimiters::found_here, shgrammar::proofs::Delimiters::on_to_next, shgrammar::proofs::Delimiters::past_line_low))]
     fn delimiter_line(&mut self, document: &Waiting) -> Option<usize>

@@ -1,4 +1,4 @@
-//! `for` (XCU 2.9.4.2): its name, the words behind its `in`, and what it runs.
+//! `for` (XCU 2.9.4.2): its name, the words after its `in`, and what it runs.
 ghost use Rattle.std.specs.Prelude.{◌≡◌, ◌<◌, [], false, length, true, map, option_map, IfErr, IfOk, Some};
 ghost use Rattle.shgrammar.specs.Shows.{IsRead};
 ghost use Rattle.shline.specs.Clauses.{GrowsNone, start_of, Takes, text_of, Turns};
@@ -20,7 +20,7 @@ use shgrammar::{Closing, FaultKind, Position, Token};
 use shtext::Source;
 use std::alloc::{AllocError, Global};
 
-/// A list behind comments, which are its first entries then.
+/// A list after comments, which are its first entries then.
 #[tactic(auto, using(shgrammar::proofs::Remarks::remarks_row, shgrammar::proofs::Remarks::list_seen))]
 fn behind_remarks(alloc: Global, comments: &[Comment], list: List) -> Result<List, AllocError>
     ensures value { IfOk result
@@ -39,7 +39,7 @@ fn behind_remarks(alloc: Global, comments: &[Comment], list: List) -> Result<Lis
     Ok(list_of(entries))
 }
 
-/// Whether this token is the `in` before the words of a `for`, which does not stand behind `;`.
+/// Whether this token is the `in` before the words of a `for`, which does not stand after `;`.
 fn begins_words(semicolon: bool, token: Token) -> bool
     ensures value { result ≡ begins_words semicolon token }
     ensures some { result ≡ true → is_end token ≡ false }
@@ -48,7 +48,7 @@ fn begins_words(semicolon: bool, token: Token) -> bool
 }
 
 impl<'a, S: Source, const KEEP: u8> Cursor<'a, S, KEEP> {
-    /// The word behind `for`, which has to be a NAME.
+    /// The word after `for`, which has to be a NAME.
     #[cycle(commands)]
     #[tactic(auto, unfolding(shgrammar::specs::Compounds::a_for_name, shgrammar::specs::Commands::next_token, crate::specs::InHand::InHand))]
     fn for_name(&mut self, room: usize) -> Result<Word, Stop>
@@ -59,7 +59,7 @@ impl<'a, S: Source, const KEEP: u8> Cursor<'a, S, KEEP> {
             return Err(Stop::Wrong(self.what_is_wrong(room)?));
         }
         let start = self.start();
-        // Asked before the word is passed: the stretch may go on behind it.
+        // Asked before the word is passed: the stretch may go on after it.
         let at = self.next_at;
         let is_name = self.is_name(at);
         let mut substs = Vec::new(self.alloc);
@@ -72,7 +72,7 @@ impl<'a, S: Source, const KEEP: u8> Cursor<'a, S, KEEP> {
         Ok(word)
     }
 
-    /// Newlines and comments, which go behind these.
+    /// Newlines and comments, which go after these.
     #[tactic(auto, unfolding(shgrammar::specs::Compounds::a_linebreak))]
     pub(crate) fn linebreak(&mut self, lines: &mut Join) -> Result<(), Stop>
         ensures value { Takes self.old (a_linebreak (view_join lines.old).comments self.old.next)
@@ -83,7 +83,7 @@ impl<'a, S: Source, const KEEP: u8> Cursor<'a, S, KEEP> {
         self.join_on(lines)
     }
 
-    /// `;` or a newline, with the newlines and comments behind it.
+    /// `;` or a newline, with the newlines and comments after it.
     #[cycle(commands)]
     #[tactic(auto, unfolding(shgrammar::specs::Compounds::a_sequential_sep))]
     fn sequential_sep(&mut self, lines: &mut Join, room: usize) -> Result<(), Stop>
@@ -99,7 +99,7 @@ impl<'a, S: Source, const KEEP: u8> Cursor<'a, S, KEEP> {
         Ok(())
     }
 
-    /// One more word behind `in`, if the token here begins one, and the token behind
+    /// One more word after `in`, if the token here begins one, and the token after
     /// it. Answers whether there was one.
     #[cycle(commands)]
     #[tactic(auto, unfolding(shgrammar::specs::Compounds::word_turn, crate::specs::InHand::InHand))]
@@ -126,7 +126,7 @@ impl<'a, S: Source, const KEEP: u8> Cursor<'a, S, KEEP> {
         Ok(words)
     }
 
-    /// The `in` here, the words behind it, and what ends them.
+    /// The `in` here, the words after it, and what ends them.
     #[cycle(commands)]
     #[tactic(auto, unfolding(shgrammar::specs::Compounds::for_words))]
     fn for_words(&mut self, lines: &mut Join, room: usize) -> Result<Vec<Item>, Stop>
@@ -142,7 +142,7 @@ impl<'a, S: Source, const KEEP: u8> Cursor<'a, S, KEEP> {
         Ok(words)
     }
 
-    /// What stands between the name and `do`: the words behind `in`, where it stands.
+    /// What stands between the name and `do`: the words after `in`, where it stands.
     /// The comments go into `lines`.
     #[cycle(commands)]
     #[tactic(auto, unfolding(shgrammar::specs::Compounds::a_for_head, crate::specs::InHand::InHand))]
@@ -161,7 +161,7 @@ impl<'a, S: Source, const KEEP: u8> Cursor<'a, S, KEEP> {
         Ok(Some(self.for_words(lines, room)?))
     }
 
-    /// A `for`, from behind it. The comments of its head stand in its body.
+    /// A `for`, from just after that word. The comments of its head stand in its body.
     #[cycle(commands)]
     #[tactic(auto, unfolding(shgrammar::specs::Compounds::a_for), using(crate::proofs::Wanted::kept_some))]
     pub(crate) fn for_command(&mut self, room: usize) -> Result<(Form, Span), Stop>

@@ -1,4 +1,4 @@
-//! Functions (XCU 2.9.5), from the `(` behind their names.
+//! Functions (XCU 2.9.5), from the `(` after their names.
 ghost use Rattle.std.specs.Prelude.{◌≡◌, ◌+◌, ◌≤◌, map, IfErr, IfOk, true};
 ghost use Rattle.shgrammar.specs.Shows.{IsRead};
 ghost use Rattle.shline.specs.Clauses.{Boxed, is_compound, start_of, Takes, text_of};
@@ -38,7 +38,7 @@ fn under_name(
 }
 
 impl<'a, S: Source, const KEEP: u8> Cursor<'a, S, KEEP> {
-    /// The compound command that the token here has to open, and the redirections behind it.
+    /// The compound command that the token here has to open, and the redirections after it.
     #[cycle(commands)]
     #[tactic(auto, unfolding(crate::specs::InHand::InHand))]
     pub(crate) fn compound_by(&mut self, room: usize) -> Result<Command, Stop>
@@ -55,7 +55,7 @@ impl<'a, S: Source, const KEEP: u8> Cursor<'a, S, KEEP> {
         }
     }
 
-    /// The brackets behind the name of a function, and its body.
+    /// The brackets after the name of a function, and its body.
     #[cycle(commands)]
     #[tactic(auto, unfolding(shgrammar::specs::Compounds::a_function))]
     fn function(&mut self, name: Span, room: usize) -> Result<Command, Stop>

@@ -12,7 +12,7 @@ use shgrammar::Position;
 use shtext::Source;
 
 impl<'a, S: Source, const KEEP: u8> Cursor<'a, S, KEEP> {
-    /// One more comment and newline behind an operator. Answers whether there was a newline.
+    /// One more comment and newline after an operator. Answers whether there was a newline.
     #[tactic(auto, unfolding(shgrammar::specs::Commands::join_turn))]
     fn join_turn(&mut self, join: &mut Join) -> Result<bool, Stop>
         ensures value { Turns self.old (join_turn (join_so (view_join join.old) self.old.next))
@@ -41,8 +41,8 @@ impl<'a, S: Source, const KEEP: u8> Cursor<'a, S, KEEP> {
         Ok(())
     }
 
-    /// From behind an operator, before which the line was broken or not, to the token with which its operand
-    /// begins.
+    /// From just after an operator, before which the line was broken or not, to the token with which its
+    /// operand begins.
     #[tactic(auto, unfolding(shgrammar::specs::Commands::a_join, shgrammar::specs::Commands::next_token))]
     pub(crate) fn join(&mut self, broken: bool) -> Result<Join, Stop>
         ensures { Meets self.old (a_join broken) result

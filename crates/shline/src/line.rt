@@ -23,7 +23,7 @@ pub(crate) fn filled_entries(mut entries: Vec<Entry>, bodies: Vec<Span>) -> Vec<
 }
 
 impl<'a, S: Source, const KEEP: u8> Cursor<'a, S, KEEP> {
-    /// The newline or the end behind the entries of a line. Answers whether it was a newline.
+    /// The newline or the end after the entries of a line. Answers whether it was a newline.
     #[inline(always)]
     #[tactic(auto, unfolding(shgrammar::specs::Lines::end_of_line, shgrammar::specs::Bytes::past_byte, crate::specs::InHand::InHand))]
     fn end_of_line(&mut self, room: usize) -> Result<bool, Stop>

@@ -29,13 +29,13 @@ pub(crate) struct Listed {
     pub(crate) begun: bool,
     /// One of them is a command.
     pub(crate) commands: bool,
-    /// The offset behind the separator of the last command, where it has one.
+    /// The offset after the separator of the last command, where it has one.
     pub(crate) parted: Option<usize>,
     /// All of them stand on one line.
     one_line: bool,
 }
 
-/// The offset behind a separator.
+/// The offset after a separator.
 #[inline(always)]
 fn past_separator(separator: Option<(Separator, usize)>) -> Option<usize>
     ensures { result ≡ past_separator separator }
@@ -101,7 +101,7 @@ impl Listed {
         }
     }
 
-    /// Behind a newline: a line without entries makes the next entry blank, if one stands before it.
+    /// After a newline: a line without entries makes the next entry blank, if one stands before it.
     fn next_line(&mut self)
         ensures { view_listed self.new ≡ next_line (view_listed self.old) }
     {
@@ -124,7 +124,7 @@ impl<'a, S: Source, const KEEP: u8> Cursor<'a, S, KEEP> {
     }
 
     /// One more entry of a line, if the token here begins one: a command, with what parts it from the next
-    /// one, and the comment behind it on its line. Answers whether another may follow.
+    /// one, and the comment after it on its line. Answers whether another may follow.
     #[cycle(commands)]
     #[inline(always)]
     #[tactic(auto, unfolding(shgrammar::specs::Lists::entry_turn, shgrammar::specs::Lists::one_entry, shgrammar::specs::Commands::an_entry, shgrammar::specs::Commands::an_and_or, shgrammar::specs::Commands::a_pipeline))]
@@ -175,7 +175,7 @@ impl<'a, S: Source, const KEEP: u8> Cursor<'a, S, KEEP> {
         Ok(())
     }
 
-    /// The comment of a line without entries, or behind its last separator, as an entry.
+    /// The comment of a line without entries, or after its last separator, as an entry.
     #[inline(always)]
     #[tactic(auto, unfolding(shgrammar::specs::Lists::a_remark))]
     fn own_comment(&mut self, listed: &mut Listed) -> Result<(), Stop>

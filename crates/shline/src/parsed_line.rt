@@ -58,7 +58,7 @@ pub fn line_at<'a, S: Source, const KEEP: u8>(
     ensures value { Gives (limits KEEP begin.origin (drop begin.at (S.bytes source.now))) view_told
         result (line_told how.edition (S.bytes source.now) (kept KEEP how.keep) begin.blank begin.at
         begin.origin) }
-    // No node of its entries names an offset behind it.
+    // No node of its entries names an offset past it.
     ensures spans { IfOk result (λ x. (limit : ℕ) → begin.origin + x.len ≤ limit → AreWithin limit
         (entries_of (map view_entry x.entries.items))) }
     ensures onward { IfOk result (λ x. Onward 0 x.len x.newline) }

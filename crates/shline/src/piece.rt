@@ -24,7 +24,8 @@ impl<'a, S: Source, const KEEP: u8> Cursor<'a, S, KEEP> {
         ensures two { (result ≡ Piece.Pid) ⊎ (result ≡ Piece.Subst) ⊎ (result ≡ Piece.Arith) ⊎
             (result ≡ Piece.Param) ⊎ (result ≡ Piece.DollarSingle) → IsRead (text_of self.now) (on
             self.now here + 1) }
-        ensures three { result ≡ Piece.Arith → IsRead (text_of self.now) (past_byte (text_of self.now)
+        ensures three { result ≡ Piece.Arith →
+            IsRead (text_of self.now) (past_byte (text_of self.now)
             (on self.now here + 1)) }
         ensures kinds { (result ≢ Piece.Closer) × (result ≢ Piece.Missing) × (result ≢ Piece.Escape)
             × (result ≢ Piece.Close) }
@@ -192,8 +193,8 @@ impl<'a, S: Source, const KEEP: u8> Cursor<'a, S, KEEP> {
         Ok(true)
     }
 
-    /// Text in which a backslash takes one byte, from behind its opener on, which stands at a place of the
-    /// text.
+    /// Text in which a backslash takes one byte, from just after its opener on, which stands at a place of
+    /// the text.
     #[tactic(auto, using(shgrammar::proofs::Turns::many_again, shgrammar::proofs::Turns::many_done, crate::proofs::Stops::many_stop))]
     fn escaped_text(&mut self, escaping: Escaping, opener: usize) -> Result<(), Stop>
         requires { opener ≤ here_of self.old }

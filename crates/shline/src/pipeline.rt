@@ -33,7 +33,7 @@ impl<'a, S: Source, const KEEP: u8> Cursor<'a, S, KEEP> {
         Some(span)
     }
 
-    /// One more command of a pipeline, behind a `|`. It stands apart to keep the
+    /// One more command of a pipeline, after a `|`. It stands apart to keep the
     /// frames of nested commands small.
     #[cycle(commands)]
     #[tactic(auto, unfolding(shgrammar::specs::Commands::one_command))]
@@ -69,7 +69,7 @@ impl<'a, S: Source, const KEEP: u8> Cursor<'a, S, KEEP> {
         Ok(true)
     }
 
-    /// The commands of a pipeline behind its first.
+    /// The commands of a pipeline after its first.
     #[cycle(commands)]
     #[inline(always)]
     #[tactic(auto, using(shgrammar::proofs::Turns::many_again, shgrammar::proofs::Turns::many_done, crate::proofs::Stops::many_stop))]

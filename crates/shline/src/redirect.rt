@@ -1,4 +1,4 @@
-//! Redirections (XCU 2.7): among the items of a simple command, and behind a compound command.
+//! Redirections (XCU 2.7): among the items of a simple command, and after a compound command.
 ghost use Rattle.std.specs.Prelude.{◌≡◌, ◌+◌, ◌<◌, ◌≤◌, [], IfOk, Some};
 ghost use Rattle.shline.specs.Clauses.{Adds, at_place, at_token, end_of, Finds, here_of, is_compound, Leads, Reads, start_of, Takes, text_of};
 ghost use Rattle.shgrammar.specs.Commands.{a_number, a_target, an_operator, is_long, one_redirect, redirect_operator_of, redirect_turn, so_many, with_redirect_list};
@@ -61,7 +61,7 @@ impl<'a, S: Source, const KEEP: u8> Cursor<'a, S, KEEP> {
         self.span_from(start)
     }
 
-    /// The word of a redirection, from behind its operator, and where it begins.
+    /// The word of a redirection, from just after its operator, and where it begins.
     #[cycle(commands)]
     #[tactic(auto, unfolding(shgrammar::specs::Commands::a_target, shgrammar::specs::Commands::next_token, crate::specs::InHand::InHand))]
     fn target(&mut self, room: usize) -> Result<(Word, usize), Stop>
@@ -81,7 +81,7 @@ impl<'a, S: Source, const KEEP: u8> Cursor<'a, S, KEEP> {
     }
 
     /// The redirection that begins here, as one more of these items, and the token
-    /// behind it, which stands in this position.
+    /// after it, which stands in this position.
     #[cycle(commands)]
     #[tactic(auto, unfolding(shgrammar::specs::Commands::one_redirect, shgrammar::specs::Commands::next_token), using(crate::proofs::Wanted::here_wants))]
     pub(crate) fn redirect(
@@ -112,7 +112,7 @@ impl<'a, S: Source, const KEEP: u8> Cursor<'a, S, KEEP> {
         Ok(())
     }
 
-    /// The redirections behind a compound command.
+    /// The redirections after a compound command.
     #[cycle(commands)]
     #[tactic(auto, unfolding(shgrammar::specs::Commands::redirect_turn), using(shgrammar::proofs::Turns::many_again, shgrammar::proofs::Turns::many_done, crate::proofs::Stops::many_stop))]
     fn redirects(&mut self, room: usize) -> Result<Vec<Item>, Stop>
@@ -128,7 +128,7 @@ impl<'a, S: Source, const KEEP: u8> Cursor<'a, S, KEEP> {
         Ok(redirects)
     }
 
-    /// A compound command with the redirections behind it.
+    /// A compound command with the redirections after it.
     #[cycle(commands)]
     #[tactic(auto, unfolding(shgrammar::specs::Commands::with_redirect_list), using(crate::proofs::Wanted::same_kind))]
     pub(crate) fn with_redirect_list(

@@ -31,7 +31,7 @@ const UN: u8 = 32;
 /// `th` and `wh`
 const TH: u8 = 64;
 
-/// `!`, `{` and `}`, with any byte behind them.
+/// `!`, `{` and `}`, with any byte after them.
 const ALONE: u8 = 128;
 
 // The kinds of a first byte.
@@ -88,7 +88,7 @@ const N: u8 = ALONE | IF | UN;
 /// `h`
 const H: u8 = ALONE | TH;
 
-/// A backslash: a word may go on behind it, past a continuation.
+/// A backslash: a word may go on after it, past a continuation.
 const K: u8 = 255;
 
 /// By a second byte, its kinds.

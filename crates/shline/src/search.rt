@@ -69,7 +69,7 @@ impl<'a, S: Source, const KEEP: u8> Cursor<'a, S, KEEP> {
         self.find_behind(sought, from)
     }
 
-    /// The same, where it may stand behind the front.
+    /// The same, where it may stand past the front.
     #[cold]
     fn find_behind(&self, sought: Sought, from: usize) -> usize
         requires { Inside self.now from }

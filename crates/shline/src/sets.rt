@@ -63,7 +63,7 @@ fn rarer_front(run: &[u8], mode: Mode) -> usize
 }
 
 /// How many bytes at the front are ordinary in a mode. Most bytes stand outside all quotes or
-/// in double quotes; many words begin with a quote or a `$`, and many end behind their first
+/// in double quotes; many words begin with a quote or a `$`, and many end after their first
 /// byte. Those are told at less cost than a row of bytes is.
 #[inline(always)]
 pub(crate) fn plain_front(run: &[u8], mode: Mode) -> usize

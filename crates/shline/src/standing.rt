@@ -36,7 +36,7 @@ impl<'a, S: Source, const KEEP: u8> Cursor<'a, S, KEEP> {
         self.byte_behind(at)
     }
 
-    /// The same, where it stands behind the front.
+    /// The same, where it stands past the front.
     #[cold]
     #[tactic(auto, using(shgrammar::proofs::Stretches::get_drop))]
     fn byte_behind(&self, at: usize) -> Option<u8>
@@ -123,7 +123,7 @@ impl<'a, S: Source, const KEEP: u8> Cursor<'a, S, KEEP> {
         }
     }
 
-    /// The place behind the bytes of this class that stand from a place on, and the byte there, or `None` at
+    /// The place after the bytes of this class that stand from a place on, and the byte there, or `None` at
     /// the end. Most often there are none or one: a test for each is foretold better than a loop.
     #[inline(always)]
     #[tactic(auto, unfolding(shgrammar::specs::Standing::raw_in), using(shgrammar::proofs::Stretches::raw_none, crate::proofs::Passed::raw_one_on, crate::proofs::Passed::raw_two_on))]
@@ -144,7 +144,7 @@ impl<'a, S: Source, const KEEP: u8> Cursor<'a, S, KEEP> {
         (end, self.raw_byte(end))
     }
 
-    /// The place behind them alone.
+    /// The place after them alone.
     #[inline(always)]
     pub(crate) fn raw_past(&self, from: usize, class: Class) -> usize
         requires { Inside self.now from }

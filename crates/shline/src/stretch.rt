@@ -1,5 +1,5 @@
 //! The stretch of the source in which the reading stands, and how it moves on: where a token begins, where a
-//! line of a here-document's body does, and behind a piece of a word. Who finds no byte left in it calls a
+//! line of a here-document's body does, and after a piece of a word. Who finds no byte left in it calls a
 //! cold function of its own that goes on and does the whole, so that the test is the one which the next read
 //! makes anyway.
 ghost use Rattle.std.specs.Prelude.{◌≡◌, ◌+◌, ◌≤◌};

@@ -69,7 +69,7 @@ impl<'a, S: Source, const KEEP: u8> Cursor<'a, S, KEEP> {
         Ok(())
     }
 
-    /// The substitution whose `$` stands at a place of the text, from behind its `(` on, as one
+    /// The substitution whose `$` stands at a place of the text, from just after its `(` on, as one
     /// more of these, if a tree is grown of what stands in it.
     #[cycle(commands)]
     #[inline(always)]

@@ -75,7 +75,7 @@ impl<'a, S: Source, const KEEP: u8> Cursor<'a, S, KEEP> {
         self.stands(end, b'<') || self.stands(end, b'>')
     }
 
-    /// The operator of a redirection that begins with `<`; what stands behind that is at a place.
+    /// The operator of a redirection that begins with `<`; what stands after that is at a place.
     #[tactic(auto, unfolding(shgrammar::specs::Tokens::less_at))]
     fn less(&self, at: usize) -> RedirectOperator
         requires { Inside self.now at }
@@ -134,7 +134,7 @@ impl<'a, S: Source, const KEEP: u8> Cursor<'a, S, KEEP> {
         }
     }
 
-    /// What begins with a `;`; what stands behind that is at a place.
+    /// What begins with a `;`; what stands after that is at a place.
     #[inline(always)]
     #[tactic(auto, unfolding(shgrammar::specs::Bytes::stands))]
     fn semicolon_token(&self, at: usize) -> Token

@@ -35,7 +35,7 @@ impl<'a, S: Source, const KEEP: u8> Cursor<'a, S, KEEP> {
         }
     }
 
-    /// A construct, from behind its opener to behind its closer. Most often it holds
+    /// A construct, from just after its opener to just past its closer. Most often it holds
     /// plain bytes alone, and in double quotes a `$` before a name, which is ordinary:
     /// what takes every piece is called for the others.
     #[cycle(commands)]

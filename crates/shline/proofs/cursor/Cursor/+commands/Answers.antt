@@ -101,7 +101,7 @@ one_substitution-returns-in-Ok g t c =
       search rules,
     )
 
--- an ordinary byte of a string, and the plain ones behind it
+-- an ordinary byte of a string, and the plain ones after it
 pub construct-ordinary-preserved : goal.construct-ordinary-preserved
 construct-ordinary-preserved g t c =
     let start = c.args.self.now in

@@ -8,7 +8,7 @@ use Rattle.shline.specs.InHand.{InHand}
 use Rattle.shline.specs.Clauses.{here_of, on, text_of}
 use Rattle.shline.proofs.cursor.Cursor.next_token_joined.Goals as goal
 
--- a continuation ends the first blanks: the token stands behind what follows it
+-- a continuation ends the first blanks: the token stands after what follows it
 joined : (T : List ℕ) (p e : ℕ) → e ≡ raw_past is_blank T p → continues T e ≡ true
     → (past_blanks T e ≡ past_blanks T p) × (is_broken_at T p ≡ true)
 unfolding is_broken_at past_blanks
