@@ -101,7 +101,7 @@ all_sums edition bytes (e ∷ es) =
 -- ---- answers
 
 module _ (before after : Held) (es : Row Tried) (is : IsAfter before es after) where
-  -- what is so of the bytes from scratch is so behind the edits
+  -- what is so of the bytes from scratch is so after the edits
   here : (P : How → List ℕ → Type 0) → P before.how (bytes_after before.bytes es) → P after.how after.bytes
   here P p = subst (λ (h : How). P h after.bytes) (sym (all_how before after es is))
       (subst (P before.how) (sym (all_bytes before after es is)) p)

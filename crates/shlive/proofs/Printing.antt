@@ -63,7 +63,7 @@ entry_ends y (entry what background blank comment) =
     let here = text [] ∷ print_content y [] what ++ print_background background ++ print_own_comment comment in
     (print_blank blank ++ here, sym (append_assoc (print_blank blank) here (line_end ∷ [])))
 
--- so nothing waits behind entries
+-- so nothing waits after entries
 held_none : (y : Layout) (es : Shape EntriesOf) → held_behind [] (print_entries y [] es) ≡ []
 unfolding held_behind
 held_none y no_entry = refl

@@ -1,4 +1,4 @@
--- What stands behind the value of a row of bytes that wait.
+-- What a row of bytes that wait stands for.
 use Rattle.std.specs.Prelude.{◌-◌, ◌≤◌, take, drop}
 use Rattle.shlive.specs.Waiting.{Waiting}
 use Rattle.shlive.specs.declared.incoming.Incoming.TheInside.{Inside}

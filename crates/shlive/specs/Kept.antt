@@ -1,4 +1,4 @@
--- What stands behind the value of a session.
+-- What the value of a session stands for.
 use Rattle.std.specs.Prelude.{◌≤◌, length}
 use Rattle.shtext.specs.Buffer.{buffer_bytes}
 use Rattle.shread.specs.Answers.{edition_of}

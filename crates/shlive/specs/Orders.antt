@@ -26,7 +26,7 @@ words (b ∷ bs) = if b == 32 then [] ∷ words bs else before (b ∷ []) (words
 abbrev pub is_digit : ℕ → Bool
 is_digit b = nat_le 48 b && nat_le b 57
 
--- the number that digits spell behind those of n
+-- the number that digits spell after those of n
 abbrev pub digits_from : ℕ → List ℕ → Option ℕ
 digits_from n [] = Some n
 digits_from n (d ∷ ds) = if is_digit d then digits_from (10 * n + (d - 48)) ds else None

@@ -28,7 +28,7 @@ abbrev pub request_by : Result (Unit {0}) Flaw → Row ASplice → Request
 request_by (Ok whole) ss = edit ss
 request_by (Err flaw) ss = flawed flaw
 
--- how what follows the newline behind a splice's bytes is understood
+-- how what follows the newline after a splice's bytes is understood
 abbrev pub after_bytes : Result (Unit {0}) Flaw → Sense → Sense
 after_bytes (Ok whole) next = next
 after_bytes (Err flaw) next = asks (flawed flaw)

@@ -16,7 +16,7 @@ pub record IsOnPage (y : Layout) (bytes : List ℕ) (so : Walk) (page : Page) : 
   pub margin : page.margin.items ≡ []
   pub is : sheet page ≡ written (sheet_of [] []) (print_entries y [] (shape_of bytes so.entries))
 
--- The line at a base was printed, with a gap before it and one behind it, or with none: where
+-- The line at a base was printed, with a gap before it and one after it, or with none: where
 -- the lines before it were on the page, those up to it are.
 abbrev pub PrintsLine : Edition → Layout → List ℕ → ℕ → HeldLine AKind → Bool → Bool → Page → Page → Type 0
 PrintsLine edition y bytes base line gap gap_behind before after =

@@ -41,7 +41,7 @@ kind_text nodes.Function = codes "function"
 kind_text nodes.Pipeline = codes "pipeline"
 kind_text nodes.AndOr = codes "andor"
 
--- a name without its continuations, behind a blank
+-- a name without its continuations, after a blank
 abbrev pub name_text : List ℕ → Option Span → List ℕ
 name_text bytes None = []
 name_text bytes (Some span) = codes " " ++ bare_at bytes span

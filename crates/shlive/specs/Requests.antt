@@ -89,7 +89,7 @@ abbrev pub part_by_line : (ASplice → Sense) → Lined → Next
 part_by_line next None = unfinished
 part_by_line next (Some (line, rest)) = next_by_part (part_of_line line) next rest
 
--- so many parts behind those of these splices: the first flaw ends the request
+-- so many parts after those of these splices: the first flaw ends the request
 abbrev pub more_parts : ℕ → Row ASplice → Sense
 more_parts zero ss rest = asks (edit ss) rest
 more_parts (suc n) ss rest = part_by_line (λ s. more_parts n (ss ++ s ∷ [])) (first_line rest)
@@ -139,7 +139,7 @@ pub data Begins (input : List ℕ) : List Request → List ℕ → Type 0 where
       → Begins input requests mid → next_request_of mid ≡ asks request rest →
       Begins input (requests ++ request ∷ []) rest
 
--- how an input ends behind its requests
+-- how an input ends after its requests
 pub data Ending : Type 0 where
   clean : Ending
   cut : Ending
@@ -151,6 +151,6 @@ EndsBy unfinished cut = Unit {0}
 EndsBy leaves left = Unit {0}
 EndsBy _ _ = ⊥
 
--- the requests of an input, and how it ends behind them
+-- the requests of an input, and how it ends after them
 abbrev pub Requests : List ℕ → List Request → Ending → Type 0
 Requests input requests ending = (rest : List ℕ) × Begins input requests rest × EndsBy (next_request_of rest) ending

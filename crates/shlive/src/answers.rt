@@ -127,7 +127,7 @@ pub(crate) fn text_of_lines(
 }
 
 /// Prints a line that begins at an offset, where there is a gap before it or none.
-/// Answers whether there is one behind it.
+/// Answers whether there is one after it.
 fn print_line(
     printer: &Printer<Buffer>,
     line: &HeldLine<TopLine>,

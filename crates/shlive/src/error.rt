@@ -11,7 +11,7 @@ use thiserror::Error;
 /// range, order, size, memory.
 #[derive(Clone, Copy, Debug, PartialEq, Eq, Error)]
 pub enum LiveError {
-    /// A splice begins behind its end, or ends behind the script.
+    /// A splice begins after its end, or ends past the end of the script.
     #[error("out of range")]
     Range = 1,
     /// The script would have more bytes than a script may have.

@@ -60,7 +60,7 @@ fn number_of(word: &[u8]) -> Option<usize>
     Some(value)
 }
 
-/// The first word of a line, and what follows the blank behind it, where there is one.
+/// The first word of a line, and what follows the blank after it, where there is one.
 fn cut_word(line: &[u8]) -> (&[u8], Option<&[u8]>)
     ensures { MatchOption result.1 (words line.now ≡ result.0.now ∷ [])
         (λ rest. words line.now ≡ result.0.now ∷ words rest.now) }
@@ -135,7 +135,7 @@ fn batch_of(count: usize) -> Option<Order>
     }
 }
 
-/// What a line asks for that has words behind its name.
+/// What a line asks for that has words after its name.
 fn order_by_name(name: &[u8], rest: &[u8]) -> Option<Order>
     ensures is { result ≡ order_by_name name.now (words rest.now) }
     ensures parts { IfSome result HasParts }

@@ -79,7 +79,7 @@ impl Parts {
         }
     }
 
-    /// Keeps a splice whose bytes came, where they were kept, behind the others, where those are.
+    /// Keeps a splice whose bytes came, where they were kept, after the others, where those are.
     fn keep(&mut self, part: Part, payload: Option<Vec<u8>>)
         ensures kept { (ss : Row ASplice) (bytes : List ℕ) →
             AreSplices (option_map (λ v. v.items) self.old.kept) ss →
@@ -92,7 +92,7 @@ impl Parts {
     }
 }
 
-/// Splices and one more behind them, where all are kept.
+/// Splices and one more after them, where all are kept.
 fn with_one(
     kept: Option<Vec<KeptSplice>>,
     part: Part,
@@ -116,7 +116,7 @@ fn with_one(
     }
 }
 
-/// Takes the bytes of a splice and the newline behind them, and keeps the splice behind the others.
+/// Takes the bytes of a splice and the newline after them, and keeps the splice after the others.
 fn take_bytes<R: Read>(
     alloc: Global,
     incoming: &mut Incoming,

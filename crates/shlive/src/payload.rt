@@ -12,7 +12,7 @@ use std::io::Read;
 /// Bytes that came, unless they are not kept: they were not to be, or there was no memory.
 type Kept = Option<Vec<u8>>;
 
-/// Keeps a piece behind what is kept.
+/// Keeps a piece after what is kept.
 fn keep_more(kept: Kept, piece: &[u8]) -> Kept
     ensures { (bytes : List ℕ) → AreKept (option_map (λ v. v.items) kept) bytes →
         AreKept (option_map (λ v. v.items) result) (bytes ++ piece.now) }

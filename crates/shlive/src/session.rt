@@ -78,13 +78,14 @@ impl Session {
     /// splice alone.
     pub fn edit(&mut self, a: usize, b: usize, bytes: &[u8]) -> Result<(), LiveError>
         ensures made { OnOk result (IsMade self.old (one_splice a b bytes.now) self.new) }
-        ensures refused { IfErr result (λ e. IsNotMade self.old (one_splice a b bytes.now) e self.new) }
+        ensures refused { IfErr result
+            (λ e. IsNotMade self.old (one_splice a b bytes.now) e self.new) }
     {
         self.edit_all(&[Splice { a, b, bytes }])
     }
 
     /// Makes these splices, all or none, and reads the window of this edit; there is at least one. Their
-    /// offsets are those of the script as it is, and they rise: each begins at or behind the end of the one
+    /// offsets are those of the script as it is, and they rise: each begins at or after the end of the one
     /// before. An edit that is refused changes no answer; for want of memory it has read no more than the
     /// window.
     pub fn edit_all(&mut self, splices: &[Splice<'_>]) -> Result<(), LiveError>

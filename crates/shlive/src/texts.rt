@@ -12,7 +12,7 @@ use std::alloc::{AllocError, Global};
 const KIND: usize = 8;
 
 /// The longest line of a node up to its name: the end of the line before, two numbers
-/// of 20 digits with a blank behind each, and a kind.
+/// of 20 digits with a blank after each, and a kind.
 const LINE: usize = 43 + KIND;
 
 /// What a reply calls a kind of node, at the end of as many bytes for each, and how
