@@ -176,7 +176,7 @@ fn blanks(rt: HostRuntime) -> Result<(), Fail> {
     judge(&rt, rt.alloc(), Edition::Y2017, &layout, table)
 }
 
-/// The scripts of a table, one behind the other, with a newline behind each.
+/// The scripts of a table, one after the other, with a newline after each.
 fn all_scripts(alloc: Global, table: &[u8]) -> Result<Vec<u8>, Fail> {
     let mut text = Vec::new(alloc);
     for row in &rows(alloc, table)? {
@@ -189,7 +189,7 @@ fn all_scripts(alloc: Global, table: &[u8]) -> Result<Vec<u8>, Fail> {
     Ok(text)
 }
 
-/// A script over a buffer is printed as in one piece, wherever the chunks end: behind random edits, which are
+/// A script over a buffer is printed as in one piece, wherever the chunks end: after random edits, which are
 /// taken back where they bring a fault.
 #[test]
 fn over_a_buffer(rt: HostRuntime) -> Result<(), Fail> {
@@ -217,7 +217,7 @@ fn over_a_buffer(rt: HostRuntime) -> Result<(), Fail> {
     Ok(())
 }
 
-/// The `{` of a function on a line of its own; other bodies, and those behind comments, stand as without the
+/// The `{` of a function on a line of its own; other bodies, and those after comments, stand as without the
 /// option.
 const FUNCTIONS: &[u8] = br###"
 ("f() { a;}", "f()\n{\n\ta\n}\n") ("{ f()\n{ a;};}", "{\n\tf()\n\t{\n\t\ta\n\t}\n}\n")

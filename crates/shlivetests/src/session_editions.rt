@@ -53,7 +53,7 @@ fn answered(rt: HostRuntime) -> Result<(), Fail> {
     Ok(())
 }
 
-/// An item goes up to behind its `;&`.
+/// An item goes up to just past its `;&`.
 #[test]
 fn outlined(rt: HostRuntime) -> Result<(), Fail> {
     let session = opened(rt.alloc(), Edition::Y2024, SCRIPT)?;

@@ -228,7 +228,7 @@ fn written<R: Read + Drop>(
 }
 
 /// Refuses each growth of a request in turn: its reply is as with ample memory, or `no memory`, and then the
-/// script is as before. The request behind it needs none.
+/// script is as before. The request after it needs none.
 fn replied_in_turn(
     rt: &impl Abort,
     alloc: Global,
@@ -361,7 +361,7 @@ fn open_without_bytes(rt: HostRuntime) -> Result<(), Fail> {
     Ok(())
 }
 
-/// A payload that goes on behind its bytes is told before the memory that they did not get.
+/// A payload that goes on after its bytes is told before the memory that they did not get.
 #[test]
 fn spoiled_payload(rt: HostRuntime) -> Result<(), Fail> {
     let alloc = rt.alloc();

@@ -30,7 +30,7 @@ pub(crate) fn make(session: &mut Session, splices: &[Splice<'_>]) -> Result<(), 
 }
 
 /// A page that takes five bytes at a time, and fails once where it is full. Whatever
-/// comes behind a failure it takes.
+/// comes after a failure it takes.
 pub(crate) fn page_of(room: usize) -> Page {
     let mut page = Page::new(room, 5);
     page.is_emptied = true;
@@ -269,7 +269,7 @@ fn chunk_ends(rt: HostRuntime) -> Result<(), Fail> {
     Ok(())
 }
 
-/// How much of `MENDED_REPLIES` is written where the input ends behind so many bytes
+/// How much of `MENDED_REPLIES` is written where the input ends after so many bytes
 /// of `MENDED`, and the status.
 fn cut_replies(len: usize) -> (usize, u8) {
     match len {

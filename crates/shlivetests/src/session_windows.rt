@@ -324,7 +324,7 @@ fn random_batches(rt: HostRuntime) -> Result<(), Fail> {
     Ok(())
 }
 
-/// The script behind so many newlines that its first chunk ends somewhere in it.
+/// The script after so many newlines that its first chunk ends somewhere in it.
 fn behind_newlines(alloc: Global, dice: &mut Dice) -> Result<Vec<u8>, Fail> {
     let count = 4_096_usize.saturating_sub(dice.below(SCRIPT.len()));
     let mut bytes = vec![in alloc; b'\n'; count]?;

@@ -47,7 +47,7 @@ pub(crate) fn window(alloc: Global, bytes: &[u8], splices: &[Splice<'_>]) -> Res
     };
     let made = spliced_all(alloc, bytes, splices)?;
     let old = boundaries(alloc, bytes)?;
-    // What stands behind the last splice stays.
+    // What stands after the last splice stays.
     let stays = bytes.len().saturating_sub(last.b);
     let behind = made.len().saturating_sub(stays);
     let end = end(&old, &boundaries(alloc, &made)?, behind, last.b).unwrap_or(made.len());
