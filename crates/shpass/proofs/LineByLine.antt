@@ -94,7 +94,7 @@ told_in reads B other edition by r same is told =
 
 -- ---- what a line leads on to
 
--- What the lines behind a line with these entries give is what they give with it. Where no newline ended it,
+-- What the lines after a line with these entries give is what they give with it. Where no newline ended it,
 -- it is the script's last.
 abbrev pub LeadsOn : Edition → Row ℕ → SoFar → ℕ → Row AnEntry → Bool → ℕ → Type 0
 LeadsOn edition B so p es true q = (s : AScript) → Rest edition B (with_line so es) q s → Rest edition B so p s
@@ -127,7 +127,7 @@ fault_told e f bound x is told = (subst (λ z. Fails bound z x) is told).0
 
 -- ---- all lines
 
--- what entries of the code, and whether a line without entries is behind them, are
+-- what entries of the code, and whether a line without entries is after them, are
 abbrev pub so_far : Row Entry → Bool → SoFar
 so_far xs gap = record { entries = map view_entry xs; gap = gap }
 

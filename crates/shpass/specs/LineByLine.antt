@@ -20,7 +20,7 @@ use Rattle.shgrammar.specs.Search.{StopsAt}
 use Rattle.shgrammar.specs.Sights.{State, given, standing}
 use Rattle.shgrammar.specs.Standing.{raw_stands}
 
--- what the grammar reads of the line at p, behind lines that gave this
+-- what the grammar reads of the line at p, after lines that gave this
 abbrev pub LineReads : Edition → List ℕ → SoFar → ℕ → Read (Row AnEntry × Bool) → Type 0
 LineReads edition B so p x = (k : Row Spelled)
     × may (the_line (is_blank_line so)) (given edition (drop p B) p) (standing 0) x k
@@ -50,7 +50,7 @@ Rest edition B so p s = (k : Row Spelled) × Lines edition B so p s k
 abbrev pub no_lines : LinesBefore
 no_lines = record { gap = false; begun = false }
 
--- whether the first entry behind them is blank
+-- whether the first entry after them is blank
 abbrev pub is_blank_behind : LinesBefore → Bool
 is_blank_behind before = before.gap && before.begun
 
@@ -87,20 +87,20 @@ module _ {S : Type 0} where
   abbrev pub SameScript : ScriptLines S → ScriptLines S → Type 0
   SameScript old new = (new.source ≡ old.source) × (new.edition ≡ old.edition) × (new.alloc ≡ old.alloc)
 
-  -- The reading goes behind a line that was told, and what the lines gave has its entries too.
+  -- The reading goes to just past a line that was told, and what the lines gave has its entries too.
   abbrev pub Behind : ScriptLines S → ParsedLine → ScriptLines S → Type 0
   Behind old told new =
       SameScript old new × (new.at ≡ old.at + told.len)
       × ((so : SoFar) → Stands old so → Stands new (with_line so (map view_entry told.entries.items)))
 
-  -- It goes behind the line at its place: further on where a newline ended it, and never past the end. At a
+  -- It goes past the line at its place: further on where a newline ended it, and never past the end. At a
   -- fault nothing moves, nor where memory ran out.
   abbrev pub MovesOn : (S → List ℕ) → ScriptLines S → Result ParsedLine Stop → ScriptLines S → Type 0
   MovesOn bytes old (Ok told) new =
       Behind old told new × Onward old.at new.at told.newline × (new.at ≤ length (bytes_of bytes old))
   MovesOn bytes old (Err e) new = new ≡ old
 
-  -- A line with these entries, but for the trees in command substitutions, behind lines that gave this, from
+  -- A line with these entries, but for the trees in command substitutions, after lines that gave this, from
   -- `old` to `new`. A newline ended it and is its last byte.
   abbrev pub IsWholeLine : List ℕ → SoFar → ScriptLines S → Vec Entry Global → ScriptLines S → Type 0
   IsWholeLine B so old es new =
@@ -108,7 +108,7 @@ module _ {S : Type 0} where
       × OuterReads old.edition B so old.at (Ok ((map view_entry es.items, true), t)) × (0 < t.at)
       × (raw_stands (drop old.at B) (t.at - 1) 10 ≡ true) × Stands new (with_line so (map view_entry es.items))
 
-  -- It goes behind such a line. Where there is none nothing moves, nor where memory ran out.
+  -- It goes past such a line. Where there is none nothing moves, nor where memory ran out.
   abbrev pub PassesWhole : {E : Type 0} → (S → List ℕ) → ScriptLines S → Result (Option (Vec Entry Global)) E →
       ScriptLines S → Type 0
   PassesWhole bytes old (Ok (Some es)) new =

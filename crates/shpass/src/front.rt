@@ -10,7 +10,7 @@ use shtext::Source;
 use std::alloc::{AllocError, Global};
 use std::mem;
 
-/// The place behind the line that begins at an offset, if it has no fault and a
+/// The place after the line that begins at an offset, if it has no fault and a
 /// newline ended it that is its last byte.
 #[tactic(auto, using(shline::proofs::Wanted::seen_behind))]
 fn behind_line<S: Source>(
@@ -52,7 +52,7 @@ fn behind_line<S: Source>(
 /// newline that is its last byte.
 ///
 /// The source may be the front of a script. Whatever follows these lines there, the first fault of the script
-/// is that behind them. So who looks for it alone need not hold them.
+/// is that after them. So who looks for it alone need not hold them.
 pub fn faultless_front<S: Source>(
     alloc: Global,
     edition: Edition,

@@ -91,7 +91,7 @@ impl<'a, S: Source> ScriptLines<'a, S> {
         self.before
     }
 
-    /// Moves behind a line that was told.
+    /// Moves to just past a line that was told.
     fn pass(&mut self, told: &ParsedLine)
         requires { place_of self.old + told.now.len < 2 ^ 64 }
         ensures { Behind self.old told.now self.new }
