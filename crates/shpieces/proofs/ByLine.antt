@@ -55,7 +55,7 @@ module _ (y : Layout) (bytes : List ℕ) where
   abbrev pub sheet_with : List AnEntry → Sheet
   sheet_with es = written (sheet_of [] []) (print_entries y [] (shape_of bytes (entries_of es)))
 
-  -- a line behind the text so far
+  -- a line after the text so far
   line_behind : (before line : List AnEntry) (s : Sheet) → s ≡ sheet_with before
       → written s (print_entries y [] (shape_of bytes (entries_of line))) ≡ sheet_with (before ++ line)
   line_behind before line s is =
@@ -94,7 +94,7 @@ module _ (edition : Edition) (y : Layout) (H S : List ℕ) (q n : ℕ) (so : SoF
       ∙ line_behind y S so.entries here text text_is
 
 module _ (edition : Edition) (y : Layout) (H S : List ℕ) (q n : ℕ) (so : SoFar) (es : List AnEntry) (t : State) where
-  -- what is read behind a line is read with it
+  -- what is read after a line is read with it
   rest_more : There edition H S q n (is_blank_line so) true es t → (s : AScript) (p : ℕ) → p ≡ n + t.at →
       Rest edition S (with_line so (blanked_row (is_blank_line so) (map (moved_entry n) es))) p s →
       Rest edition S so n s
@@ -128,7 +128,7 @@ outer_printed y H q blank line es text then outer is =
 
 -- ---- lines at the front of what follows
 
--- the line at q of H is whole, and its first bytes are taken behind P: whatever
+-- the line at q of H is whole, and its first bytes are taken after P: whatever
 -- follows them, it is read there
 whole_there : (edition : Edition) (H P more : List ℕ) (q : ℕ) (blank : Bool) (es : List AnEntry) (t : State) →
     Rattle.shgrammar.specs.Scripts.line_told edition H Whole false q 0 ≡ Ok ((es, true), t) → 0 < t.at →

@@ -23,7 +23,7 @@ IsNoText edition bytes (Faulty fault) = FirstFault edition bytes (Some fault) ×
 IsNoText edition bytes Memory = Unit {0}
 
 -- The front of a script is lines without a fault, which leave this for the next one to know, and this is
--- printed for them. Whatever follows it, the script is that of these lines and of what is read behind them.
+-- printed for them. Whatever follows it, the script is that of these lines and of what is read after them.
 pub record ArePrinted (edition : Edition) (y : Layout) (front : List ℕ) (left : LinesBefore)
     (so_far : Sheet) : Type 0 where
   pub so : SoFar

@@ -44,7 +44,7 @@ impl From<AllocError> for PrintError {
     }
 }
 
-/// Drops a line that was printed, and keeps its room if another one follows: behind the last line nothing
+/// Drops a line that was printed, and keeps its room if another one follows: after the last line nothing
 /// wants it.
 fn give_back_if(follows: bool, entries: Vec<Entry>, spare: &mut Spare) {
     if follows {
@@ -80,7 +80,7 @@ impl Printing {
     }
 
     /// Prints the lines at the front of what follows that have no fault, each ended by a
-    /// newline that is its last byte, and answers how many bytes they are. What stands behind
+    /// newline that is its last byte, and answers how many bytes they are. What stands after
     /// these may be no more than the front of what follows them.
     ///
     /// # Errors
