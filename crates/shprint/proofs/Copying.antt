@@ -106,7 +106,7 @@ bare_joined B at «end» one two lt =
     ap bare (taken B at «end» 92 one (omega (arith, lt)) ∙ ap (λ X. 92 ∷ X) (taken B (at + 1) «end» 10 two lt))
     ∙ bare_pair _ ∙ rw both refl
 
--- ---- a word behind `<<`
+-- ---- a word after `<<`
 
 module _ (B : List ℕ) (s : Span) (some : s.start < s.«end») where
   strip_by : (o : Option ℕ) → slice_get B s.start ≡ o →

@@ -120,7 +120,7 @@ byte_of : (x : Option ℕ) → passes is_digit x ≡ true → (c : ℕ) × (x �
 byte_of None e = absurd cc
 byte_of (Some c) e = (c, refl, e)
 
--- the same stretch from behind a continuation
+-- the same stretch from just after a continuation
 past_pair : (T : List ℕ) (p : ℕ) → continues T p ≡ true → stands_in is_digit T p ≡ true →
     (stands_in is_digit T (p + 2) ≡ true) × (past is_digit T p ≡ past is_digit T (p + 2))
 unfolding stands_in past_byte

@@ -130,7 +130,7 @@ module _ (g : Given) where
           (feeds_more done x bs (span g.offset p e) feeds body) is in
           subst (λ xs. Feeds xs cs []) (append_assoc done (x ∷ []) due) more
 
-  -- behind a newline token all have their bodies
+  -- after a newline token all have their bodies
   pub docs_read : {D : Row Due} (s t : State) → DocsAt D s → with_bodies g s ≡ Ok t → Feeds D t.bodies []
       × (t.waiting ≡ [])
   docs_read {D = D} s t docs is = by_bodies (bodies_from g s.waiting s.bodies s.at) refl is
@@ -147,8 +147,8 @@ module _ (g : Given) where
 
   -- ---- parts of a list
 
-  -- x stands behind the documents D, and with its own they are E. Whatever the bodies of E are, x
-  -- takes its own behind those of D, and is good with them.
+  -- x stands after the documents D, and with its own they are E. Whatever the bodies of E are, x
+  -- takes its own after those of D, and is good with them.
   pub record Opens {X : Type 0} (fill : X → Row Span → X × Row Span) (Good : X → Type 0) (D : Row Due) (x : X)
       (E : Row Due) : Type 0 where
     pub fills : (ts us : Row Span) → Feeds E ts us → (vs : Row Span) × Feeds D ts vs × Good (fill x vs).0

@@ -28,7 +28,7 @@ abbrev pub GoodOwnComment : Option Text → Type 0
 GoodOwnComment None = Unit {0}
 GoodOwnComment (Some c) = CommentAnywhere c
 
--- what a word is, by the position behind it
+-- what a word is, by the position after it
 abbrev pub as_shape : Position → Shape AWordOf → Shape AnItemContentOf
 as_shape Prefix w = assign w
 as_shape _ w = argument w
@@ -71,7 +71,7 @@ abbrev pub a_redirect_of : Bool → Option Text → RedirectOperator → Text �
     Shape AnItemOf
 a_redirect_of broken number o t ss h = item broken (redirect number o tt (word t ss) h)
 
--- what items are: those of a simple command, the words of a for, the redirections behind a compound command
+-- what items are: those of a simple command, the words of a for, the redirections after a compound command
 pub data Kind : Type 0 where
   of_command : Kind
   of_for : Kind
@@ -113,7 +113,7 @@ pub record GoodWords (edition : Edition) (room : ℕ) (is : Shape ItemsOf) : Typ
   pub last : Position
   pub items : GoodItems edition room of_for Suffix is last
 
--- the redirections behind a compound command
+-- the redirections after a compound command
 pub record GoodRedirects (edition : Edition) (room : ℕ) (is : Shape ItemsOf) : Type 0 where
   pub last : Position
   pub items : GoodItems edition room of_compound Command is last
@@ -133,7 +133,7 @@ pub record GoodWord (edition : Edition) (room : ℕ) (position : Position) (begi
   pub word_is : is_a_word token ≡ true
   pub reads : ItemAnywhere edition room position token t ss
 
--- the patterns behind the first one
+-- the patterns after the first one
 abbrev pub GoodMorePatterns : Edition → ℕ → Shape PatternsOf → Type 0
 GoodMorePatterns edition room no_pattern = Unit {0}
 GoodMorePatterns edition room (more_patterns w ws) = GoodWord edition room Suffix begins_word w

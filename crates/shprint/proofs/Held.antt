@@ -71,7 +71,7 @@ with_document h x = held_so (h.waiting ++ x ∷ []) h.bodies
 abbrev pub state : Held → ℕ → State
 state h p = record { at = p; waiting = map as_waiting h.waiting; bodies = h.bodies }
 
--- the text of some marks, behind which this waits
+-- the text of some marks, after which this waits
 abbrev pub lay : Held → Marks → Text
 lay h ms = laid_behind (held_bytes h.waiting) ms
 
@@ -151,7 +151,7 @@ module _ (edition : Edition) (B T : List ℕ) (o : ℕ) (here : drop o B ≡ T) 
   abbrev pub StandsAt : Held → ℕ → Marks → Type 0
   StandsAt h p ms = drop p T ≡ lay h ms
 
-  -- a newline token at p, and the bodies behind it
+  -- a newline token at p, and the bodies after it
   pub record Emptied (h : Held) (p : ℕ) (ms : Marks) : Type 0 where
     pub later : Held
     pub q : ℕ

@@ -67,7 +67,7 @@ pub laid_text : (h : Held) (t : Text) (ms : Marks) → lay h (text t ∷ ms) ≡
 unfolding laid_behind
 laid_text h t ms = refl
 
--- what stands behind the newline that ends a line
+-- what stands after the newline that ends a line
 abbrev pub after_line : Held → Marks → Text
 after_line h ms = held_bytes h.waiting ++ laid_behind [] ms
 
@@ -79,7 +79,7 @@ laid_line h ms = refl
 abbrev Alike : Marks → Marks → Type 0
 Alike a b = (held : Text) → laid_behind held a ≡ laid_behind held b
 
--- so are they behind others
+-- so are they after others
 laid_same : (ms a b : Marks) → Alike a b → Alike (ms ++ a) (ms ++ b)
 unfolding laid_behind
 laid_same [] a b e held = e held
@@ -193,7 +193,7 @@ module _ (edition : Edition) (B T : List ℕ) (o : ℕ) (here : drop o B ≡ T) 
   abbrev pub At : Held → ℕ → Marks → Type 0
   At h p ms = drop p T ≡ lay h ms
 
-  -- the bodies of all documents behind a row, read or not, are those before it, and then these
+  -- the bodies of all documents after a row, read or not, are those before it, and then these
   abbrev pub Adds : Held → Held → (Row Text → Row Text) → Type 0
   Adds h later more = (ts : Row Text) →
       texts_of edition B T o here later ++ ts ≡ texts_of edition B T o here h ++ more ts
@@ -213,7 +213,7 @@ module _ (edition : Edition) (B T : List ℕ) (o : ℕ) (here : drop o B ≡ T) 
   pub some_here : (p c : ℕ) (xs : List ℕ) → drop p T ≡ c ∷ xs → p < length T
   some_here p c xs at = let e = ap length at in omega (arith, e, length-drop p T)
 
-  -- a row that leads on, whatever waits before it and behind it
+  -- a row that leads on, whatever waits before it and after it
   pub leads : (h later : Held) (p q : ℕ) → p < q → p < length T → leads_on g (state h p) (state later q) ≡ true
   leads h later p q on within = lt-ltb _ _ (omega (arith, on, within))
 
@@ -240,7 +240,7 @@ module _ (edition : Edition) (B T : List ℕ) (o : ℕ) (here : drop o B ≡ T) 
   unfolding next_token
   next_read h position e = seen_here (the_token position) ⟫ moved_here blanks ⟫ given_here
 
-  -- A token that begins no item stands behind e, whatever was asked for.
+  -- A token that begins no item stands after e, whatever was asked for.
   pub record Behind (e : ℕ) : Type 0 where
     pub token : Token
     pub seen_as : (position : Position) → asked position e ≡ record { token = token; broken = false }
@@ -425,7 +425,7 @@ module _ (edition : Edition) (B T : List ℕ) (o : ℕ) (here : drop o B ≡ T) 
           (longer h (p + length (redirect_text k)) (at_text h p (redirect_text k) ms at))
           (at ∙ laid_text h (redirect_text k) ms))
 
-      -- the digits of a number, and what stands behind them
+      -- the digits of a number, and what stands after them
       number_there : (h : Held) (position : Position) (d : ℕ) (ds : Text) (p : ℕ) → GoodNumber (Some (d ∷ ds)) →
           At h p (text (d ∷ ds) ∷ text (redirect_text k) ∷ ms) → NumberHere position T p (d ∷ ds)
       number_there h position d ds p digits at =
@@ -497,7 +497,7 @@ module _ (edition : Edition) (B T : List ℕ) (o : ℕ) (here : drop o B ≡ T) 
             no_word = ap behind_word (tell number.token);
           }
 
-    -- the word of a redirection, behind its operator
+    -- the word of a redirection, after its operator
     record TargetThere (h : Held) (k : RedirectOperator) (e : ℕ) (t : Text) (rest : Marks) : Type 0 where
       f : ℕ
       at : At h f (text t ∷ rest)
@@ -505,7 +505,7 @@ module _ (edition : Edition) (B T : List ℕ) (o : ℕ) (here : drop o B ≡ T) 
       no_longer : NoLonger T e
       no_dash : NoDash k T e
 
-    -- behind `<<` a space, or a word that does not begin with `-`
+    -- after `<<` a space, or a word that does not begin with `-`
     no_dash_by : (k : RedirectOperator) (e c : ℕ) (cs : Text) → Reads T e c cs → (c == 45) ≡ false → NoDash k T e
     no_dash_by redirects.Here e c cs r other = is_here 45 r ∙ other
     no_dash_by redirects.Input e c cs r other = tt
@@ -561,7 +561,7 @@ module _ (edition : Edition) (B T : List ℕ) (o : ℕ) (here : drop o B ≡ T) 
 
     -- ---- the here-document of a redirection
 
-    -- what waits behind a redirection, and where it stands then
+    -- what waits after a redirection, and where it stands then
     record DocumentRead (h : Held) (k : RedirectOperator) (b p : ℕ) (t : Text) (f : ℕ) (doc : Option (AHereOf Text))
         (rest : Marks) : Type 0 where
       value : Option AHere
@@ -630,7 +630,7 @@ module _ (edition : Edition) (B T : List ℕ) (o : ℕ) (here : drop o B ≡ T) 
       abbrev spaced : Bool
       spaced = (y.space_redirects && not (duplicates k)) || would_strip k t
 
-      -- what stands behind the word
+      -- what stands after the word
       abbrev behind_word_marks : Marks
       behind_word_marks = print_here (word t ss) doc ++ rest
 
@@ -844,7 +844,7 @@ module _ (edition : Edition) (B T : List ℕ) (o : ℕ) (here : drop o B ≡ T) 
     abbrev Shapes : Row AnItem → Shape ItemsOf
     Shapes is = shape_of_items B (items_of is)
 
-    -- ---- items behind others
+    -- ---- items after others
 
     pub record ItemsRead (h : Held) (kind : Kind) (acc : Row AnItem) (position : Position) (n : Next) (p : ℕ)
         (last : Position) (is : Shape ItemsOf) (rest : Marks) : Type 0 where
@@ -912,7 +912,7 @@ module _ (edition : Edition) (B T : List ℕ) (o : ℕ) (here : drop o B ≡ T) 
 
     -- ---- gaps between items
 
-    -- behind a printed gap an item may begin
+    -- after a printed gap an item may begin
     pub record GapRead (h : Held) (e : ℕ) (broken : Bool) (ms : Marks) : Type 0 where
       pub p : ℕ
       pub at : At h p ms
@@ -961,7 +961,7 @@ module _ (edition : Edition) (B T : List ℕ) (o : ℕ) (here : drop o B ≡ T) 
     not_empty [] x = refl
     not_empty (x ∷ xs) y = refl
 
-    -- the first item is not broken, where it stands behind no other one
+    -- the first item is not broken, where it stands after no other one
     abbrev Unbroken : Kind → Row AnItem → Shape ItemsOf → Type 0
     Unbroken of_command acc is = is_empty acc ≡ true → first_not_broken is ≡ true
     Unbroken of_for acc is = is_empty acc ≡ true → first_not_broken is ≡ true
@@ -997,7 +997,7 @@ module _ (edition : Edition) (B T : List ℕ) (o : ℕ) (here : drop o B ≡ T) 
     module _ (y : Layout) (m : Text) (c : ℕ) (cs : Text) (blank : all_blank (deeper y m) ≡ true)
         (some_margin : deeper y m ≡ c ∷ cs)
         (rest : Marks) (follow : Followed rest) (after_it : (h : Held) (e : ℕ) → At h e rest → Behind e) where
-      -- the next item, behind a gap
+      -- the next item, after a gap
       record NextItem (h : Held) (position : Position) (i : Shape AnItemOf) (is : Shape ItemsOf) (e : ℕ) : Type 0 where
         at : At h (past_blanks T e) (print_item y i ++ (print_items y m is ++ rest))
         broken : (asked position e).broken ≡ is_broken_item i
@@ -1042,7 +1042,7 @@ module _ (edition : Edition) (B T : List ℕ) (o : ℕ) (here : drop o B ≡ T) 
           → broken_by of_command (so_many [] Command n) ≡ is_broken_item i
       first_unbroken n (item b what) is first = sym (first_not b first)
 
-      -- all items of a simple command, and the token behind them
+      -- all items of a simple command, and the token after them
       simple_items : (h : Held) {last : Position} {is : Shape ItemsOf} (n : Next) (p : ℕ) →
           GoodItems edition room of_command Command is last → SomeItem is → first_not_broken is ≡ true →
           n.token ≡ told Command p
@@ -1073,7 +1073,7 @@ module _ (edition : Edition) (B T : List ℕ) (o : ℕ) (here : drop o B ≡ T) 
             is = ap (λ is. simple is) r.shape;
           }
 
-      -- no `(` stands behind a word
+      -- no `(` stands after a word
       next_round : (h : Held) {position last : Position} {is : Shape ItemsOf} →
           GoodItems edition room of_command position is last → (e : ℕ) → At h e (print_items y m is ++ rest) →
           is_paren (asked position e).token ≡ false
@@ -1193,7 +1193,7 @@ module _ (edition : Edition) (B T : List ℕ) (o : ℕ) (here : drop o B ≡ T) 
     unfolding raw_stands
     no_byte p c xs x e at = ap (λ b. is_byte b x) (first T p c xs at) ∙ e
 
-    -- behind e the line ends
+    -- after e the line ends
     pub newline_next : (h : Held) (position : Position) (e : ℕ) (ms : Marks) → At h e (line_end ∷ ms) →
         (asked position e ≡ record { token = tokens.Newline; broken = false }) × (past_blanks T e ≡ e)
     newline_next h position e ms at =
@@ -1265,7 +1265,7 @@ module _ (edition : Edition) (B T : List ℕ) (o : ℕ) (here : drop o B ≡ T) 
 
     -- ---- margins
 
-    -- behind a margin
+    -- after a margin
     pub margin_gap : (h : Held) (m : Text) (e : ℕ) (ms : Marks) → all_blank m ≡ true → At h e (text m ∷ ms) →
         Start T (e + length m) → Gap T e (e + length m) false
     margin_gap h m e ms blank at s = blanks_gap T e m (lay h ms) blank (at ∙ laid_text h m ms) s
@@ -1387,7 +1387,7 @@ module _ (edition : Edition) (B T : List ℕ) (o : ℕ) (here : drop o B ≡ T) 
         subst (λ all. Gives g (many join_turn (join_so (a_join_of b acc) n)) (state h p)
         (join_so (a_join_of true all) next) (state later q)) (append_assoc acc (s ∷ []) ss) r
 
-    -- behind an operator: the join, and where its operand begins
+    -- after an operator: the join, and where its operand begins
     pub record JoinRead (h : Held) (e : ℕ) (j : AJoinOf Text) (ms : Marks) : Type 0 where
       pub join : AJoin
       pub q : ℕ
@@ -1401,7 +1401,7 @@ module _ (edition : Edition) (B T : List ℕ) (o : ℕ) (here : drop o B ≡ T) 
 
     module _ (d : Text) (blank : all_blank d ≡ true) (ms : Marks)
         (operand : (h : Held) (p : ℕ) → At h p ms → Operand p) where
-      -- behind a newline the margin of the operand
+      -- after a newline the margin of the operand
       operand_line : (h : Held) (b : Bool) (acc : Row Span) (e : ℕ) → At h e (text d ∷ ms) →
           JoinLines h true acc (asked Command e) (past_blanks T e) [] ms
       operand_line h b acc e at =
@@ -1550,7 +1550,7 @@ module _ (edition : Edition) (B T : List ℕ) (o : ℕ) (here : drop o B ≡ T) 
           comment_lines h c cs b [] (asked Command e) (past_blanks T e) good
           (subst (λ r. At h r (text c ∷ further cs)) (sym gap.blanks) behind_it)
 
-    -- what stands behind an operator
+    -- what stands after an operator
     abbrev pub join_rest : Layout → Text → AJoinOf Text → Marks
     join_rest y m j = if breaks_line j
         then print_comments (deeper y m) j.comments ++ (line_end ∷ text (deeper y m) ∷ []) else one (codes " ")
@@ -1579,7 +1579,7 @@ module _ (edition : Edition) (B T : List ℕ) (o : ℕ) (here : drop o B ≡ T) 
     follower_behind {t = t} f none h e at =
         record { token = t; seen_as = f.seen_as h e at; no_item = none; no_round = f.no_round }
 
-    -- a byte behind an operator that makes no longer one of it
+    -- a byte after an operator that makes no longer one of it
     pub record Parted (t : Text) : Type 0 where
       pub c : ℕ
       pub cs : Text
@@ -1600,7 +1600,7 @@ module _ (edition : Edition) (B T : List ℕ) (o : ℕ) (here : drop o B ≡ T) 
     join_parted h y m true (c ∷ cs) ms =
         record { c = 32; cs = _; is = refl; no_backslash = refl; no_bar = refl; no_ampersand = refl }
 
-    -- an operator behind a space
+    -- an operator after a space
     space_then : (h : Held) (e : ℕ) (c : ℕ) (cs : Text) (ms : Marks) → (c == 92) ≡ false → is_blank c ≡ false →
         At h e (text (codes " ") ∷ text (c ∷ cs) ∷ ms) → Gap T e (e + 1) false
     space_then h e c cs ms clear no_blank at =
@@ -1672,7 +1672,7 @@ module _ (edition : Edition) (B T : List ℕ) (o : ℕ) (here : drop o B ≡ T) 
         let other = no_other (told Command p) b.command in
         record { start = b.start; no_comment = no_sharp p b.start.place other.comment; no_newline = other.newline }
 
-    -- a compound command and the redirections behind it
+    -- a compound command and the redirections after it
     abbrev bare_compound : Shape ACompoundOf → Shape ACompoundOf
     bare_compound (formed form mark redirects) = formed form mark no_item
 
@@ -1740,7 +1740,7 @@ module _ (edition : Edition) (B T : List ℕ) (o : ℕ) (here : drop o B ≡ T) 
             item_there h y good p (print_items y m is ++ rest) (items_follow y m is rest follow)
             (at ∙ ap (lay h) (append_assoc (print_item y i) (print_items y m is) rest))
 
-        -- the name of a function, and what stands behind it
+        -- the name of a function, and what stands after it
         abbrev function_rest : Text → Row Text → Shape ACompoundOf → Marks → Marks
         function_rest m cs body rest = print_function_gap y m cs body ++ (print_compound y m body ++ rest)
 
@@ -1816,7 +1816,7 @@ module _ (edition : Edition) (B T : List ℕ) (o : ℕ) (here : drop o B ≡ T) 
               is = r.is ∙ ap (λ z. open_command [] (function z cs body)) (span_text p name (40 ∷ 41 ∷ lay h X) there);
             }
 
-        -- a compound command with the redirections behind it
+        -- a compound command with the redirections after it
         pub whole_compound : (h : Held) (m : Text) (c : Shape ACompoundOf) (n : Next) (p : ℕ) (rest : Marks) (t : Token)
             → all_blank m ≡ true → GoodCompound edition room c → is_normal_compound c ≡ true
             → Follower rest t → begins_simple t ≡ false → n.token ≡ told Command p →
@@ -2331,7 +2331,7 @@ module _ (edition : Edition) (B T : List ℕ) (o : ℕ) (here : drop o B ≡ T) 
         unfolding open_and_or_parts
         parts_shape q qs k j x xs e f i l = rw (e, f, i, l) refl
 
-        -- where an operator begins behind a space
+        -- where an operator begins after a space
         operator_gap : (h : Held) (k : AndOrOperator) (e : ℕ) (ms : Marks) →
             At h e (text (codes " ") ∷ text (and_or_text k) ∷ ms) → Gap T e (e + 1) false
         operator_gap h And e ms at = space_then h e 38 (38 ∷ []) ms refl refl at
@@ -2433,7 +2433,7 @@ module _ (edition : Edition) (B T : List ℕ) (o : ℕ) (here : drop o B ≡ T) 
 
         -- ---- entries
 
-        -- what stands behind the commands of an entry, up to the end of its line
+        -- what stands after the commands of an entry, up to the end of its line
         abbrev pub entry_rest : Bool → Option Text → Marks → Marks
         entry_rest background comment rest = print_background background
             ++ (print_own_comment comment ++ (line_end ∷ rest))
@@ -2702,7 +2702,7 @@ module _ (edition : Edition) (B T : List ℕ) (o : ℕ) (here : drop o B ≡ T) 
         at_line_start es blank commands parted =
             record { entries = es; blank = blank; begun = false; commands = commands; parted = parted }
 
-        -- behind an entry of a line
+        -- after an entry of a line
         abbrev pub on_this_line : Row AnEntry → Bool → Bool → Option ℕ → Listed
         on_this_line es blank commands parted =
             record { entries = es; blank = blank; begun = true; commands = commands; parted = parted }
@@ -2906,7 +2906,7 @@ module _ (edition : Edition) (B T : List ℕ) (o : ℕ) (here : drop o B ≡ T) 
         content_start h m (remark c) true blank comment p rest good good_c normal at = absurd cc
         content_start h m (remark c) false blank (Some d) p rest good good_c normal at = absurd cc
 
-        -- an entry and the newline behind it
+        -- an entry and the newline after it
         record LineRead (h : Held) (acc : Row AnEntry) (blank commands : Bool) (before : Option ℕ) (n : Next) (p : ℕ)
             (x : Shape AnEntryOf) (rest : Marks) : Type 0 where
           value : AnEntry
@@ -3281,7 +3281,7 @@ module _ (edition : Edition) (B T : List ℕ) (o : ℕ) (here : drop o B ≡ T) 
         abbrev Key : Text → Reserved → Marks → Type 0
         Key w r ms = (h : Held) (p : ℕ) → drop p T ≡ w ++ lay h ms → Keyword T p w r
 
-        -- a reserved word behind a margin
+        -- a reserved word after a margin
         record KeywordRead (h : Held) (e : ℕ) (r : Reserved) (ms : Marks) : Type 0 where
           token_is : told Command (past_blanks T e) ≡ tokens.Reserved r
           no_comment_it : raw_stands T (past_blanks T e) 35 ≡ false
@@ -3521,7 +3521,7 @@ module _ (edition : Edition) (B T : List ℕ) (o : ℕ) (here : drop o B ≡ T) 
 
         -- ---- what is read between the words of a compound command
 
-        -- a list on lines of its own, up to the word behind its margin
+        -- a list on lines of its own, up to the word after its margin
         record BlockRead (h : Held) (f : ℕ) (es : Shape EntriesOf) (r : Reserved) (ms : Marks) : Type 0 where
           value : Entries
           e : ℕ
@@ -3585,7 +3585,7 @@ module _ (edition : Edition) (B T : List ℕ) (o : ℕ) (here : drop o B ≡ T) 
         condition_end m es ms = cond_end (is_one_line es) (print_only y m es ++ one (codes "; "))
             (print_entries y (deeper y m) es ++ one m) ms
 
-        -- a branch from behind its opener
+        -- a branch from just after its opener
         abbrev branch_marks : Text → Text → Shape EntriesOf → Shape EntriesOf → Marks → Marks
         branch_marks m w condition body ms = cond_marks m condition ++ (text w ∷ block_marks m body ms)
 
@@ -3649,7 +3649,7 @@ module _ (edition : Edition) (B T : List ℕ) (o : ℕ) (here : drop o B ≡ T) 
         first_closes m ms blank f h e at =
             keyword_closes m f.w f.r f.others blank f.key f.none h e (at ∙ ap (λ ks. lay h (text m ∷ ks)) f.is)
 
-        -- a branch, and the word behind what it runs
+        -- a branch, and the word after what it runs
         record BranchRead (h : Held) (f : ℕ) (b : Shape ABranchOf) (ms : Marks) : Type 0 where
           value : ABranch
           e : ℕ
@@ -3903,7 +3903,7 @@ module _ (edition : Edition) (B T : List ℕ) (o : ℕ) (here : drop o B ≡ T) 
               texts = λ ts. others.texts ts ∙ b.texts (branches_bodies bs ts);
             }
 
-        -- ---- compound commands from behind their openers
+        -- ---- compound commands from just after their openers
 
         if_shape : (v : ABranch) (vs : Row ABranch) (w : Otherwise) (b : Shape ABranchOf) (bs : Shape BranchesOf)
             (other : Shape OtherwiseOf) → shape_of_branch B v ≡ open_branch [] b
@@ -4027,7 +4027,7 @@ module _ (edition : Edition) (B T : List ℕ) (o : ℕ) (here : drop o B ≡ T) 
           shape : shape_of_for_words B value ≡ words
           texts : Adds h later no_more
 
-        -- `;` and the word behind it
+        -- `;` and the word after it
         sep_read : (h : Held) (e : ℕ) (w : Text) (r : Reserved) (ms : Marks) → Key w r ms →
             At h e (text (codes "; ") ∷ text w ∷ ms)
             → (k : KeywordRead h (past_blanks T e + 1) r ms)
@@ -4142,7 +4142,7 @@ module _ (edition : Edition) (B T : List ℕ) (o : ℕ) (here : drop o B ≡ T) 
               is = for_shape n.value d.value b.value name words body n.shape d.shape b.shape;
             }
 
-        -- behind a margin a `)` closes
+        -- after a margin a `)` closes
         paren_line : (h : Held) (m : Text) (e : ℕ) (ms : Marks) → all_blank m ≡ true →
             At h e (text m ∷ text (codes ")") ∷ ms) → (told Command (past_blanks T e) ≡ tokens.CloseParen)
             × At h (past_blanks T e) (text (codes ")") ∷ ms)
@@ -4230,7 +4230,7 @@ module _ (edition : Edition) (B T : List ℕ) (o : ℕ) (here : drop o B ≡ T) 
               no_newline = ap is_newline_token (tell k.token);
             }
 
-        -- a word behind a margin
+        -- a word after a margin
         record WordAt (h : Held) (position : Position) (begins : Token → Bool) (f : ℕ) (w : Shape AWordOf)
             (ms : Marks) : Type 0 where
           value : AWord
@@ -4273,7 +4273,7 @@ module _ (edition : Edition) (B T : List ℕ) (o : ℕ) (here : drop o B ≡ T) 
 
         -- ---- the patterns of an item
 
-        -- behind a pattern
+        -- after a pattern
         abbrev more_marks : Shape PatternsOf → Marks → Marks
         more_marks no_pattern ms = text (codes ")") ∷ ms
         more_marks (more_patterns w ws) ms = text (codes " ") ∷ text (codes "|") ∷ text (codes " ")
@@ -4431,7 +4431,7 @@ module _ (edition : Edition) (B T : List ℕ) (o : ℕ) (here : drop o B ≡ T) 
 
         -- ---- comments before an item
 
-        -- newlines and comments up to what stands behind them
+        -- newlines and comments up to what stands after them
         record LinesRead (h : Held) (b : Bool) (acc : Row Span) (n : Next) (p : ℕ) (cs : Row Text) (m : Text)
             (ms : Marks) : Type 0 where
           comments : Row Span
@@ -4628,7 +4628,7 @@ module _ (edition : Edition) (B T : List ℕ) (o : ℕ) (here : drop o B ≡ T) 
         first_comments no_case tail = tail
         first_comments (more_cases (case_item cs ps body mark) items) tail = cs
 
-        -- the margin behind them, and what stands there
+        -- the margin after them, and what stands there
         abbrev items_margin : Text → Shape CaseItemsOf → Text
         items_margin m no_case = m
         items_margin m (more_cases c items) = case_margin y m
@@ -4705,7 +4705,7 @@ module _ (edition : Edition) (B T : List ℕ) (o : ℕ) (here : drop o B ≡ T) 
         first_good no_case tail good comments = comments
         first_good (more_cases (case_item cs ps body mark) items) tail good comments = good.0.0
 
-        -- the items, and the comments behind them
+        -- the items, and the comments after them
         record CasesRead (h : Held) (acc : Row ACaseItem) (before : Row Span) (e : ℕ) (items : Shape CaseItemsOf)
             (tail : Row Text) (rest : Marks) : Type 0 where
           value : Row ACaseItem
@@ -4892,7 +4892,7 @@ module _ (edition : Edition) (B T : List ℕ) (o : ℕ) (here : drop o B ≡ T) 
               is = case_shape v.value c.value c.comments w items tail v.shape c.shape c.tail_shape;
             }
 
-        -- what stands behind the opener of a form
+        -- what stands after the opener of a form
         abbrev form_rest : Text → Shape AFormOf → Marks → Marks
         form_rest m (brace es) rest = block_marks m es (text (codes "}") ∷ rest)
         form_rest m (subshell es) rest = block_marks m es (text (codes ")") ∷ rest)
@@ -5031,7 +5031,7 @@ module _ (edition : Edition) (B T : List ℕ) (o : ℕ) (here : drop o B ≡ T) 
 
         -- ---- compound commands
 
-        -- an opener, and what stands behind it
+        -- an opener, and what stands after it
         record Opened (h : Held) (p : ℕ) (k : Opener) (ms : Marks) : Type 0 where
           opens : Opens p k
           s : Span
@@ -5159,7 +5159,7 @@ module _ (edition : Edition) (B T : List ℕ) (o : ℕ) (here : drop o B ≡ T) 
 
         -- ---- functions
 
-        -- what stands between the brackets behind a name and the body
+        -- what stands between the brackets after a name and the body
         record GapLines (h : Held) (e : ℕ) (cs : Row Text) (ms : Marks) : Type 0 where
           comments : Row Span
           broken : Bool
@@ -5233,7 +5233,7 @@ module _ (edition : Edition) (B T : List ℕ) (o : ℕ) (here : drop o B ≡ T) 
             rw (same, f) refl
         under_shape name ss (function other ds body) c cs e f = absurd cc
 
-        -- the brackets behind a name, and the body, one level further out
+        -- the brackets after a name, and the body, one level further out
         pub function_read : (h : Held) (m : Text) (name : Span) (cs : Row Text) (body : Shape ACompoundOf) (p : ℕ)
             (rest : Marks) (t : Token) → all_blank m ≡ true → GoodComments cs → GoodCompound edition room body
             → is_normal_compound body ≡ true → Follower rest t → begins_simple t ≡ false →
@@ -5314,7 +5314,7 @@ module _ (edition : Edition) (B T : List ℕ) (o : ℕ) (here : drop o B ≡ T) 
     first_at : (q : ℕ) (ms : Marks) → drop q T ≡ laid ms → At nothing_held q ms
     first_at q ms at = at ∙ ap (λ held. laid_behind held ms) (sym no_bytes)
 
-    -- the newline behind what stands on the line
+    -- the newline after what stands on the line
     ended_by : (h : Held) (n : Next) (q : ℕ) (rest : Marks) → is_newline_token n.token ≡ true → At h q (line_end ∷ rest)
         → (line : Emptied edition B T o here h q rest)
         × Gives g (end_of_line top n) (state h q) true (state line.later line.q)

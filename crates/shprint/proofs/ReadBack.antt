@@ -22,7 +22,7 @@ use Rattle.shprint.proofs.Readable.{script_readable}
 use Rattle.shprint.proofs.PrintedRows.{ScriptLine, EntryLine, entry_rest, entry_marks, fine, entry_line, blank_line_read, end_line_read}
 
 module _ (edition : Edition) (y : Layout) (B : List ℕ) where
-  -- these entries are read from p on, behind what was read so far
+  -- these entries are read from p on, after what was read so far
   record ScriptRead (so : SoFar) (p : ℕ) (es : Shape EntriesOf) : Type 0 where
     value : Row AnEntry
     told : Row Spelled
@@ -106,7 +106,7 @@ module _ (edition : Edition) (y : Layout) (B : List ℕ) where
       ++ entry_rest edition B (drop p B) p refl most_open y
       (fine edition B (drop p B) p refl y most_open) background comment more))) (append-nil (print_entries y [] es))
 
-  -- behind an empty line
+  -- after an empty line
   blank_read : (so : SoFar) (p : ℕ) (es : Shape EntriesOf) (rest : Marks)
       (line : ScriptLine edition B (drop p B) p refl (is_blank_line so) [] true rest) →
       ScriptRead (with_line so []) (p + line.f) es → ScriptRead so p es

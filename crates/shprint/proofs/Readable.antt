@@ -71,7 +71,7 @@ abbrev GoodUnder : Edition → ℕ → Shape AFormOf → Type 0
 GoodUnder edition zero form = ⊥
 GoodUnder edition (suc room) form = GoodForm edition room form
 
--- with redirections behind it
+-- with redirections after it
 compound_with : (edition : Edition) (room : ℕ) (form : Shape AFormOf) (more : Shape ItemsOf) →
     GoodUnder edition room form → GoodRedirects edition room more → GoodCompound edition room (formed form tt more)
 compound_with edition zero form more good redirects = absurd good
@@ -130,7 +130,7 @@ module _ (B : List ℕ) where
     patterns_more [] w all one = (one, tt)
     patterns_more (v ∷ ws) w all one = (all.0, patterns_more ws w all.1 one)
 
-    -- one more pattern, behind others
+    -- one more pattern, after others
     patterns_last : (ws : Row AWord) (w : AWord) → GoodPatterns edition room (shape_of_patterns B (patterns_of ws)) →
         GoodWord edition room Suffix begins_word (shape_of_word B w)
         → GoodPatterns edition room (shape_of_patterns B (patterns_of (ws ++ w ∷ [])))
@@ -224,8 +224,8 @@ module _ (g : Given) where
   abbrev Kept : {X : Type 0} → Row Due → (X → ℕ → Type 0) → X → State → Type 0
   Kept D P x t = DocsAt g D t × P x t.at
 
-  -- P holds of what r reads from p on, and of the place behind it. Whatever documents
-  -- stand before p, they are all behind it too.
+  -- P holds of what r reads from p on, and of the place after it. Whatever documents
+  -- stand before p, they, and no others, stand before its end too.
   record Reads {X : Type 0} (r : Form X) (P : X → ℕ → Type 0) (p : ℕ) : Type 0 where
     pub reads : (D : Row Due) (s : State) → DocsAt g D s → Tells Whole g r (Kept D P) (place_of s p)
 
@@ -315,7 +315,7 @@ module _ (g : Given) where
   Grown P x t = (E : Row Due) × DocsAt g E t × P x E t.at
 
   -- P holds of what r reads from p on, of the documents up to its end, where those
-  -- before p are D, and of the place behind it
+  -- before p are D, and of the place after it
   record Adds {X : Type 0} (D : Row Due) (r : Form X) (P : X → Row Due → ℕ → Type 0) (p : ℕ) : Type 0 where
     pub adds : (s : State) → DocsAt g D s → Tells Whole g r (Grown P) (place_of s p)
 
@@ -331,7 +331,7 @@ module _ (g : Given) where
             (λ x t so. (rest x so.0 t.at so.2).adds t so.1);
       }
 
-  -- behind a form that adds none
+  -- after a form that adds none
   behind : {X Y : Type 0} {P : X → ℕ → Type 0} {Q : Y → Row Due → ℕ → Type 0} {D : Row Due} {r : Form X}
       {q : X → Form Y} {p : ℕ} → Reads r P p
       → ((x : X) (e : ℕ) → P x e → Adds D (q x) Q e) → Adds D (both r q) Q p
@@ -532,7 +532,7 @@ module _ (B : List ℕ) (g : Given) (here : g.text ≡ drop g.offset B) where
       subst (λ (xs : List ℕ). CommentAnywhere (take (c.«end» - c.start) xs)) same
       (comment_anywhere g.text g.offset p c is)
 
-  -- the token behind a comment stands where X holds, if that before it does
+  -- the token after a comment stands where X holds, if that before it does
   abbrev Commented : Type 0 → Option Span × Next → ℕ → Type 0
   Commented X c e = GoodOwnComment (option_map (shape_of_comment B) c.0) × (X → Stands g Command c.1 e)
       × (is_some c.0 ≡ true → Stands g Command c.1 e)
@@ -556,7 +556,7 @@ module _ (B : List ℕ) (g : Given) (here : g.text ≡ drop g.offset B) where
       record { reads = λ D s docs. record { told = (docs, (comments_more B cs c all one, refl)) } }
   reads_with cs None p all one = gives g (all, refl)
 
-  -- behind a comment or a newline the next token stands where a command may begin; so it does where X holds
+  -- after a comment or a newline the next token stands where a command may begin; so it does where X holds
   abbrev JoinGood : Type 0 → JoinSo → ℕ → Type 0
   JoinGood X j p = Comments j.join.comments × (X ⊎ (j.join.broken ≡ true) → Stands g Command j.next p)
 
@@ -657,7 +657,7 @@ module _ (B : List ℕ) (g : Given) (here : g.text ≡ drop g.offset B) where
     abbrev items : Items → Shape ItemsOf
     items i = shape_of_items B (items_of i.items)
 
-    -- the items so far, behind the documents C, and the token behind them; where it begins none there is one
+    -- the items so far, after the documents C, and the token after them; where it begins none there is one
     record ItemsSo (C : Row Due) (i : Items) (D : Row Due) (p : ℕ) : Type 0 where
       pub good : OpenItems of_command Command C i.items D i.place
       pub stands : Stands g i.place i.next p
@@ -897,7 +897,7 @@ module _ (B : List ℕ) (g : Given) (here : g.text ≡ drop g.offset B) where
             ≡ a_redirect_of broken (bare_number d) o t ss (option_map (shape_of_here B) x)
         shape x = rw is refl
 
-    -- whatever holds behind a good redirection
+    -- whatever holds after a good redirection
     reads_redirect : (Q : Items → Row Due → ℕ → Type 0) (broken : Bool) (place next : Position) (is : Row AnItem)
         (n : Next) (D : Row Due) (p : ℕ) → Stands g place n p
         → ((i : AnItem) (m : Next) (E : Row Due) (e : ℕ) → OpenRedirect broken D i E → Stands g next m e →
@@ -976,7 +976,7 @@ module _ (B : List ℕ) (g : Given) (here : g.text ≡ drop g.offset B) where
     abbrev Compound_is : {X : Type 0} → Row Due → ACommand × X → Row Due → ℕ → Type 0
     Compound_is D c E e = (body : ACompound) × (c.0 ≡ compound body) × OpenCompound D body E
 
-    -- one without redirections, and the token behind it
+    -- one without redirections, and the token after it
     abbrev Bare_is : Row Due → ACommand × Next → Row Due → ℕ → Type 0
     Bare_is D c E e = (form : AForm) × (mark : Span) × (c.0 ≡ compound (formed form mark no_item)) × OpenUnder D form E
         × Stands g Command c.1 e
@@ -987,7 +987,7 @@ module _ (B : List ℕ) (g : Given) (here : g.text ≡ drop g.offset B) where
           Adds g D (inner.function name) (Command_is D) p
 
     module _ (fine : Fine) where
-      -- the redirections behind a compound command
+      -- the redirections after a compound command
       record RedirectsSo (C : Row Due) (r : Items) (D : Row Due) (p : ℕ) : Type 0 where
         pub place : r.place ≡ Command
         pub good : OpenItems of_compound Command C r.items D Command
@@ -1229,7 +1229,7 @@ module _ (B : List ℕ) (g : Given) (here : g.text ≡ drop g.offset B) where
       abbrev Listing : Row Due → ListSo → Row Due → ℕ → Type 0
       Listing C l D p = OpenRow C l.list.entries D
 
-      -- and the token behind it stands here
+      -- and the token after it stands here
       abbrev ListOn : Row Due → ListSo → Row Due → ℕ → Type 0
       ListOn C l D p = Listing C l D p × Stands g Command l.next p
 
@@ -1308,7 +1308,7 @@ module _ (B : List ℕ) (g : Given) (here : g.text ≡ drop g.offset B) where
       none_waiting D p [] bs docs = record { told = docs_done g docs }
       none_waiting D p (w ∷ ws) bs docs = record { told = tt }
 
-      -- behind a line all have their bodies
+      -- after a line all have their bodies
       line_ends : (n : Next) (D : Row Due) (s : State) → DocsAt g D s →
           Tells Whole g (end_of_line inner n) (λ x t. Feeds g D t.bodies []) s
       unfolding end_of_line
@@ -1481,7 +1481,7 @@ module _ (B : List ℕ) (g : Given) (here : g.text ≡ drop g.offset B) where
           (λ s e one. first g (reads_linebreak (s.0 ≡ true) cs s.1 e good (λ y. one.1 y)) (λ l f two.
           picks g (s.0 || l.join.broken) (λ is. gives g (two.0, two.1 (or_parts _ _ is))) (stopped g inner l.next)))
 
-      -- the words so far, and the token behind them
+      -- the words so far, and the token after them
       record WordsSo (i : Items) (p : ℕ) : Type 0 where
         pub good : GoodItems g.edition room of_for Suffix (items i) Suffix
         pub stands : Stands g Suffix i.next p

@@ -21,7 +21,7 @@ module _ (B : Text) where
       let none : a - a ≡ 0 = omega arith in
       rw none refl
 
-  -- two stretches, one behind the other
+  -- two stretches, one after the other
   pub stretches : (a b c : ℕ) → a ≤ b → b ≤ c → stretch B a c ≡ stretch B a b ++ stretch B b c
   stretches a b c ab bc =
       let parts : c - a ≡ (b - a) + (c - b) = omega (arith, ab, bc) in
@@ -29,7 +29,7 @@ module _ (B : Text) where
       ap (λ n. take n (drop a B)) parts ∙ take-add (b - a) (c - b) (drop a B) ∙ rw (drop-drop (b - a) a B, on) refl
 
   module _ (y : Layout) (m : Text) where
-    -- a word one blank behind another
+    -- a word one blank after another
     pub word_is : (i : Shape AnItemOf) (at : ℕ) (s : Span) → is_broken_item i ≡ false →
         print_item y i ≡ text (text_at B s) ∷ [] → slice_get B at ≡ Some 32 → s.start ≡ at + 1
         → s.start ≤ s.«end» → (t : Sheet) → written t (item_behind y m i) ≡ written t (one (stretch B at s.«end»))
@@ -48,7 +48,7 @@ module _ (B : Text) where
     unfolding written laid_behind held_behind
     none_passed a is t = rw (none_more a) refl
 
-    -- two texts, one behind the other, are one
+    -- two texts, one after the other, are one
     texts_join : (t : Sheet) (x z : Text) (ms : Marks) →
         written t (text x ∷ text z ∷ ms) ≡ written t (text (x ++ z) ∷ ms)
     unfolding written laid_behind held_behind
@@ -71,7 +71,7 @@ module _ (B : Text) where
         ∙ texts_join t (stretch B a b) (stretch B b c) (items_marks is)
         ∙ ap (λ r. written t (text r ∷ items_marks is)) (sym (stretches a b c ab bc))
 
-    -- words, and the items behind them
+    -- words, and the items after them
     pub simple_printed : (t : Sheet) (s : Span) (past : ℕ) (i : Item) (is others : List Item) →
         print_item y (shape_of_item B (view_item i)) ≡ text (text_at B s) ∷ []
         → s.start ≤ s.«end» → s.«end» ≤ past →

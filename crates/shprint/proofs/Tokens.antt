@@ -190,7 +190,7 @@ broken_gap T p b bs xs all at s =
     let last = blanks_gap T (p + 1 + 2) (b ∷ bs) xs all at3 (subst (Start T) (sym e) s) in
     blank_gap refl at (joined_gap (and_parts _ _ all).0 at1 (subst (λ q. Gap T (p + 1 + 2) q false) e last))
 
--- the next token behind a gap
+-- the next token after a gap
 pub next_behind : {T : List ℕ} {p q : ℕ} {broken : Bool} (position : Position) → Gap T p q broken →
     next_at position T p ≡ record { token = token_at position T q; broken = broken }
 next_behind position gap = rw (gap.blanks, gap.breaks) refl
@@ -218,7 +218,7 @@ pub close_token : (position : Position) (T : List ℕ) (p : ℕ) (xs : List ℕ)
     token_at position T p ≡ tokens.CloseParen
 close_token position T p xs at = token_here position (byte_here T p 41 xs refl at)
 
--- the byte behind this one
+-- the byte after this one
 second : {T : List ℕ} {p c d : ℕ} {xs : List ℕ} (x : ℕ) → (d == 92) ≡ false → Reads T p c (d ∷ xs) →
     stands T (past_byte T p) x ≡ (d == x)
 second {T = T} {p = p} {d = d} {xs = xs} x clear r = ap (λ q. stands T q x) r.behind_it
@@ -613,7 +613,8 @@ pub word_no_longer : (T : List ℕ) (q : ℕ) → token_at Suffix T q ≡ tokens
 word_no_longer T q word = record {
   less = no_such_byte T q 60 word refl;
   greater = no_such_byte T q 62 word refl;
-  ampersand = no_such_byte T q 38 word (no_word_of (stands T (past_byte T q) 38) tokens.AndIf tokens.Ampersand refl refl);
+  ampersand = no_such_byte T q 38 word
+      (no_word_of (stands T (past_byte T q) 38) tokens.AndIf tokens.Ampersand refl refl);
   bar = no_such_byte T q 124 word (no_word_of (stands T (past_byte T q) 124) tokens.OrIf tokens.Pipe refl refl);
 }
   where
@@ -621,7 +622,7 @@ word_no_longer T q word = record {
     no_word_of true t u one two = one
     no_word_of false t u one two = two
 
--- behind `<<` no `-` is read
+-- after `<<` no `-` is read
 abbrev pub NoDash : RedirectOperator → List ℕ → ℕ → Type 0
 NoDash redirects.Here T q = stands T q 45 ≡ false
 NoDash _ T q = Unit {0}

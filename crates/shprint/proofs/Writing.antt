@@ -5,7 +5,7 @@ use Rattle.shast.specs.Shape.{Text}
 use Rattle.shprint.specs.Marks.{Mark, Marks, text, line_end, document, laid, laid_behind, held_behind}
 use Rattle.shprint.specs.Written.{Sheet, sheet_of, written}
 
--- ---- marks, and others behind them
+-- ---- marks, and others after them
 
 pub laid_append : (h : Text) (ms ns : Marks) →
     laid_behind h (ms ++ ns) ≡ laid_behind h ms ++ laid_behind (held_behind h ms) ns

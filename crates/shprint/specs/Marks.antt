@@ -22,7 +22,7 @@ laid_behind held (text t ∷ ms) = t ++ laid_behind held ms
 laid_behind held (line_end ∷ ms) = 10 ∷ held ++ laid_behind [] ms
 laid_behind held (document t ∷ ms) = laid_behind (held ++ t) ms
 
--- what waits behind them
+-- what waits after them
 unfoldable pub held_behind : Text → Marks → Text
 held_behind held [] = held
 held_behind held (text t ∷ ms) = held_behind held ms
@@ -48,6 +48,6 @@ deeper y margin = margin ++ step y
 abbrev pub one : Text → Marks
 one t = text t ∷ []
 
--- the lines of a list, from behind what opens it to what closes it
+-- the lines of a list, from just after what opens it to what closes it
 abbrev pub lines_between : Text → Marks → Marks
 lines_between margin ms = line_end ∷ ms ++ one margin

@@ -17,12 +17,12 @@ abbrev pub print_comment_lines : Text → Row Text → Marks
 print_comment_lines margin [] = []
 print_comment_lines margin (c ∷ cs) = text margin ∷ text c ∷ line_end ∷ print_comment_lines margin cs
 
--- comments behind the first one, each on a line of its own
+-- comments after the first one, each on a line of its own
 abbrev pub print_further_comments : Text → Row Text → Marks
 print_further_comments margin [] = []
 print_further_comments margin (c ∷ cs) = line_end ∷ text margin ∷ text c ∷ print_further_comments margin cs
 
--- the first comment behind what stands on the line, and the further ones
+-- the first comment after what stands on the line, and the further ones
 abbrev pub print_comments : Text → Row Text → Marks
 print_comments margin [] = []
 print_comments margin (c ∷ cs) = text (codes " ") ∷ text c ∷ print_further_comments margin cs
@@ -66,7 +66,7 @@ abbrev pub print_number : Option Text → Marks
 print_number None = []
 print_number (Some n) = one n
 
--- `<&` and `>&` never have a space behind them
+-- `<&` and `>&` never have a space after them
 abbrev pub duplicates : RedirectOperator → Bool
 duplicates redirects.DuplicateInput = true
 duplicates redirects.DuplicateOutput = true
@@ -101,7 +101,7 @@ print_item y (item broken (redirect number operator mark w here)) = print_number
 abbrev pub is_broken_item : Shape AnItemOf → Bool
 is_broken_item (item broken what) = broken
 
--- items behind others
+-- items after others
 abbrev pub print_items : Layout → Text → Shape ItemsOf → Marks
 print_items y margin no_item = []
 print_items y margin (more_items i is) = print_gap y margin (is_broken_item i) ++ print_item y i
@@ -186,7 +186,7 @@ abbrev mutual
   pub print_and_or : Layout → Text → Shape AnAndOrOf → Marks
   print_and_or y margin (and_or first rest) = print_pipeline y margin first ++ print_and_or_parts y margin false rest
 
-  -- the operands behind the first, where the line was broken before or not
+  -- the operands after the first, where the line was broken before or not
   pub print_and_or_parts : Layout → Text → Bool → Shape AndOrPartsOf → Marks
   print_and_or_parts y margin broken no_and_or = []
   print_and_or_parts y margin broken (more_and_or operator j p ps) =
@@ -210,7 +210,7 @@ abbrev mutual
   print_command y margin (function name comments body) = text name ∷ text (codes "()")
       ∷ print_function_gap y margin comments body ++ print_compound y margin body
 
-  -- redirections stand behind the closer, as items do behind others
+  -- redirections stand after the closer, as items do after others
   pub print_compound : Layout → Text → Shape ACompoundOf → Marks
   print_compound y margin (formed form mark redirects) = print_form y margin form ++ print_items y margin redirects
 
@@ -259,7 +259,7 @@ abbrev mutual
   print_cases y margin no_case = []
   print_cases y margin (more_cases c cs) = print_case y margin c ++ print_cases y margin cs
 
-  -- behind entries the ender has a line of its own, as deep as they stand
+  -- after entries the ender has a line of its own, as deep as they stand
   pub print_case : Layout → Text → Shape ACaseItemOf → Marks
   print_case y margin (case_item comments patterns body mark) =
       print_comment_lines margin comments

@@ -18,7 +18,7 @@ sheet_of so_far held = record { so_far = so_far; held = held }
 abbrev pub sheet : Page → Sheet
 sheet page = sheet_of page.text.items page.held.items
 
--- the same, and some marks behind it
+-- the same, and some marks after it
 unfoldable pub written : Sheet → Marks → Sheet
 written s ms = sheet_of (s.so_far ++ laid_behind s.held ms) (held_behind s.held ms)
 
@@ -30,7 +30,7 @@ Prints before after ms = (sheet after ≡ written (sheet before) ms) × (after.m
 abbrev pub Deepens : Layout → Page → Page → Type 0
 Deepens y before after = (after.margin.items ≡ deeper y before.margin.items) × (sheet after ≡ sheet before)
 
--- an item behind another, and what parts them
+-- an item after another, and what parts them
 abbrev pub item_behind : Layout → Text → Shape AnItemOf → Marks
 item_behind y margin i = print_gap y margin (is_broken_item i) ++ print_item y i
 

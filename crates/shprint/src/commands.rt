@@ -221,7 +221,7 @@ impl<'a, S: Source> Printer<'a, S> {
         self.print_and_or_parts(&and_or.rest, page)
     }
 
-    /// The operands behind the first one, which stand deeper from the first broken line on.
+    /// The operands after the first one, which stand deeper from the first broken line on.
     #[cycle(print)]
     #[tactic(auto, using(crate::proofs::Writing::written_append, crate::proofs::Writing::written_cons, crate::proofs::Writing::written_none, crate::proofs::Rows::parts_end))]
     fn print_and_or_parts(&self, parts: &[AndOrPart], page: &mut Page) -> Result<(), AllocError>
@@ -257,7 +257,7 @@ impl<'a, S: Source> Printer<'a, S> {
         self.print_pipes(&pipeline.rest, page)
     }
 
-    /// The commands behind the first one, which stand deeper from the first broken line on.
+    /// The commands after the first one, which stand deeper from the first broken line on.
     #[cycle(print)]
     #[tactic(auto, using(crate::proofs::Writing::written_append, crate::proofs::Writing::written_cons, crate::proofs::Writing::written_none, crate::proofs::Rows::pipes_end))]
     fn print_pipes(&self, parts: &[PipelinePart], page: &mut Page) -> Result<(), AllocError>
@@ -306,7 +306,7 @@ impl<'a, S: Source> Printer<'a, S> {
         self.print_compound(&function.body, page)
     }
 
-    /// A compound command, and its redirections as items behind it.
+    /// A compound command, and its redirections as items after it.
     #[cycle(print)]
     #[inline(always)]
     fn print_compound(&self, compound: &Compound, page: &mut Page) -> Result<(), AllocError>
@@ -379,7 +379,7 @@ impl<'a, S: Source> Printer<'a, S> {
         page.put(closer)
     }
 
-    /// The lines of a list, from behind what opens it to what closes it.
+    /// The lines of a list, from just after what opens it to what closes it.
     #[cycle(print)]
     fn print_lines_between(&self, list: &List, page: &mut Page) -> Result<(), AllocError>
         ensures { IfOk result (λ _. Prints page.old page.new
@@ -467,7 +467,7 @@ impl<'a, S: Source> Printer<'a, S> {
         Ok(())
     }
 
-    /// The items of a `case`, and the comments behind the last one.
+    /// The items of a `case`, and the comments after the last one.
     #[cycle(print)]
     fn print_case_items(
         &self,
@@ -519,7 +519,7 @@ impl<'a, S: Source> Printer<'a, S> {
         page.end_line()
     }
 
-    /// The body of an item of a `case`, up to its ender, which has a line of its own behind entries. Without
+    /// The body of an item of a `case`, up to its ender, which has a line of its own after entries. Without
     /// them it stands on the line of the patterns.
     #[cycle(print)]
     fn print_body(&self, body: &List, page: &mut Page) -> Result<(), AllocError>

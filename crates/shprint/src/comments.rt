@@ -40,7 +40,7 @@ impl<'a, S: Source> Printer<'a, S> {
         Ok(())
     }
 
-    /// Comments behind the first one, each on a line of its own.
+    /// Comments after the first one, each on a line of its own.
     #[tactic(auto, using(crate::proofs::Writing::written_append, crate::proofs::Writing::written_cons, crate::proofs::Writing::written_none, crate::proofs::Rows::from_end, crate::proofs::Rows::further_comments_are))]
     fn print_further_comments(
         &self,
@@ -58,7 +58,7 @@ impl<'a, S: Source> Printer<'a, S> {
         Ok(())
     }
 
-    /// The first comment behind what stands on the line, and the further ones.
+    /// The first comment after what stands on the line, and the further ones.
     pub(crate) fn print_comments(
         &self,
         comments: &[Comment],
@@ -76,7 +76,7 @@ impl<'a, S: Source> Printer<'a, S> {
         self.print_further_comments(rest, page)
     }
 
-    /// The comment behind an entry on its line.
+    /// The comment after an entry on its line.
     pub(crate) fn print_own_comment(
         &self,
         comment: Option<Comment>,
@@ -93,7 +93,7 @@ impl<'a, S: Source> Printer<'a, S> {
         self.print_text(comment.span, page)
     }
 
-    /// An operator with what stands around it, where the margin is already that of the operand behind it.
+    /// An operator with what stands around it, where the margin is already that of the operand after it.
     pub(crate) fn print_join(
         &self,
         operator: &[u8],

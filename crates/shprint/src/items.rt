@@ -1,4 +1,4 @@
-//! Words, redirections and patterns: what stands on a line behind something else.
+//! Words, redirections and patterns: what stands on a line after something else.
 #![tactic(auto, using(crate::proofs::Writing::written_append, crate::proofs::Writing::written_cons, crate::proofs::Writing::written_none))]
 
 ghost use Rattle.std.specs.Prelude.{◌≡◌, ◌++◌, ◌∷◌, ◌==◌, ◌&&◌, ◌||◌, [], IfOk, IfSome, Some, false, map, option_map};
@@ -36,7 +36,7 @@ fn redirect_text(operator: RedirectOperator) -> &'static [u8]
     }
 }
 
-/// Whether this operator never has a space behind it.
+/// Whether this operator never has a space after it.
 fn duplicates(operator: RedirectOperator) -> bool
     ensures { result ≡ duplicates operator }
 {
@@ -197,7 +197,7 @@ impl<'a, S: Source> Printer<'a, S> {
         Ok(())
     }
 
-    /// Items behind others, or behind a closer or the `in` of a `for`.
+    /// Items after others, or after a closer or the `in` of a `for`.
     #[tactic(auto, using(crate::proofs::Writing::written_append, crate::proofs::Writing::written_cons, crate::proofs::Writing::written_none, crate::proofs::Rows::from_end, crate::proofs::Rows::items_are))]
     pub(crate) fn print_items(&self, items: &[Item], page: &mut Page) -> Result<(), AllocError>
         ensures { IfOk result (λ _. Prints page.old page.new
@@ -233,7 +233,7 @@ impl<'a, S: Source> Printer<'a, S> {
         self.print_items(rest, page)
     }
 
-    /// The patterns of an item of a `case` behind the first one.
+    /// The patterns of an item of a `case` after the first one.
     #[tactic(auto, using(crate::proofs::Writing::written_append, crate::proofs::Writing::written_cons, crate::proofs::Writing::written_none, crate::proofs::Rows::from_end, crate::proofs::Rows::patterns_are))]
     fn print_patterns(&self, patterns: &[Word], page: &mut Page) -> Result<(), AllocError>
         ensures { IfOk result (λ _. Prints page.old page.new

@@ -37,7 +37,7 @@ impl Page {
         self.text.extend_from_slice(bytes)
     }
 
-    /// Ends a line. What waited for this stands behind it.
+    /// Ends a line. What waited for this stands after it.
     pub(crate) fn end_line(&mut self) -> Result<(), AllocError>
         ensures { IfOk result (λ _. Prints self.old self.new (line_end ∷ [])) }
     {

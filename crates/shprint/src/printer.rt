@@ -56,7 +56,7 @@ impl<'a, S: Source> Printer<'a, S> {
 
     /// Prints the bytes of a span as they stand.
     ///
-    /// Where they are few, those behind them are copied too and cut off again: a copy of as many bytes as are
+    /// Where they are few, those after them are copied too and cut off again: a copy of as many bytes as are
     /// known beforehand is some moves in place, and no call that asks for their number.
     #[inline(always)]
     pub(crate) fn print_text(&self, span: Span, page: &mut Page) -> Result<(), AllocError>

@@ -31,7 +31,7 @@ pub(crate) fn word_span(item: &Item) -> Option<Span>
 }
 
 impl<'a, S: Source> Printer<'a, S> {
-    /// Where an item ends that is a word one blank behind this offset, and stands on the same line.
+    /// Where an item ends that is a word one blank after this offset, and stands on the same line.
     fn word_behind(&self, end: usize, item: &Item) -> Option<usize>
         ensures { IfSome result (λ next. (end ≤ next) × ((y : Layout) (margin : Text) (s : Sheet) →
             written s (item_behind y margin
