@@ -41,7 +41,7 @@ pub enum LineKind {
 pub struct Line {
     /// Its entries have spans that count from where the line begins.
     pub kind: LineKind,
-    /// The offset in the source behind the line; of `End` and `Faulty` the length of the source.
+    /// The offset just past the line, in the source; of `End` and `Faulty` the length of the source.
     pub next: usize,
     /// A newline token ended the line, and its last byte is a newline. Another line may begin at `next`.
     pub ended: bool,
