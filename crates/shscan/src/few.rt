@@ -1,4 +1,4 @@
-//! The bytes behind the last whole row.
+//! The bytes after the last whole row.
 ghost use Rattle.std.specs.Prelude.{◌≡◌};
 ghost use Rattle.std.specs.List.{prefix_len};
 ghost use Rattle.shscan.specs.Sets.{is_outside};
