@@ -5,8 +5,8 @@
 //   [S-E S-E]    a simple command and its items; an item has `=` before it where it is an assignment, and `^`
 //                before that where it is broken
 //   S-E>S-E:W    an item that is a redirection: the number, where it has one, the text and the span of its
-//                operator, and its word; those of a compound command stand behind it
-//   @S-E         directly behind it: the body of its here-document, with `-` before it where tabs are taken
+//                operator, and its word; those of a compound command stand after it
+//   @S-E         directly after it: the body of its here-document, with `-` before it where tabs are taken
 //                off, and then `'` where it is literal
 //   {S-E ..}     a group and its entries; so is (S-E ..), a subshell
 //   <S-E if .. then .. elif .. then .. else ..>, <S-E while .. do ..>, <S-E until .. do ..>
@@ -14,20 +14,20 @@
 //                its name, and its words where `in` stands; an item that is broken has `^` before it
 //   <S-E case W (S-E #.. P|P ..) ..>
 //                its word, and its items: each with its span, its comments, its patterns and its entries;
-//                where it falls through, `;&` stands behind those; behind the last item the comments that
+//                where it falls through, `;&` stands after those; after the last item the comments that
 //                follow it
 //   fS-E#..{..}  a function: its name, its comments and its body
 //   #S-E         a comment that is an entry
 //   ~            before an entry: it is blank
-//   &            behind an entry: it is in the background
-//   #S-E         directly behind an entry: the comment on its line
+//   &            after an entry: it is in the background
+//   #S-E         directly after an entry: the comment on its line
 //   !S-E         before a pipeline: its `!`
-//   | && ||      between operands, with `^` behind it where the join is broken, and then with its comments
-//   $S-E(..)     directly behind a word: one of its substitutions, with the entries in it
+//   | && ||      between operands, with `^` after it where the join is broken, and then with its comments
+//   $S-E(..)     directly after a word: one of its substitutions, with the entries in it
 //   fault K at O a fault by its number, and its offset
 //
 // So is a line, which is `blank` or `end` where it has no entry; then follow `to N`,
-// the offset behind it, and `, ended`.
+// the offset after it, and `, ended`.
 use shread::{Fault, Line, LineKind, Reader};
 use shtext::{Flat, Source};
 use shtree::{
@@ -65,7 +65,7 @@ fn dump_join(text: &mut String, operator: &str, join: &Join) -> Result<(), Fail>
     dump_comments(text, "", &join.comments)
 }
 
-/// Comments, each behind this text.
+/// Comments, each after this text.
 fn dump_comments(text: &mut String, before: &str, comments: &[Comment]) -> Result<(), Fail> {
     for comment in comments {
         text.push_str(before)?;
@@ -131,7 +131,7 @@ fn dump_command(text: &mut String, command: &Command) -> Result<(), Fail> {
     }
 }
 
-/// A list behind a word that tells what it is.
+/// A list after a word that tells what it is.
 #[cycle(dump)]
 fn dump_part(text: &mut String, before: &str, list: &List) -> Result<(), Fail> {
     text.push_str(before)?;
@@ -206,7 +206,7 @@ fn dump_case_item(text: &mut String, item: &CaseItem) -> Result<(), Fail> {
     Ok(())
 }
 
-/// A compound command, and the redirections behind it.
+/// A compound command, and the redirections after it.
 #[cycle(dump)]
 fn dump_compound(text: &mut String, compound: &Compound) -> Result<(), Fail> {
     let (opener, closer) = match &compound.form {

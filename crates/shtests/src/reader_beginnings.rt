@@ -94,7 +94,7 @@ fn judge_beginning(
     judge_lines(judge, &mut reader, script)
 }
 
-/// The next beginnings, which have this fault. Answers the length of the one behind them.
+/// The next beginnings, which have this fault. Answers the length of the one after them.
 fn judge_some(
     alloc: Global,
     judge: &mut Judge,

@@ -64,7 +64,7 @@ fn read_line(rt: HostRuntime) -> Result<(), Fail> {
     Ok(())
 }
 
-/// Whether the script is read as it stands there, and counted behind its first line.
+/// Whether the script is read as it stands there, and counted after its first line.
 fn reads_script(reader: &mut Reader) -> Result<bool, ReadError> {
     let script = reader.read_script(&Flat::new(TEXT))?;
     let is_whole = script.list.entries.len() == 3 && script.fault.is_none();

@@ -35,7 +35,7 @@ fn numbers(rt: HostRuntime) {
     assert!(rt; ReadError::Memory as u8 == 3);
 }
 
-/// The scripts of the table that have no fault and do not join a line behind them, a line each or more.
+/// The scripts of the table that have no fault and do not join a line after them, a line each or more.
 pub(crate) fn all_lines(alloc: Global) -> Result<Vec<u8>, Fail> {
     let mut text = Vec::new(alloc);
     for row in &rows(alloc, ROWS)? {
@@ -51,7 +51,7 @@ pub(crate) fn all_lines(alloc: Global) -> Result<Vec<u8>, Fail> {
     Ok(text)
 }
 
-/// A text between these, in pieces of some sizes, each behind first pieces of some.
+/// A text between these, in pieces of some sizes, each after first pieces of some.
 fn judge_long(alloc: Global, before: &[u8], text: &[u8], behind: &[u8]) -> Result<(), Fail> {
     let mut script = Vec::from_slice(alloc, before)?;
     script.extend_from_slice(text)?;
@@ -70,7 +70,7 @@ fn judge_long(alloc: Global, before: &[u8], text: &[u8], behind: &[u8]) -> Resul
     judge.verdict()
 }
 
-/// All lines one behind the other, in one function, in a substitution, before a fault, and as one body.
+/// All lines one after the other, in one function, in a substitution, before a fault, and as one body.
 #[test]
 fn long_pieces(rt: HostRuntime) -> Result<(), Fail> {
     let text = all_lines(rt.alloc())?;
@@ -168,8 +168,8 @@ fn random_pieces(rt: HostRuntime) -> Result<(), Fail> {
     judge_random(rt.alloc(), Edition::Y2024)
 }
 
-/// What stands before a run of bytes: a word, a word behind another, a string, a name
-/// in an expansion, blanks behind a word.
+/// What stands before a run of bytes: a word, a word after another, a string, a name
+/// in an expansion, blanks after a word.
 const BEFORE: [(&[u8], u8); 5] = [
     (b"", b'a'),
     (b"b c", b'='),
@@ -184,7 +184,7 @@ const ENDS: [&[u8]; 22] = [
     b"$d", b"`d`", b"\\d", b"\\\nd", b"}d", b"{d", b"#d", b"=d", b"\x80d", b"\0d",
 ];
 
-/// What stands behind that: more bytes than are looked at at once.
+/// What stands after that: more bytes than are looked at at once.
 const BEHIND: &[u8] = b" e\n# some more bytes than are looked at at once\nf \"$g\"\n";
 
 /// A script with a run of so many bytes is read in one piece as it is in pieces of one byte.

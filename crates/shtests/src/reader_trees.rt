@@ -10,7 +10,7 @@ use shtreetests::table::{rows, split};
 use std::alloc::Global;
 use std::test::Fail;
 
-/// Scripts, and behind those of a row their one dump.
+/// Scripts, and after those of a row their one dump.
 pub(crate) const ROWS: &[u8] = br###"
 // entries of a line
 ("", " \t", "\n", "")
@@ -143,7 +143,7 @@ pub(crate) const ROWS: &[u8] = br###"
 (">a \\\nb", "[>0-1:1-2 ^5-6]")
 (">a \\\n>b", "[>0-1:1-2 ^>5-6:6-7]")
 ("a=1 \\\n>b \\\nc=2", "[=0-3 ^>6-7:7-8 ^=11-14]")
-// behind one no word is reserved; one may be an assignment, if no word stands before it
+// after one no word is reserved; one may be an assignment, if no word stands before it
 ("a=1 >b c=2", "[=0-3 >4-5:5-6 =7-10]")
 (">a b=1 c d=2", "[>0-1:1-2 =3-6 7-8 9-12]")
 (">a if", ">a do", "[>0-1:1-2 3-5]")
@@ -156,7 +156,7 @@ pub(crate) const ROWS: &[u8] = br###"
 (">f x(", "x >f(", "fault 11 at 4")
 ("x >f (", ">f x (", "fault 11 at 5")
 ("2>f x(", "fault 11 at 5")
-// behind a compound command
+// after a compound command
 ("{ a;} >b", "{0-5 [2-3]} >6-7:7-8")
 ("{ a;}>b", "{0-5 [2-3]} >5-6:6-7")
 ("(a)<b", "(0-3 [1-2]) <3-4:4-5")
@@ -232,7 +232,7 @@ pub(crate) const ROWS: &[u8] = br###"
 ("for a in b;do <<E\nc\nE\ndone", "<0-26 for 4-5 in 9-10 do [<<14-16:16-17@18-20]>")
 ("case a in b) <<E;;\nE\nesac", "<0-25 case 5-6 (10-18 10-11 [<<13-15:15-16@19-19])>")
 ("case a in b) <<E\nE\n;;esac", "<0-25 case 5-6 (10-21 10-11 [<<13-15:15-16@17-17])>")
-// a line that ends before the delimiter, or goes on behind it, is none; a delimiter
+// a line that ends before the delimiter, or goes on after it, is none; a delimiter
 // line may end the text, and no line begins there
 ("a <<E\nEX\nE\n", "a <<E\nXE\nE\n", "a <<E\n E\nE\n", "a <<E\nE \nE\n", "a <<E\n\tE\nE\n",
     "[0-1 <<2-4:4-5@6-9]")
@@ -267,7 +267,7 @@ pub(crate) const ROWS: &[u8] = br###"
 ("<<- E\n\tE\n", "[<<-0-3:4-5@-6-6]")
 ("<< -E\n-E\n", "[<<0-2:3-5@6-6]")
 ("<<--\n-\n", "[<<-0-3:3-4@-5-5]")
-// a line behind an odd number of backslashes is none, unless a part of the delimiter is quoted
+// a line after an odd number of backslashes is none, unless a part of the delimiter is quoted
 ("<<E\na\\\nE\nE\n", "[<<0-2:2-3@4-9]")
 ("<<E\na\\\\\nE\n", "[<<0-2:2-3@4-8]")
 ("<<E\na\\\\\\\nE\nE\n", "[<<0-2:2-3@4-11]")
@@ -470,7 +470,7 @@ pub(crate) const ROWS: &[u8] = br###"
 ("for\\\n;", "fault 11 at 5")
 ("for", "fault 12 at 3")
 ("for ", "fault 12 at 4")
-// behind the name `in` or `do`, behind `;` only `do`
+// after the name `in` or `do`, after `;` only `do`
 ("for a b", "for a if", "for a done", "for a b=1", "for a (", "for a &", "for a |", "for a )", "for a 1>",
     "for a ;;", "for a {", "for a !", "fault 11 at 6")
 ("for a;in b;do c;done", "for a;b", "fault 11 at 6")
@@ -511,7 +511,7 @@ pub(crate) const ROWS: &[u8] = br###"
 ("for a in b #c\ndo d;done", "<0-23 for 4-5 in 9-10 do #11-13 [17-18]>")
 ("for a in b;#c\ndo d;done", "for a in b #c\ndo d;done", "<0-23 for 4-5 in 9-10 do #11-13 [17-18]>")
 ("for a in # b \ndo c;done", "<0-23 for 4-5 in do #9-12 [17-18]>")
-// the first entry read behind `do` is not blank, others are as they stand
+// the first entry read after `do` is not blank, others are as they stand
 ("for a #b\ndo\n\n\nc\n\nd\ndone", "<0-23 for 4-5 do #6-8 [14-15] ~[17-18]>")
 ("for a #b\n\ndo\n\n#c\n\nd;done", "<0-24 for 4-5 do #6-8 #14-16 ~[18-19]>")
 ("for a do\n\nb\n\nc\ndone", "<0-19 for 4-5 do [10-11] ~[13-14]>")
@@ -583,7 +583,7 @@ pub(crate) const ROWS: &[u8] = br###"
 ("a= f() (b)", "a b (", "a 1 (c)", "fault 11 at 4")
 ("a=1 b(", "fault 11 at 5")
 ("while()", "until()", "fault 11 at 6")
-// behind the name and `(`
+// after the name and `(`
 ("f(", "fault 12 at 2")
 ("f(a)", "a(b", "f(;", "f((", "f(\n)", "f(if)", "f(1<", "f(b=1", "f(<", "f(|", "f(&", "f({", "fault 11 at 2")
 ("f( #a", "fault 12 at 5")
@@ -648,7 +648,7 @@ pub(crate) const ROWS: &[u8] = br###"
 ("case a in b) c; d\n#e\nesac", "<0-25 case 5-6 (10-17 10-11 [13-14] [16-17] #18-20)>")
 ("case a in b) c && d | e\n esac", "<0-29 case 5-6 (10-23 10-11 [13-14]&&[18-19]|[22-23])>")
 ("case a in b) c \\\n ;\\\n esac", "<0-26 case 5-6 (10-19 10-11 [13-14])>")
-// `esac` as the first pattern ends the case, behind a `|` it is a word; no other word is reserved
+// `esac` as the first pattern ends the case, after a `|` it is a word; no other word is reserved
 ("case a in x|esac) b;; esac", "<0-26 case 5-6 (10-21 10-11|12-16 [18-19])>")
 ("case a in case) b;; (case|case) ;; esac", "<0-39 case 5-6 (10-19 10-14 [16-17]) (20-34 21-25|26-30)>")
 ("case a in in) b;; (in|in) ;; esac", "<0-33 case 5-6 (10-17 10-12 [14-15]) (18-28 19-21|22-24)>")
@@ -736,7 +736,7 @@ pub(crate) const ROWS: &[u8] = br###"
 ("a;;", "fault 11 at 1")
 ("a; ;;", "fault 11 at 3")
 ("(a;;)", "fault 11 at 2")
-// comments of its head stand before its first item, those behind a `;;` before the
+// comments of its head stand before its first item, those after a `;;` before the
 // next one; where none follows they are its tail
 ("case a #b\n# c \nin #d\n\n#e\nf) g;; esac",
     "<0-36 case 5-6 (25-31 #7-9 #10-13 #18-20 #22-24 25-26 [28-29])>")
@@ -761,7 +761,7 @@ pub(crate) const ROWS: &[u8] = br###"
 ("for a do case b in c) d;; esac done", "<0-35 for 4-5 do <9-30 case 14-15 (19-25 19-20 [22-23])>>")
 ("'case' a", "[0-6 7-8]")
 ("case a in b) if c;then d;fi esac", "<0-32 case 5-6 (10-27 10-11 <13-27 if [16-17] then [23-24]>)>")
-// behind a compound command a closing word needs no separator
+// after a compound command a closing word needs no separator
 ("{ (a) }", "{0-7 (2-5 [3-4])}")
 ("{ { a;} }", "{0-9 {2-7 [4-5]}}")
 ("{ if a;then b;fi }", "{0-18 <2-16 if [5-6] then [12-13]>}")
@@ -771,7 +771,7 @@ pub(crate) const ROWS: &[u8] = br###"
 ("while (a) do (b) done", "<0-21 while (6-9 [7-8]) do (13-16 [14-15])>")
 ("(while a;do b;done)", "(0-19 <1-18 while [7-8] do [12-13]>)")
 ("{ a|(b) }", "{0-9 [2-3]|(4-7 [5-6])}") ("{ a&&! (b) }", "{0-12 [2-3]&&!5-6(7-10 [8-9])}")
-// behind a simple command it is an argument
+// after a simple command it is an argument
 ("{ a }", "fault 12 at 5")
 ("{ a };", "fault 12 at 6")
 ("{ a } ; }", "{0-9 [2-3 4-5]}")
@@ -780,7 +780,7 @@ pub(crate) const ROWS: &[u8] = br###"
 ("while a;do b done;done", "<0-22 while [6-7] do [11-12 13-17]>")
 ("{ a=1 };}", "{0-9 [=2-5 6-7]}")
 ("(a })", "(0-5 [1-2 3-4])")
-// other tokens behind a compound command
+// other tokens after a compound command
 ("(a) b", "(a) if", "(a) {", "(a) (b", "(a) !", "(a) )", "(a) b=1", "(a) in", "(a) fi", "fault 11 at 4")
 ("(a)(b)", "(a)b", "(a))", "(a){", "(a);;", "fault 11 at 3")
 ("{ a;}b", "fault 12 at 6")
@@ -840,7 +840,7 @@ pub(crate) const ROWS: &[u8] = br###"
 ("(a\n#b", "fault 12 at 5")
 ("{ (a)", "fault 12 at 5")
 ("a\n{ b", "[0-1] fault 12 at 5")
-// comments in lists: on a line of their own, on the line of an opener, behind an entry, before a closer
+// comments in lists: on a line of their own, on the line of an opener, after an entry, before a closer
 ("{ #a\nb\n}", "{0-8 #2-4 [5-6]}")
 ("{\n#a\nb\n}", "{0-8 #2-4 [5-6]}")
 ("{ a #b\n}", "{0-8 [2-3]#4-6}")
@@ -1328,7 +1328,7 @@ pub(crate) const ROWS: &[u8] = br###"
 ("$(((1)))", "$((\\(1))", "[0-8]") ("$(((1) ))", "$((()()))", "$(((\\a)))", "$((($$)))", "$((($a)))", "[0-9]")
 ("$((((1))))", "$(((`a`)))", "[0-10]") ("$((((1)) ))", "$(((${a})))", "[0-11]") ("$((($((1)))))", "[0-13]")
 ("$(((1))", "fault 6 at 6") ("$(((1)", "fault 5 at 0") ("$((((1)))", "$((1+(2))", "fault 6 at 8")
-// arithmetic behind continuations
+// arithmetic after continuations
 ("$\\\n(\\\n(1\\\n)\\\n)", "[0-14]") ("$\\\n(\\\n(1", "$((1\\\n", "fault 5 at 0")
 ("$(\\\n(1))", "$((1\\\n))", "$((1)\\\n)", "[0-8]")
 ("$((1\\\n)", "fault 6 at 6")
@@ -1482,21 +1482,21 @@ const BYTES: &[u8] = br###"
 ("" ? " ", "\t\n ": "", "#": "#0-1", "&)|;}": "fault 11 at 0", "!({<>": "fault 12 at 2", "'": "fault 1 at 0",
     "\"": "fault 2 at 0",
   "`": "fault 3 at 0", "\\": "[0-2]", "": "[0-1]")
-// behind a reserved word
+// after a reserved word
 ("if" ? "", "\t\n (<>": "fault 12 at 3", "&)|;": "fault 11 at 2", "=": "[=0-3]", "'": "fault 1 at 2",
     "\"": "fault 2 at 2", "`": "fault 3 at 2",
   "\\": "fault 8 at 2", "": "[0-3]")
-// behind a continuation
+// after a continuation
 ("a\\\n" ? "", "\t\n ;": "[0-1]", "&": "[0-1]&", ")": "fault 11 at 3", "(|<>": "fault 12 at 4", "=": "[=0-4]",
     "'": "fault 1 at 3",
   "\"": "fault 2 at 3", "`": "fault 3 at 3", "\\": "fault 8 at 3", "": "[0-4]")
-// behind a backslash, and before a newline
+// after a backslash, and before a newline
 ("a\\" ? " b", "\n": "[0-1 ^4-5]", "": "[0-3 4-5]")
 ("a " ? "\nb", "\\": "[0-1 ^4-5]", "\t ;": "[0-1] [4-5]", "\n": "[0-1] ~[4-5]", "&": "[0-1]& [4-5]",
     "#": "[0-1]#2-3 [4-5]",
   "|": "[0-1]|^[4-5]", ")": "fault 11 at 2", "(<>": "fault 11 at 3", "'": "fault 1 at 2", "\"": "fault 2 at 2", "`": "fault 3 at 2", "": "[0-1 2-3] [4-5]")
 ("a \\" ? " b", "\n": "[0-1 ^5-6]", "": "[0-1 2-4 5-6]")
-// behind `;` and `&`
+// after `;` and `&`
 ("a;" ? "b", ";": "fault 11 at 1", "\t\n ": "[0-1] [3-4]", "#": "[0-1]#2-4", "<": "[0-1] [<2-3:3-4]",
     ">": "[0-1] [>2-3:3-4]", "&)|": "fault 11 at 2", "(": "fault 12 at 4", "'": "fault 1 at 2",
   "\"": "fault 2 at 2", "`": "fault 3 at 2", "": "[0-1] [2-4]")
@@ -1539,7 +1539,7 @@ const BYTES: &[u8] = br###"
 ("a" ? "{", "\t ": "[0-1 2-3]", "\n": "[0-1] fault 12 at 3", "&;|": "fault 12 at 3", "<": "[0-1 <1-2:2-3]",
     ">": "[0-1 >1-2:2-3]", ")": "fault 11 at 1", "(": "fault 11 at 2", "$": "fault 4 at 1",
   "'": "fault 1 at 1", "\"": "fault 2 at 1", "`": "fault 3 at 1", "=": "[=0-3]", "": "[0-3]")
-// behind a `$`, and behind `$(`
+// after a `$`, and after `$(`
 ("$" ? "", "(": "fault 7 at 0", "{": "fault 4 at 0", "\t\n ;": "[0-1]", "&": "[0-1]&", ")": "fault 11 at 1",
     "|<>": "fault 12 at 2",
   "'": "fault 1 at 1", "\"": "fault 2 at 1", "`": "fault 3 at 1", "\\": "fault 8 at 1", "": "[0-2]")
@@ -1787,7 +1787,7 @@ const DEEP: &[u8] = br###"
 ("(" * 99, "(a) $((1)) $(${b})", "fault 11 at 103")
 ("(" * 99, "(a) $(${b})", "fault 15 at 105")
 ("(" * 98, "(a) $(${b})", "fault 11 at 102")
-// a word behind a compound command is read outside of it
+// a word after a compound command is read outside of it
 ("(" * 99, "(a) \"x\"", "fault 11 at 103")
 ("(" * 99, "(a) \"${x}\"", "fault 15 at 104")
 ("(" * 98, "(a) \"${x}\"", "fault 11 at 102")

@@ -11,7 +11,7 @@ use std::alloc::Global;
 use std::process::Abort;
 use std::test::Fail;
 
-/// The second line holds each part of a script. The lines behind `# m` hold more than one of some parts, and
+/// The second line holds each part of a script. The lines after `# m` hold more than one of some parts, and
 /// more of the choices that parts have.
 const LINES: &[u8] =
     b"first # one\na=1 'b' $c d$(n # x\n) 2>e <<E; ! if f|\nk\nE\ng;then h;elif i;then :;else j;fi & case o in\n# y\n(p|v) q;; # z\nesac; i &&\n# w\nn() { j;} >o; for r in s t;do (t);done; for u do until v;do w;done;done; while x;do y;done # l\n# m\n{ n\n\no \\\n p$(q)$(r);}\ns() # t\n{ u;} && v || w | x |# y\nz | a\nb <<'C' <<-D\nc\nC\n\td\n\tD\n";

@@ -114,7 +114,7 @@ fn judge_at(
     Ok(())
 }
 
-/// Both calls, the second at each byte of the script and at some before and behind it.
+/// Both calls, the second at each byte of the script and at some before and after it.
 fn judge_list(rt: &impl Abort, script: Script, list: &List, rows: &[Row]) -> Result<(), Fail>
     requires { AreWithin (usize.MAX - BASE) (view_list list.now) }
 {
@@ -281,7 +281,7 @@ fn for_loops(rt: HostRuntime) -> Result<(), Fail> {
 }
 
 // The comments of an item stand before it. The last item has no `;;`, and the comment
-// behind it is in its body.
+// after it is in its body.
 #[test]
 fn cases(rt: HostRuntime) -> Result<(), Fail> {
     let alloc = rt.alloc();
@@ -331,7 +331,7 @@ fn functions(rt: HostRuntime) -> Result<(), Fail> {
     judge(&rt, Script { alloc, text }, &rows)
 }
 
-// The comment behind the `;;` of the last item is in no item.
+// The comment after the `;;` of the last item is in no item.
 #[test]
 fn a_comment_before_esac(rt: HostRuntime) -> Result<(), Fail> {
     let alloc = rt.alloc();
