@@ -6,7 +6,7 @@ use Rattle.shtext.specs.Edit.{spliced}
 use Rattle.shtext.proofs.Fullness.{holds_few, needed_more}
 use Rattle.shtext.proofs.Joined.{joined_edited, joined_low, joined_mono, joined_nil}
 
--- the bytes before it, and those behind it
+-- the bytes before it, and those after it
 abbrev pub head : Row (List ℕ) → ℕ → ℕ → List ℕ
 head ks from a = take (a - length (joined (take from ks))) (drop (length (joined (take from ks))) (joined ks))
 
@@ -27,7 +27,7 @@ module _ (ks : Row (List ℕ)) (from to a b : ℕ) (order : a ≤ b) (holds : Ho
       length-take-le (length (joined (take to ks)) - b) (drop b (joined ks))
       (omega (arith, rest, holds.high, joined_low to ks))
 
-  -- they are copied behind nothing
+  -- they are copied into what is empty
   pub around_made : (none seam around : List ℕ) → length none ≡ 0 → seam ≡ none ++ (head ks from a ++ tail ks to b) →
       around ≡ seam → around ≡ head ks from a ++ tail ks to b
   around_made none seam around empty copied same = same ∙ copied

@@ -1,4 +1,4 @@
--- The newlines of a stretch of a text, and the line and the column behind it.
+-- The newlines of a stretch of a text, and the line and the column after it.
 use Rattle.std.proofs.Common.{◌≡◌, ℕ, zero, suc, ◌+◌, ◌-◌, ◌<◌, ◌≤◌, Bool, true, false, List, count_by, length, take, get_or, refl, sym, ap, ◌∙◌, arith, add-zero}
 use Rattle.std.proofs.lemmas.List.Sums.{count_by_more_no, count_by_more_yes}
 use Rattle.shtext.specs.Text.{is_newline, line_of, since_newline}
@@ -15,7 +15,7 @@ still bytes s (suc n) fits none =
     let up : s + suc n ≡ s + n + 1 = omega arith in
     ap (λ m. since_newline (take m bytes)) up ∙ step.1 ∙ ap (λ m. m + 1) before ∙ omega arith
 
--- the last newline among bytes begins the line behind them
+-- the last newline among bytes begins the line after them
 pub begun : (bytes : List ℕ) (s n i : ℕ) → s + n ≤ length bytes → i < n → is_newline (get_or bytes (s + i) 0) ≡ true
     → ((k : ℕ) → i < k → k < n → is_newline (get_or bytes (s + k) 0) ≡ false)
     → since_newline (take (s + n) bytes) + (i + 1) ≡ n

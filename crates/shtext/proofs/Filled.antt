@@ -38,7 +38,7 @@ module _ (ks js : Row (List ℕ)) (from to : ℕ) (bytes : List ℕ) (is : Refil
       let count : length is.filled ≡ needed (length bytes) = is.count in
       omega (arith, all, one, two, three, four, count, order, within)
 
-  -- those behind them stay
+  -- those after them stay
   pub refilled_behind : from ≤ to → to ≤ length ks → drop (from + needed (length bytes)) js ≡ drop to ks
   refilled_behind order within =
       let three = length-take-le from ks (omega (arith, order, within)) in

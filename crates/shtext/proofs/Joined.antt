@@ -61,7 +61,7 @@ joined_around n ks k low is =
     ∙ append_assoc (joined (take n ks)) k (joined (drop (n + 1) ks))
 
 -- what fills chunks in the place of those that hold a part: what is before an edit, what it brings, and what
--- is behind it
+-- is after it
 pub joined_edited : (ks : Row (List ℕ)) (from to a b : ℕ) (new : List ℕ) → HoldsPart ks from to a b
     → joined (take from ks) ++ ((take (a - length (joined (take from ks)))
     (drop (length (joined (take from ks))) (joined ks))

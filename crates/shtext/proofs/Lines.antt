@@ -4,7 +4,7 @@ use Rattle.std.proofs.lemmas.Bool.{cases_lt}
 use Rattle.shtext.specs.Text.{IsLineStart, is_newline, line_of, column_of, since_newline}
 use Rattle.shtext.proofs.Newlines.{ends, stays, grows}
 
--- behind a place, the line or the column has moved
+-- past a place, the line or the column has moved
 apart : (bytes : List ℕ) (p k : ℕ) → p ≤ k → k < length bytes → line_of bytes p ≡ line_of bytes (k + 1) →
     column_of bytes (k + 1) ≡ 1
     → (x : Bool) → is_newline (get_or bytes k 0) ≡ x → ⊥

@@ -1,4 +1,4 @@
--- Sums behind chunks that gave way to as many: they move.
+-- Sums past chunks that gave way to as many: they move.
 use Rattle.std.proofs.Common.{zero, suc, ◌≡◌, ℕ, ◌+◌, ◌-◌, ◌<◌, ◌≤◌, List, ◌++◌, List as Row, length, take, drop, get_or, sym, ap, subst, ◌∙◌, arith, ⊎_elim}
 use Rattle.std.proofs.lemmas.Bool.{cases_lt}
 use Rattle.std.proofs.lemmas.List.{get_or-append_right, get_or_append_left, get_or-drop, get_or-take, length-drop, length-take-le}
@@ -44,7 +44,7 @@ sums_stay measure adds ks js row from to n bytes sums is order within all same c
     ∙ refilled_behind ks js from to bytes is order within))
     (sums_on measure adds ks sums to within all)
 
--- behind all chunks there are none
+-- after all chunks there are none
 pub sums_on_none : (measure : List ℕ → ℕ) (ks : Row (List ℕ)) (base : ℕ) (sums : List ℕ) (n : ℕ) → length ks ≤ n →
     SumsOn measure (drop n ks) base sums
 sums_on_none measure ks base sums n past m low = let rest = length-drop n ks in absurd (omega (arith, low, rest, past))
@@ -52,7 +52,7 @@ sums_on_none measure ks base sums n past m low = let rest = length-drop n ks in 
 module _ (measure : List ℕ → ℕ) (ks : Row (List ℕ)) (old mid : List ℕ) (to went : ℕ) (within : to ≤ length ks)
     (count : length mid ≡ length ks) (same : drop to mid ≡ old)
     (on : SumsOn measure (drop to ks) went old) where
-  -- a sum behind the place
+  -- a sum past the place
   pub sum_behind : (n : ℕ) → n < length (drop to mid) →
       get_or (drop to mid) n 0 ≡ went + measure (joined (take (n + 1) (drop to ks)))
   sum_behind n low =
@@ -76,7 +76,7 @@ module _ (measure : List ℕ → ℕ) (ks : Row (List ℕ)) (old mid : List ℕ)
         let begin = sums to (omega arith) in
         omega (arith, here, all, rest, begin, is_came)
 
-    -- all sums, once those behind have moved
+    -- all sums, once those after have moved
     pub sums_moved : (new moved : List ℕ) → new ≡ take to mid ++ moved →
         ((n : ℕ) → n < length (drop to mid) → get_or moved n 0 ≡ get_or (drop to mid) n 0 - went + came)
         → HasSums measure ks (length ks) new

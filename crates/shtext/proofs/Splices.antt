@@ -1,4 +1,4 @@
--- Splices: one more behind others, and what they make of bytes.
+-- Splices: one more after others, and what they make of bytes.
 use Rattle.std.proofs.Common.{◌≡◌, ℕ, ◌+◌, ◌-◌, ◌<◌, ◌≤◌, ◌↔◌, List, [], ◌∷◌, ◌++◌, List as Row, length, take, drop, get_or, slice_range, refl, sym, ap, subst, ◌∙◌, arith, append_assoc, add-one, drop-cons}
 use Rattle.std.proofs.lemmas.List.{length-append, length-drop, length-take-le, drop-drop, take-take, take-append-drop, take-append-le, drop-append-le, drop_at, map-append, take_more}
 use Rattle.std.proofs.Math.Seq.{take-add}
@@ -77,7 +77,7 @@ edited_with bytes from (s ∷ ss) low range rising =
     (back ∙ ap (λ l. with_splices s.b l ss) on)
     ∙ append_assoc (take from bytes) (take (s.a - from) (drop from bytes)) _
 
--- what stands behind the last of them stays
+-- what stands after the last of them stays
 pub with_behind : (from : ℕ) (bytes behind : List ℕ) (ss : Row ASplice) → AreInRange (from + length bytes) ss →
     RiseFrom from ss
     → with_splices from (bytes ++ behind) ss ≡ with_splices from bytes ss ++ behind
@@ -225,7 +225,7 @@ pub up_to : (xs : Row Splice) (n : ℕ) (d : Splice) → n < length xs
     → splices_of (take (n + 1) xs) ≡ splices_of (take n xs) ++ splices_of (get_or xs n d ∷ [])
 up_to xs n d low = ap splices_of (take_more xs n d low) ∙ map-append _ (take n xs) (get_or xs n d ∷ [])
 
--- those from one on: it, and those behind it
+-- those from one on: it, and those after it
 pub from_on : (xs : Row Splice) (n : ℕ) (d : Splice) → n < length xs
     → splices_of (drop n xs) ≡ splices_of (get_or xs n d ∷ drop (n + 1) xs)
 from_on xs n d low = rw (add-one, drop-cons xs n d low) refl

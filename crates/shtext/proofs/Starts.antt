@@ -16,7 +16,7 @@ lines_before B X k Y o is within =
     ∙ ap (λ l. X ++ l) (take-append-le o k Y within) in
     ap (λ l. 1 + count_by is_newline l) front ∙ ap (λ m. 1 + m) (lines_append X (take o k))
 
--- a line begins behind a newline of a chunk
+-- a line begins after a newline of a chunk
 pub start_behind : (B X k Y : List ℕ) (o n : ℕ) → B ≡ X ++ (k ++ Y) → 0 < o → o ≤ length k →
     is_newline (get_or k (o - 1) 0) ≡ true
     → 1 + (count_by is_newline X + count_by is_newline (take o k)) ≡ n → IsLineStart B n (Some (length X + o))
@@ -68,7 +68,7 @@ start_low B p at within column same =
     (λ (ge : p ≤ at). ge)
     (cases_lt at p)
 
--- and they are as far behind it as their columns tell
+-- and they are as far after it as their columns tell
 pub column_at : (B : List ℕ) (p at : ℕ) → at ≤ length B → column_of B p ≡ 1 → line_of B p ≡ line_of B at → p ≤ at →
     at - p + 1 ≡ column_of B at
 column_at B p at within column same low =

@@ -1,8 +1,8 @@
--- Where the line begins that goes on behind a stretch of a text.
+-- Where the line begins that goes on after a stretch of a text.
 use Rattle.std.specs.Prelude.{◌≡◌, ℕ, ◌+◌, ◌<◌, ◌≤◌, List, length, slice_index, take}
 use Rattle.shtext.specs.Text.{since_newline}
 
--- Where the line at the offset `from` begins at `start`, the one behind the stretch
+-- Where the line at the offset `from` begins at `start`, the one after the stretch
 -- that stands there begins at `begin`.
 abbrev pub BeginsLine : ℕ → ℕ → List ℕ → ℕ → Type 0
 BeginsLine from start run begin = (bytes : List ℕ) → from + length run ≤ length bytes

@@ -66,7 +66,7 @@ abbrev pub AreInRange : ℕ → Row ASplice → Type 0
 AreInRange len [] = Unit {0}
 AreInRange len (s ∷ ss) = (s.a ≤ s.b) × (s.b ≤ len) × AreInRange len ss
 
--- each begins at or behind the end of the one before
+-- each begins at or after the end of the one before
 abbrev pub RiseFrom : ℕ → Row ASplice → Type 0
 RiseFrom from [] = Unit {0}
 RiseFrom from (s ∷ ss) = (from ≤ s.a) × RiseFrom s.b ss

@@ -92,7 +92,7 @@ impl Buffer {
         self.chunks.len()
     }
 
-    /// Where a chunk begins; the length, behind the last.
+    /// Where a chunk begins; the length, after the last.
     #[inline]
     pub(crate) fn begin(&self, chunk: usize) -> usize
         requires { chunk ≤ length self.now.chunks.items }

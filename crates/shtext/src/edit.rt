@@ -21,7 +21,7 @@ use crate::sums::add_up_anew;
 use std::alloc::{AllocError, Global};
 use std::mem;
 
-/// How many spare chunks stay behind an edit: what a key that is typed wants.
+/// How many spare chunks stay after an edit: what a key that is typed wants.
 const SPARE_KEPT: usize = 1;
 
 /// The most bytes around an edit in the chunks that give way to it.
@@ -48,7 +48,7 @@ impl Buffer {
     }
 
     /// A change that makes these splices, all or none; there is at least one. Their offsets are those of the
-    /// text as it is, and they rise: each begins at or behind the end of the one before. It fits, and what
+    /// text as it is, and they rise: each begins at or after the end of the one before. It fits, and what
     /// fitted fits still; no byte of the text changes, whatever is answered.
     pub fn prepare_all(&mut self, splices: &[Splice<'_>]) -> Result<Change, TextError>
         requires { 0 < length splices.now }
@@ -200,7 +200,7 @@ impl Buffer {
         }
     }
 
-    /// Takes in the chunk behind some where what is to stand there, so many bytes without
+    /// Takes in the chunk after some where what is to stand there, so many bytes without
     /// that chunk, is little.
     fn end_taken(&self, to: usize, len: usize) -> usize
         requires { to ≤ length self.now.chunks.items }
@@ -272,7 +272,7 @@ impl Buffer {
     }
 }
 
-/// Adds what splices make of the bytes from `from` on: those before each of them, and behind the last, stay.
+/// Adds what splices make of the bytes from `from` on: those before each of them, and after the last, stay.
 fn push_with(
     from: usize,
     bytes: &[u8],
@@ -293,7 +293,7 @@ fn push_with(
 }
 
 /// Adds the bytes before a splice, of those from `from` on, and its own. The rest is answered: what
-/// stands behind it.
+/// stands after it.
 fn push_one<'a>(
     from: usize,
     bytes: &'a [u8],

@@ -8,7 +8,7 @@ use crate::buffer::Buffer;
 use crate::chunk::CHUNK;
 use crate::source::Source;
 
-/// The edited text: the buffer's bytes before the change, the new bytes, and the buffer's bytes behind it.
+/// The edited text: the buffer's bytes before the change, the new bytes, and the buffer's bytes after it.
 #[derive(Clone, Copy, Debug)]
 pub struct Edited<'a> {
     pub(crate) buffer: &'a Buffer,

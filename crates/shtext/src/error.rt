@@ -9,7 +9,7 @@ use thiserror::Error;
 /// memory.
 #[derive(Clone, Copy, Debug, PartialEq, Eq, Error)]
 pub enum TextError {
-    /// A splice begins behind its end, or ends behind the text.
+    /// A splice begins after its end, or ends past the end of the text.
     #[error("out of range")]
     Range = 1,
     /// The edited text has more bytes than a text may have.

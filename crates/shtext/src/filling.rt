@@ -5,7 +5,7 @@ ghost use Rattle.shtext.specs.Edit.{limit};
 use crate::source::Source;
 
 /// What is to stand in the chunks that give way to an edit: their bytes before it, the new
-/// ones, and their bytes behind it.
+/// ones, and their bytes after it.
 #[derive(Clone, Copy, Debug)]
 pub(crate) struct Filling<'a> {
     head: &'a [u8],
@@ -18,7 +18,7 @@ impl<'a> Filling<'a> {
     ghost use Rattle.std.specs.Prelude.{◌≡◌, ◌++◌, drop, take};
     ghost use Rattle.shtext.specs.Buffer.{filling_bytes};
 
-    /// The new bytes, with so many of some others before them, and the rest of those behind.
+    /// The new bytes, with so many of some others before them, and the rest of those after.
     pub(crate) fn new(around: &'a [u8], head: usize, new: &'a [u8]) -> Filling<'a>
         requires within { head ≤ length around.now }
         requires small { length around.now + length new.now ≤ limit }

@@ -7,7 +7,7 @@ use crate::count::newlines_in;
 use crate::source::Source;
 use memchr::memrchr;
 
-/// Where the line begins that goes on behind a stretch at an offset: behind its last
+/// Where the line begins that goes on after a stretch at an offset: after its last
 /// newline, or where the line before it began.
 fn line_begin(run: &[u8], from: usize, start: usize) -> usize
     requires { from + length run.now < 2 ^ 64 }

@@ -24,7 +24,7 @@ impl Buffer {
         sum_before(&self.lines, index) + before + 1
     }
 
-    /// The offset at which a line begins. There is none for 0, nor behind the last
+    /// The offset at which a line begins. There is none for 0, nor after the last
     /// line: a text has a line more than newlines. It looks into one chunk.
     pub fn line_start(&self, n: usize) -> Option<usize>
         ensures { IsLineStart (buffer_bytes self.now) n result }
@@ -59,7 +59,7 @@ impl Buffer {
     }
 }
 
-/// The place behind the newline that so many come before.
+/// The place after the newline that so many come before.
 fn behind_newline(bytes: &[u8], count: usize) -> usize
     requires { count < count_by is_newline bytes.now }
     ensures some { 0 < result }

@@ -52,7 +52,7 @@ pub(crate) fn to_place<T>(row: &mut Vec<T>, at: usize, count: usize)
     row[at..].rotate_right(count);
 }
 
-/// Moves the items from a place on behind others, for which there is room, the last one first.
+/// Moves the items from a place on to the end of others, for which there is room, the last one first.
 fn pour<T: Drop>(of: &mut Vec<T>, kept: usize, into: &mut Vec<T>)
     requires within { kept ≤ vec_len of.old }
     requires room { vec_len into.old + (vec_len of.old - kept) ≤ vec_capacity into.old }

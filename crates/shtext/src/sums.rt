@@ -38,7 +38,7 @@ pub(crate) fn place_near(sums: &[usize], guess: usize, at: usize) -> usize
     place_behind(sums, guess, at)
 }
 
-/// The place at which the sum passes a number, at another place or behind it: near that, or else anywhere.
+/// The place at which the sum passes a number, at another place or after it: near that, or else anywhere.
 fn place_behind(sums: &[usize], from: usize, at: usize) -> usize
     requires high { at < before sums.now (length sums.now) }
     requires within { from < length sums.now }
@@ -77,7 +77,7 @@ pub(crate) fn place_of(sums: &[usize], at: usize) -> usize
 }
 
 /// Adds the sums up where so many other chunks stand in the place of those from `from` up to `to`, and
-/// moves those behind by what came and went before them. It takes no memory.
+/// moves those after by what came and went before them. It takes no memory.
 pub(crate) fn add_up_anew(
     chunks: &[Chunk],
     from: usize,
@@ -142,7 +142,7 @@ fn push_zeros(into: &mut Vec<usize>, count: usize)
     }
 }
 
-/// Adds the sums up of the chunks from `from` up to `to`, and moves those behind, which have so much
+/// Adds the sums up of the chunks from `from` up to `to`, and moves those after, which have so much
 /// before them.
 fn add_up_between(
     chunks: &[Chunk],
