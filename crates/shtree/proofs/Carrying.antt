@@ -70,7 +70,7 @@ module _ (f h : Span → Span) where
   substs_carried [] = refl
   substs_carried (x ∷ xs) = rw (substs_carried xs) refl
 
--- one list behind another
+-- one list after another
 pub lists_appended : (es ls : Row Entry) →
     entries_of (map view_entry (es ++ ls)) ≡ appended (entries_of (map view_entry es)) (entries_of (map view_entry ls))
 lists_appended es ls = ap entries_of (map-append view_entry es ls)

@@ -44,7 +44,7 @@ begins_self ns = take-length ns
 begins_within : (first ns : Row NodeLine) → take (length first) ns ≡ first → length first ≤ length ns
 begins_within first ns h = omega (arith, length-take (length first) ns, ap length h)
 
--- nodes more behind them
+-- nodes more after them
 pub begins_more : (first ns ms : Row NodeLine) → Begins first ns → Begins first (ns ++ ms)
 unfolding Begins
 begins_more first ns ms h = take-append-le (length first) ns ms (begins_within first ns h) ∙ h

@@ -1,4 +1,4 @@
--- Nodes behind others: what stands there, and what does once it is written anew.
+-- Nodes after others: what stands there, and what does once it is written anew.
 use Rattle.std.proofs.Common.{◌≡◌, ℕ, ◌-◌, List as Row, [], ◌++◌, length, take, drop, refl, ap, arith}
 use Rattle.std.specs.List.{slice_range}
 use Rattle.std.proofs.Math.ListN.{drop_of_length-le}

@@ -1,7 +1,7 @@
 //! The tree of a script of the POSIX shell, and what is asked of it: what an editor asks for, and a test.
 //!
 //! Its types are those of `shast`, which come with it: [`List`] is the row of commands that a script is.
-//! [`outline_of`] and [`nodes_at`] tell what stands where, [`append_at`] puts a list behind another;
+//! [`outline_of`] and [`nodes_at`] tell what stands where, [`append_at`] puts a list after another;
 //! [`is_normal`] tells whether a list is in normal form, as each is that was read.
 #![tactic(auto)]
 

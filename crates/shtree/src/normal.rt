@@ -89,7 +89,7 @@ fn are_normal(entries: &[Entry]) -> bool
     true
 }
 
-/// A comment on a line of its own is not in the background, and no other one stands behind it.
+/// A comment on a line of its own is not in the background, and no other one stands after it.
 #[cycle(normal)]
 fn is_normal_entry(entry: &Entry) -> bool
     ensures { result ≡ is_normal_entry (view_entry entry.now) }

@@ -51,7 +51,7 @@ fn add_comment<W: Wanted>(
     )
 }
 
-/// The comment behind a command on its line, where there is one.
+/// The comment after a command on its line, where there is one.
 fn add_own_comment<W: Wanted>(
     comment: &Option<Comment>,
     wanted: W,
