@@ -7,6 +7,6 @@ unfoldable pub times : ℕ → List ℕ → List ℕ
 times zero text = []
 times (suc n) text = times n text ++ text
 
--- the text as often as the number behind it says: once where there is none
+-- the text as often as the number after it says: once where there is none
 abbrev pub cell_text : Cell → List ℕ
 cell_text cell = times (max cell.number 1) cell.bytes.items

@@ -5,7 +5,7 @@ ghost use Rattle.shtreetests.specs.Cells.{cell_text};
 
 use std::alloc::{AllocError, Global};
 
-/// A text of a row, and the number behind it, or 0.
+/// A text of a row, and the number after it, or 0.
 #[derive(Drop)]
 pub struct Cell {
     pub bytes: Vec<u8>,

@@ -14,7 +14,7 @@ pub struct InPieces<'a> {
 }
 
 impl<'a> InPieces<'a> {
-    /// These bytes, cut behind so many and then behind each `more + 1`.
+    /// These bytes, cut after so many and then after each `more + 1`.
     pub fn cut(bytes: &'a [u8], first: usize, more: u16) -> InPieces<'a> {
         InPieces {
             bytes,

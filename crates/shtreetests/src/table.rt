@@ -1,7 +1,7 @@
 //! Tables of rows. A table is one text, which a check passes over: an array would take it minutes.
 //!
 //! A row stands in round brackets, as `("a\n" * 10, "[0-1]")`. Its cells are texts with escapes
-//! as in Rust; a number behind a text belongs to it. Between rows a comment begins with `//` and
+//! as in Rust; a number after a text belongs to it. Between rows a comment begins with `//` and
 //! ends with its line. Other marks are for the eye alone.
 use crate::cell::Cell;
 use std::alloc::Global;
@@ -15,11 +15,11 @@ enum State {
     Outside,
     /// Inside a text.
     Inside,
-    /// Behind a backslash.
+    /// After a backslash.
     Escaped,
-    /// Behind `\x`.
+    /// After `\x`.
     First,
-    /// Behind `\x` and a digit of this value.
+    /// After `\x` and a digit of this value.
     Second(u8),
 }
 
@@ -32,7 +32,7 @@ fn digit(byte: u8) -> u8 {
     }
 }
 
-/// The state behind a byte.
+/// The state after a byte.
 fn behind(state: State, byte: u8) -> State {
     match state {
         State::Comment if byte != b'\n' => State::Comment,

@@ -52,7 +52,7 @@ impl<'a> Documents<'a> {
         Ok(branch_of(self.list(condition)?, self.list(body)?))
     }
 
-    /// A compound command with a document behind it.
+    /// A compound command with a document after it.
     fn compound(self, form: Form, name: &str) -> Result<Compound, AllocError> {
         Ok(compound_of(form, self.script.at("A"), self.redirects(name)?))
     }
@@ -70,7 +70,7 @@ impl<'a> Documents<'a> {
         Ok(case_of(script.word("A"), items, Vec::new(alloc)))
     }
 
-    /// Forms that hold lists, each with a document behind it.
+    /// Forms that hold lists, each with a document after it.
     fn forms(self) -> Result<Vec<Command>, AllocError> {
         let script = self.script;
         let mut commands = Vec::new(script.alloc);

@@ -359,7 +359,7 @@ fn a_list_in_each_place(rt: HostRuntime) -> Result<(), Fail> {
     Ok(())
 }
 
-/// A comment, and behind it a blank command in the background with a comment of its own.
+/// A comment, and after it a blank command in the background with a comment of its own.
 fn behind_a_remark(alloc: Global) -> Result<List, AllocError> {
     let script = script(alloc);
     let mut list = script.remark("")?;
@@ -460,7 +460,7 @@ fn the_first_word_of_a_for(rt: HostRuntime) -> Result<(), Fail> {
     Ok(())
 }
 
-/// A function with a comment before its body, behind which a first redirection is broken.
+/// A function with a comment before its body, after which a first redirection is broken.
 fn function(alloc: Global) -> Result<Command, AllocError> {
     let script = script(alloc);
     let mut body = script.formed(Form::Brace(run(alloc)?), "");
@@ -488,7 +488,7 @@ fn case_without_pattern(alloc: Global) -> Result<Command, AllocError> {
     script.compound(case_form(alloc, script.word(""), script.cases(item)?), "")
 }
 
-/// A `for` with no word behind its `in`.
+/// A `for` with no word after its `in`.
 fn for_without_word(alloc: Global) -> Result<Command, AllocError> {
     let script = script(alloc);
     let form = Form::For {
