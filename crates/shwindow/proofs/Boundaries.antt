@@ -21,7 +21,7 @@ module _ {K : Type 0} (Is : List ℕ → HeldLine K → Type 0) (laws : Reads Is
   boundary_within B _ at_start = omega arith
   boundary_within B _ (behind {p = p} {l = l} at is e) = line_within B p l (boundary_within B p at) is e
 
-  -- no boundary lies inside a line: the next one is behind it, and only if it ended
+  -- no boundary lies inside a line: the next one is after it, and only if it ended
   gap_by : (B : List ℕ) (n p s : ℕ) (l : HeldLine K) → p + s < n → IsBoundary Is B p → IsBoundary Is B s → p < s →
       Is (drop p B) l → (l.ended ≡ true) × (p + l.len ≤ s)
   gap_by B zero p s l low at_p at_s lt is = absurd (omega arith)

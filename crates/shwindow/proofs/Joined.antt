@@ -104,7 +104,8 @@ joined_last n ks k more last is =
 
 -- ---- places
 
-pub place_split : {X : Type 0} (ks : Row (Row X)) (p : BlockPlace) → lines_before ks p ++ lines_from ks p ≡ in_one_row ks
+pub place_split : {X : Type 0} (ks : Row (Row X)) (p : BlockPlace) →
+    lines_before ks p ++ lines_from ks p ≡ in_one_row ks
 place_split ks p =
     append_assoc (in_one_row (take p.block ks)) (take p.line (block_at ks p.block)) (lines_from ks p)
     ∙ ap (λ x. in_one_row (take p.block ks) ++ x) (
@@ -121,7 +122,7 @@ pub place_line : {X : Type 0} (ks : Row (Row X)) (p : BlockPlace) → IsPlace ks
 place_line ks p place some = ⊎_elim (λ (lt : 0 < p.line). place.line lt) (λ (le : p.line ≤ 0). omega (arith, some, le))
     (cases_lt 0 p.line)
 
--- a place behind the first line of a block stands in a block
+-- a place after the first line of a block stands in a block
 pub place_block : {X : Type 0} (ks : Row (Row X)) (p : BlockPlace) → IsPlace ks p → 0 < p.line → p.block < length ks
 place_block ks p place some =
     ⊎_elim (λ (lt : p.block < length ks). lt)
@@ -129,7 +130,7 @@ place_block ks p place some =
     let within = place.line some in absurd (omega (arith, none, within)))
     (cases_lt p.block (length ks))
 
--- the line at a place, and those behind it
+-- the line at a place, and those after it
 pub from_line : {X : Type 0} (ks : Row (Row X)) (p : BlockPlace) (d : X) → p.line < length (block_at ks p.block)
     → lines_from ks p ≡ get_or (block_at ks p.block) p.line d
     ∷ (drop (p.line + 1) (block_at ks p.block) ++ in_one_row (drop (p.block + 1) ks))
@@ -175,7 +176,7 @@ pub by_last : {X : Type 0} (ks : Row (Row X)) (p : BlockPlace) (last : X) → li
 by_last ks p last from = ap (λ x. x ++ last ∷ [])
     (sym (place_split ks p) ∙ ap (λ x. lines_before ks p ++ x) from ∙ append-nil (lines_before ks p))
 
--- the place behind a line, in its block and in the next one
+-- the place after a line, in its block and in the next one
 drop_some : {X : Type 0} (xs : Row X) (n : ℕ) → n < length xs → (x : X) × (drop n xs ≡ x ∷ drop (n + 1) xs)
 drop_some [] n low = absurd (omega arith)
 drop_some (x ∷ xs) n low = (
@@ -235,7 +236,8 @@ cut_joined ks p k l low before behind new is =
     )
 
 -- no line changes
-pub cut_all : {X : Type 0} (ks new : Row (Row X)) (p : BlockPlace) (n : ℕ) → in_one_row (take n new) ≡ lines_before ks p →
+pub cut_all : {X : Type 0} (ks new : Row (Row X)) (p : BlockPlace) (n : ℕ) → in_one_row (take n new) ≡ lines_before ks p
+    →
     in_one_row (drop n new) ≡ lines_from ks p → in_one_row new ≡ in_one_row ks
 cut_all ks new p n before from = sym (joined_split n new) ∙ ap (λ x. x ++ in_one_row (drop n new)) before
     ∙ ap (λ x. lines_before ks p ++ x) from ∙ place_split ks p
@@ -244,7 +246,7 @@ cut_all ks new p n before from = sym (joined_split n new) ∙ ap (λ x. x ++ in_
 pub front_same : {X : Type 0} (ks new : Row (Row X)) (m n : ℕ) → m ≤ n → take n new ≡ take n ks → take m new ≡ take m ks
 front_same ks new m n low same = sym (take-take m n new low) ∙ ap (take m) same ∙ take-take m n ks low
 
--- the block behind a block is taken out
+-- the block after a block is taken out
 pub taken_out : {X : Type 0} (ks rs : Row (Row X)) (n : ℕ) → n + 1 < length ks →
     rs ≡ take (n + 1) ks ++ drop (suc (n + 1)) ks
     → (take (n + 1) rs ≡ take (n + 1) ks) × (drop (n + 1) rs ≡ drop ((n + 1) + 1) ks) × (n < length rs)
@@ -261,7 +263,7 @@ taken_out ks rs n low is =
           ∙ get_or-take (n + 1) ks n [] (omega arith),
     )
 
--- and its lines are put behind those of the other, or it is put back: no line changes
+-- and its lines are put after those of the other, or it is put back: no line changes
 pub merged : {X : Type 0} (ks rs : Row (Row X)) (n : ℕ) (k : Row X) → n + 1 < length ks →
     rs ≡ take (n + 1) ks ++ drop (suc (n + 1)) ks → k ≡ block_at ks n ++ block_at ks (n + 1) →
     in_one_row (set rs n k) ≡ in_one_row ks
@@ -324,7 +326,8 @@ between_joined ks p to new k low is =
 -- ---- bytes of lines in blocks
 
 -- those of the block then are among all
-pub extent_between_blocks : {K : Type 0} (ks : Row (Row (HeldLine K))) (p : BlockPlace) (to : ℕ) (new : Row (HeldLine K))
+pub extent_between_blocks : {K : Type 0} (ks : Row (Row (HeldLine K))) (p : BlockPlace) (to : ℕ)
+    (new : Row (HeldLine K))
     → extent (take p.line (block_at ks p.block) ++ (new ++ drop to (block_at ks p.block))) ≤ extent
     (lines_before ks p ++ (new ++ lines_from ks (in_block p to)))
 extent_between_blocks ks p to new =
@@ -358,15 +361,16 @@ pub extent_no_blocks : (K : Type 0) → extent {K = K} (in_one_row []) ≡ 0
 unfolding in_one_row
 extent_no_blocks K = extent_none K
 
--- A place was found for an offset: the first line that ends behind it.
+-- A place was found for an offset: the first line that ends after it.
 pub record Found {K : Type 0} (ks : Row (Row (HeldLine K))) (at : ℕ) (p : BlockPlace) (begin : ℕ) : Type 0 where
   pub place : IsPlace ks p
   pub begin_is : begin ≡ extent (lines_before ks p)
   pub low : begin ≤ at
   pub past : (h : HeldLine K) (hs : Row (HeldLine K)) → lines_from ks p ≡ h ∷ hs → at < begin + h.len
 
--- what was found in the block with a line that ends behind it
-found_at : {K : Type 0} (ks : Row (Row (HeldLine K))) (at : ℕ) (p : BlockPlace) (before begin : ℕ) → p.block < length ks →
+-- what was found in the block with a line that ends after it
+found_at : {K : Type 0} (ks : Row (Row (HeldLine K))) (at : ℕ) (p : BlockPlace) (before begin : ℕ) → p.block < length ks
+    →
     before ≡ extent (in_one_row (take p.block ks)) → p.line < length (block_at ks p.block)
     → begin ≡ before + extent (take p.line (block_at ks p.block)) → begin ≤ at →
     at < before + extent (take (p.line + 1) (block_at ks p.block)) → Found ks at p begin
@@ -386,7 +390,8 @@ found_at ks at p before begin low is within begins high past = record {
       omega (arith, past, begins, more);
 }
 
-pub found_in : {K : Type 0} (ks : Row (Row (HeldLine K))) (at : ℕ) (p : BlockPlace) (k : Row (HeldLine K)) (before begin : ℕ)
+pub found_in : {K : Type 0} (ks : Row (Row (HeldLine K))) (at : ℕ) (p : BlockPlace) (k : Row (HeldLine K))
+    (before begin : ℕ)
     → p.block < length ks → k ≡ block_at ks p.block → before ≡ extent (in_one_row (take p.block ks)) →
     at < before + extent k
     → p.line ≤ length k → begin ≡ before + extent (take p.line k) → begin ≤ at →

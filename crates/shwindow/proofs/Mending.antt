@@ -15,7 +15,8 @@ use Rattle.shwindow.proofs.Steps.{begins_here}
 use Rattle.shwindow.proofs.Windows.{begins_only, front_stays, window_only}
 
 -- all lines are those before a place and those from it on
-pub cut_split : {K : Type 0} (ks : Row (Row (HeldLine K))) (p : BlockPlace) (last : HeldLine K) (hs left : Row (HeldLine K))
+pub cut_split : {K : Type 0} (ks : Row (Row (HeldLine K))) (p : BlockPlace) (last : HeldLine K)
+    (hs left : Row (HeldLine K))
     → in_one_row ks ++ last ∷ [] ≡ hs → left ≡ lines_from ks p ++ last ∷ [] → hs ≡ lines_before ks p ++ left
 cut_split ks p last hs left all is =
     sym all
@@ -23,7 +24,7 @@ cut_split ks p last hs left all is =
     ∙ append_assoc (lines_before ks p) (lines_from ks p) (last ∷ [])
     ∙ ap (λ x. lines_before ks p ++ x) (sym is)
 
--- the first line behind the cut ends past a, if it ended
+-- the first line after the cut ends past a, if it ended
 past_first : {K : Type 0} (Is : List ℕ → HeldLine K → Type 0) (a begin : ℕ) (xs : Row (HeldLine K)) (last : HeldLine K)
     → ((h : HeldLine K) (hs : Row (HeldLine K)) → xs ≡ h ∷ hs → a < begin + h.len)
     → (T : List ℕ) (h : HeldLine K) (hs : Row (HeldLine K)) → h ∷ hs ≡ xs ++ last ∷ [] → IsRow Is T (h ∷ hs) →

@@ -1,4 +1,4 @@
--- Places among lines in blocks, one behind the other.
+-- Places among lines in blocks, one after the other.
 use Rattle.std.proofs.Common.{◌≡◌, ℕ, ◌+◌, ◌<◌, ◌≤◌, [], ◌++◌, List as Row, length, take, drop, sym, ap, subst, ◌∙◌, ⊎_elim, arith}
 use Rattle.std.proofs.lemmas.Bool.{cases_lt}
 use Rattle.std.proofs.lemmas.List.{drop_all, get_or_past, get_or-take, take-take}
@@ -23,7 +23,7 @@ not_behind_more p q r one two = record {
       omega arith;
 }
 
--- no place is behind that behind all blocks
+-- no place is past the one after all blocks
 pub not_behind_end : {X : Type 0} (ks : Row (Row X)) (p q : BlockPlace) → IsPlace ks p → q.block ≡ length ks →
     IsNotBehind p q
 not_behind_end ks p q place is = record {
@@ -34,7 +34,7 @@ not_behind_end ks p q place is = record {
       (λ (first : p.line ≤ 0). omega (arith, first)) (cases_lt 0 p.line);
 }
 
--- the lines from the place behind the last line of a block on are those of the next blocks
+-- the lines from the place after the last line of a block on are those of the next blocks
 pub from_next : {X : Type 0} (ks : Row (Row X)) (p q : BlockPlace) (n : ℕ) → q.block ≡ p.block + 1 → q.line ≡ 0 →
     n ≡ length (block_at ks p.block) → lines_from ks (in_block p n) ≡ lines_from ks q
 from_next ks p q n block line is =
@@ -45,7 +45,7 @@ from_next ks p q n block line is =
 
 -- ---- blocks that are cut at one place, and hold another place before it
 
--- the block of a place that is not behind the cut has the same lines up to it
+-- the block of a place that is not after the cut has the same lines up to it
 module _ {X : Type 0} (ks new : Row (Row X)) (p q : BlockPlace) (order : IsNotBehind p q)
     (front : take q.block new ≡ take q.block ks)
     (head : take q.line (block_at new q.block) ≡ take q.line (block_at ks q.block)) where

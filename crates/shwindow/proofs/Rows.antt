@@ -4,7 +4,7 @@ use Rattle.std.proofs.lemmas.List.{length-append, length-drop, length-take-le, d
 use Rattle.shwindow.specs.declared.line.HeldLine.{HeldLine}
 use Rattle.shwindow.specs.Lines.{Reads, extent, IsRow, last_line, more_lines, IsBoundary, behind}
 
--- the bytes of lines, behind others and with one more
+-- the bytes of lines, after others and with one more
 pub extent_append : {K : Type 0} (xs ys : Row (HeldLine K)) → extent (xs ++ ys) ≡ extent xs + extent ys
 unfolding extent
 extent_append [] ys = omega arith
@@ -80,7 +80,7 @@ extent_read_of {K = K} n items hs h same =
     extent (take (n + 1) hs) ≡ extent (take n hs) + h.len) (sym same) (extent_read n hs h)
 
 module _ {K : Type 0} (Is : List ℕ → HeldLine K → Type 0) where
-  -- a row has a first line, and a row behind it where that ended; it did, if another follows
+  -- a row has a first line, and a row after it where that ended; it did, if another follows
   pub row_some : (T : List ℕ) (hs : Row (HeldLine K)) → IsRow Is T hs → hs ≡ [] → ⊥
   row_some T _ (last_line is e whole) none = absurd cc
   row_some T _ (more_lines is e row) none = absurd cc

@@ -33,7 +33,7 @@ module _ {K : Type 0} (Is : List ℕ → HeldLine K → Type 0) (laws : Reads Is
     walk = walk_below (suc (length B)) 0 (omega arith)
 
   module _ (B : List ℕ) where
-    -- behind the begin of a line the next boundary is its end, and there is none if it did not end
+    -- after the begin of a line the next boundary is its end, and there is none if it did not end
     none_behind : (p s : ℕ) (l : HeldLine K) → IsBoundary Is B p → IsBoundary Is B s → Is (drop p B) l
         → l.ended ≡ false → s ≤ p
     none_behind p s l at there is not_ended =
@@ -98,7 +98,7 @@ module _ {K : Type 0} (Is : List ℕ → HeldLine K → Type 0) (laws : Reads Is
         (is_boundary B old (b + (q - e))))
         (cases_lt q e)
 
-    -- where p is none, and none is before p, each is behind p
+    -- where p is none, and none is before p, each is after p
     each_behind : (p s : ℕ) → (IsShared Is B U e b p → ⊥) → IsShared Is B U e b s → p ≤ s → p < s
     each_behind p s none m low =
         ⊎_elim (λ (less : p < s). less)

@@ -13,7 +13,7 @@ module _ (B : List ℕ) (a b : ℕ) (R : List ℕ) (order : a ≤ b) (within : b
       let long : length (take a B) ≡ a = length-take-le a B (omega arith) in
       take-append-le a (take a B) (R ++ drop b B) (omega arith) ∙ take-take a a B (omega arith)
 
-  -- those behind the edit
+  -- those after the edit
   splice_back : (d : ℕ) → drop (a + length R + d) (spliced B a b R) ≡ drop (b + d) B
   splice_back d =
       sym (drop-drop d (a + length R) (spliced B a b R))
@@ -22,7 +22,7 @@ module _ (B : List ℕ) (a b : ℕ) (R : List ℕ) (order : a ≤ b) (within : b
       ∙ drop_at R (drop b B) (length R) refl)
       ∙ drop-drop d b B
 
-  -- one replacement leaves what is before it and behind it
+  -- one replacement leaves what is before it and after it
   pub splice_apart : Apart B (spliced B a b R) a (a + length R) b
   splice_apart = record { low = omega arith; order = order; front = splice_front; back = splice_back }
 

@@ -9,7 +9,7 @@ use Rattle.shwindow.specs.Window.{Apart, Begins, IsShared, Ends, meets, never}
 use Rattle.shwindow.proofs.Boundaries.{gap, boundary_stays, boundary_within}
 use Rattle.shwindow.proofs.Rows.{extent_push, row_at, row_extent, row_head, row_some}
 
--- lines begin at o or behind it, if there are any
+-- lines begin at o or after it, if there are any
 abbrev pub Past : {K : Type 0} → ℕ → ℕ → Row (HeldLine K) → Type 0
 Past o p hs = (hs ≡ [] → ⊥) → o ≤ p
 
@@ -38,7 +38,7 @@ module _ {K : Type 0} (Is : List ℕ → HeldLine K → Type 0) (B U : List ℕ)
 module _ {K : Type 0} (Is : List ℕ → HeldLine K → Type 0) (laws : Reads Is) (B : List ℕ) where
   -- ---- where the window begins
 
-  -- behind lines that end at or before a, at a line that did not end or ends past a
+  -- after lines that end at or before a, at a line that did not end or ends past a
   pub begins_here : (a : ℕ) (kept : Row (HeldLine K)) (h : HeldLine K) (hs : Row (HeldLine K)) →
       IsRow Is B (kept ++ h ∷ hs) → extent kept ≤ a → (h.ended ≡ true → a < extent kept + h.len)
       → Begins Is B a (extent kept)
@@ -136,7 +136,7 @@ module _ {K : Type 0} (Is : List ℕ → HeldLine K → Type 0) (laws : Reads Is
   going_passed w read q p _ r ks g (one_passed {h = h} {hs = hs} lt rest) =
       going_passed w read q (p + h.len) hs r ks (going_past w read q p h hs g lt) rest
 
-  -- then each shared boundary is behind the line at q, which ended
+  -- then each shared boundary is after the line at q, which ended
   beyond : (w : ℕ) (read : Row (HeldLine K)) (q p : ℕ) (hs : Row (HeldLine K)) (l : HeldLine K) →
       Going Is B U a e b w read q p hs → Past (b + (q - e)) p hs → NotMet e b q p hs → Is (drop q U) l
       → (s : ℕ) → IsShared Is B U e b s → (l.ended ≡ true) × (q + l.len ≤ s)

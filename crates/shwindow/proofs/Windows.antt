@@ -41,19 +41,19 @@ module _ {K : Type 0} (Is : List ℕ → HeldLine K → Type 0) (laws : Reads Is
   pub window_order : (w t : ℕ) → IsWindow Is B U a e b w t → (w ≤ t) × (t ≤ length U)
   window_order w t x = ends_high w t x.begins x.ends
 
-  -- behind a shared boundary the texts are the same
+  -- after a shared boundary the texts are the same
   pub shared_text : (q : ℕ) → IsShared Is B U e b q → drop q U ≡ drop (b + (q - e)) B
   shared_text q m =
       let past = m.past in
       let here : q ≡ e + (q - e) = omega arith in
       ap (λ x. drop x U) here ∙ apart.back (q - e)
 
-  -- so the lines behind it are the old ones
+  -- so the lines after it are the old ones
   pub shared_rows : (q : ℕ) (hs : Row (HeldLine K)) → IsShared Is B U e b q → IsRow Is (drop (b + (q - e)) B) hs →
       IsRow Is (drop q U) hs
   shared_rows q hs m row = subst (λ T. IsRow Is T hs) (sym (shared_text q m)) row
 
-  -- lines that end at or before a lead to what the new text has behind them
+  -- lines that end at or before a lead to what the new text has after them
   pub front_stays : (p : ℕ) (kept : Row (HeldLine K)) (h : HeldLine K) (hs ms : Row (HeldLine K)) →
       IsRow Is (drop p B) (kept ++ h ∷ hs) → p + extent kept ≤ a → IsRow Is (drop (p + extent kept) U) ms
       → IsRow Is (drop p U) (kept ++ ms)

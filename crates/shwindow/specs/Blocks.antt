@@ -18,7 +18,7 @@ lines_before ks p = in_one_row (take p.block ks) ++ take p.line (block_at ks p.b
 abbrev pub lines_from : {X : Type 0} → Row (Row X) → BlockPlace → Row X
 lines_from ks p = drop p.line (block_at ks p.block) ++ in_one_row (drop (p.block + 1) ks)
 
--- a line stands there, or it is behind all of them
+-- a line stands there, or it is after all of them
 pub record IsPlace {X : Type 0} (ks : Row (Row X)) (p : BlockPlace) : Type 0 where
   pub block : p.block ≤ length ks
   pub line : 0 < p.line → p.line < length (block_at ks p.block)

@@ -5,7 +5,7 @@ use Rattle.shwindow.specs.Meter.{RoseWithin, risen}
 use Rattle.shwindow.specs.Window.{Apart, IsWindow}
 use Rattle.shwindow.specs.declared.line.HeldLine.{HeldLine}
 
--- a line of these begins at an offset that is not behind another, and ends behind that if it ended
+-- a line of these begins at an offset that is not after another, and ends after that if it ended
 pub record HasLineAt {K : Type 0} (hs : Row (HeldLine K)) (at : ℕ) (h : HeldLine K) (begin : ℕ) : Type 0 where
   pub before : Row (HeldLine K)
   pub behind : Row (HeldLine K)

@@ -38,7 +38,7 @@ module _ {K : Type 0} (Is : List ℕ → HeldLine K → Type 0) where
   abbrev pub SomeWindow : Type 0
   SomeWindow = (B U : List ℕ) (a e b : ℕ) → (w t : ℕ) × IsWindow Is B U a e b w t
 
-  -- it ends where it begins or behind that
+  -- it ends where it begins or after that
   abbrev pub WindowOrder : Type 0
   WindowOrder = (B U : List ℕ) (a e b w t : ℕ) → Apart B U a e b → IsWindow Is B U a e b w t → (w ≤ t) × (t ≤ length U)
 

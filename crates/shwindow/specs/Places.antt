@@ -12,7 +12,7 @@ pub record IsNotBehind (p q : BlockPlace) : Type 0 where
 abbrev pub in_block : BlockPlace → ℕ → BlockPlace
 in_block p n = record { block = p.block; line = n }
 
--- the lines of a block from a place up to a line give way, which may be all that stand behind the place
+-- the lines of a block from a place up to a line give way, which may be all that stand after the place
 pub record GivesWay {X : Type 0} (ks : Row (Row X)) (p : BlockPlace) (to : ℕ) : Type 0 where
   pub block : p.block < length ks
   pub order : p.line ≤ to

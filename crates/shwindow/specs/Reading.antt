@@ -8,7 +8,7 @@ use Rattle.shwindow.specs.declared.lines.Lines.{Lines}
 use Rattle.shwindow.specs.declared.window.Window.{Window}
 
 -- An edit makes U of B; what stands before a stays. The old lines from w on, which is
--- not behind a, are these.
+-- not after a, are these.
 pub record IsBegun {K : Type 0} (Is : List ℕ → HeldLine K → Type 0) (B U : List ℕ) (a e b w : ℕ)
     (hs : Row (HeldLine K)) : Type 0 where
   pub apart : Apart B U a e b

@@ -145,7 +145,7 @@ impl<K: Drop> Block<K> {
         Ok(())
     }
 
-    /// The first line that ends behind an offset, and where it begins; the place behind the lines and where
+    /// The first line that ends after an offset, and where it begins; the place after the lines and where
     /// that is, if none does. The block begins at another offset.
     pub(crate) fn find(&self, begin: usize, at: usize) -> (usize, usize)
         requires low { begin ≤ at }

@@ -56,7 +56,7 @@ impl<K: Drop> Blocks<K> {
         }
     }
 
-    /// The line at a place; none behind all of them.
+    /// The line at a place; none after all of them.
     pub(crate) fn line(&self, place: BlockPlace) -> Option<&HeldLine<K>>
         requires { IsPlace self.now.blocks.items place }
         ensures { option_map (λ line. line.now) result
@@ -70,7 +70,7 @@ impl<K: Drop> Blocks<K> {
         Some(&lines[place.line])
     }
 
-    /// The place behind a line.
+    /// The place after a line.
     pub(crate) fn behind(&self, place: BlockPlace) -> BlockPlace
         requires place { IsPlace self.now.blocks.items place }
         requires within { place.block < vec_len self.now.blocks }
@@ -119,7 +119,7 @@ impl<K: Drop> Blocks<K> {
         }
     }
 
-    /// The place behind all of them.
+    /// The place after all of them.
     pub(crate) fn end(&self) -> BlockPlace
         ensures place { IsPlace self.now.blocks.items result }
         ensures block { result.block ≡ vec_len self.now.blocks }
@@ -131,8 +131,8 @@ impl<K: Drop> Blocks<K> {
         }
     }
 
-    /// The first line that ends behind an offset, and where it begins; the place
-    /// behind all of them, if none does.
+    /// The first line that ends after an offset, and where it begins; the place
+    /// after all of them, if none does.
     pub(crate) fn find(&self, at: usize) -> (BlockPlace, usize)
         requires { extent (in_one_row self.now.blocks.items) < 2 ^ 64 }
         ensures place { IsPlace self.now.blocks.items result.0 }

@@ -66,7 +66,7 @@ impl<K: Drop> HeldLines<K> {
         }
     }
 
-    /// Mends the lines behind an edit of their text. The source is the new text: its
+    /// Mends the lines after an edit of their text. The source is the new text: its
     /// bytes before `start` are the old ones, and those from `end` on are the old ones
     /// from `old_end` on. Only the window of the edit is read.
     ///
@@ -120,7 +120,7 @@ impl<K: Drop> HeldLines<K> {
     }
 
     /// The line in which an offset lies, and where that begins: the first line that
-    /// ends behind it, or the last line.
+    /// ends after it, or the last line.
     pub fn line_at(&self, at: usize) -> (&HeldLine<K>, usize)
         ensures { HasLineAt self.now at result.0.now result.1 }
     {

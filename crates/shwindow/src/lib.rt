@@ -3,7 +3,7 @@
 //!
 //! Start with [`LineReader`], which says what a reader of lines keeps to, and [`HeldLines`], which
 //! holds all lines of a text: it reads them, finds the line of an offset, walks over them, and
-//! mends them behind an edit, for which it reads the window of the edit alone. A [`HeldLine`] says
+//! mends them after an edit, for which it reads the window of the edit alone. A [`HeldLine`] says
 //! what a line is and how many bytes it has. The lines stand in blocks, so that neither finding a
 //! line nor replacing some walks over all of them or moves them.
 //!

@@ -12,7 +12,7 @@ pub struct HeldLine<K> {
     pub kind: K,
     /// How many bytes it has.
     pub len: usize,
-    /// It ended so that another line may begin behind it. A line that did not end is
+    /// It ended so that another line may begin after it. A line that did not end is
     /// the rest of its text, which may be empty.
     pub ended: bool,
 }

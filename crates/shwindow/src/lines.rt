@@ -23,7 +23,11 @@ impl<'a, K: Drop> Lines<'a, K> {
     ghost use Rattle.shwindow.specs.Walks.{lines_left};
 
     /// The lines from a place on, and then the last one.
-    pub(crate) fn new(blocks: &'a Blocks<K>, last: &'a HeldLine<K>, place: BlockPlace) -> Lines<'a, K>
+    pub(crate) fn new(
+        blocks: &'a Blocks<K>,
+        last: &'a HeldLine<K>,
+        place: BlockPlace,
+    ) -> Lines<'a, K>
         requires { IsPlace blocks.now.blocks.items place }
         ensures left { lines_left result ≡ lines_from blocks.now.blocks.items place ++ last.now
             ∷ [] }
@@ -39,7 +43,7 @@ impl<'a, K: Drop> Lines<'a, K> {
         }
     }
 
-    /// The place behind the lines that ended.
+    /// The place after the lines that ended.
     pub(crate) fn end(&self) -> BlockPlace
         ensures place { IsPlace self.now.blocks.now.blocks.items result }
         ensures order { IsNotBehind self.now.place result }

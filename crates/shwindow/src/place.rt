@@ -1,6 +1,6 @@
 //! Places among lines in blocks.
 
-/// A line among lines in blocks, by its block and where it stands there; or the place behind all of them.
+/// A line among lines in blocks, by its block and where it stands there; or the place after all of them.
 #[derive(Clone, Copy, Debug)]
 pub(crate) struct BlockPlace {
     pub(crate) block: usize,

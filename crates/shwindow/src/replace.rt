@@ -37,7 +37,7 @@ impl<K: Drop> Blocks<K> {
     }
 
     /// The line of a block before which lines give way, where all that do are lines of that
-    /// block from a place on. It may be the one behind the last.
+    /// block from a place on. It may be the one after the last.
     fn end_in_block(&self, from: BlockPlace, upto: BlockPlace) -> Option<usize>
         requires from { IsPlace self.now.blocks.items from }
         requires upto { IsPlace self.now.blocks.items upto }
@@ -88,7 +88,12 @@ impl<K: Drop> Blocks<K> {
     ///
     /// Neighbours are made one only where lines have become fewer: what is the rule,
     /// that one gives way to one, moves no line.
-    fn replace_in_block(&mut self, from: BlockPlace, to: usize, new: Blocks<K>) -> Result<(), AllocError>
+    fn replace_in_block(
+        &mut self,
+        from: BlockPlace,
+        to: usize,
+        new: Blocks<K>,
+    ) -> Result<(), AllocError>
         requires gives { GivesWay self.old.blocks.items from to }
         requires few { vec_len new.blocks ≤ 1 }
         requires some { to - from.line < length (block_at self.old.blocks.items from.block) + length
@@ -115,8 +120,13 @@ impl<K: Drop> Blocks<K> {
     }
 
     /// Puts other lines in the place of those from a place up to a block. The place
-    /// may be behind the last line of its block.
-    fn replace_from(&mut self, from: BlockPlace, to: usize, new: Blocks<K>) -> Result<(), AllocError>
+    /// may be after the last line of its block.
+    fn replace_from(
+        &mut self,
+        from: BlockPlace,
+        to: usize,
+        new: Blocks<K>,
+    ) -> Result<(), AllocError>
         requires order { from.block ≤ to }
         requires within { to ≤ vec_len self.old.blocks }
         requires kept { 0 < from.line → (from.block < to)
@@ -134,7 +144,7 @@ impl<K: Drop> Blocks<K> {
         let end = first + new.blocks.len();
         replace_items(&mut self.blocks, first, to, new.blocks);
         // The pairs at both ends of what is new are tried, and the one before a block that was cut: from the
-        // last to the first, since a merge moves those behind it.
+        // last to the first, since a merge moves those after it.
         self.merge(end);
         self.merge(end.saturating_sub(1));
         self.merge(first.saturating_sub(1));
@@ -143,7 +153,7 @@ impl<K: Drop> Blocks<K> {
     }
 
     /// Takes the lines of a block from a place on, which is before another block, and
-    /// answers the block behind the lines that it keeps.
+    /// answers the block after the lines that it keeps.
     fn keep_before(&mut self, place: BlockPlace, to: usize) -> usize
         requires order { place.block ≤ to }
         requires within { to ≤ vec_len self.old.blocks }

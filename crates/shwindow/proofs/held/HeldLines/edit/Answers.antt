@@ -91,7 +91,8 @@ replace_lines-requires-clause-upto g c =
 
 pub replace_lines-requires-clause-order : goal.replace_lines-requires-clause-order
 replace_lines-requires-clause-order g c =
-    subst (λ (p : BlockPlace). IsNotBehind p c.in_ok-lines.field-0.upto) c.new-old.ensures.place c.in_ok-lines.ensures.order
+    subst (λ (p : BlockPlace). IsNotBehind p c.in_ok-lines.field-0.upto) c.new-old.ensures.place
+    c.in_ok-lines.ensures.order
 
 -- the lines of the new text
 row_then : (g : Over) (c : In_ok-lines g) →
