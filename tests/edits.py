@@ -2,7 +2,7 @@
 
 
 def edits_of(parts):
-    """What a batch has behind its line."""
+    """What a batch has after its line."""
     return b"".join(b"%d %d %d\n%b\n" % (start, end, len(new), new) for start, end, new in parts)
 
 

@@ -1,7 +1,7 @@
 """Scripts of constructs in one another, for tests/stack and tests/leaks.
 
 A shape is a text with `@` where the next one stands: a command, or a part of a word. Where there is a second
-`@`, what stands between the two comes behind the innermost command, once for each level. The number tells how
+`@`, what stands between the two comes after the innermost command, once for each level. The number tells how
 many constructs are open at the first `@`.
 """
 from typing import NamedTuple
@@ -91,7 +91,7 @@ SHAPES = {
 
 
 def parts(shape, depth):
-    """What stands before the innermost command and behind it, where so many constructs are open at it."""
+    """What stands before the innermost command and after it, where so many constructs are open at it."""
     cost, text = SHAPES[shape]
     before, *between, behind = text.encode().split(b"@")
     count, left = divmod(depth, cost)
@@ -106,7 +106,7 @@ class Script(NamedTuple):
 
 
 def scripts_of(shape):
-    """With the most open constructs, with one more, cut off behind the openers, and before the last byte."""
+    """With the most open constructs, with one more, cut off after the openers, and before the last byte."""
     before, behind = parts(shape, MOST)
     deeper, last = parts(shape, MOST + 1)
     whole = before + CORE + behind

@@ -30,7 +30,7 @@ function __shform_lacks
     return 0
 end
 
-# Whether the command is one of some ('' for none yet), and nothing is given behind which the rest would not count.
+# Whether the command is one of some ('' for none yet), and nothing is given after which the rest would not count.
 function __shform_runs
     set -l operands (__shform_operands)
     __shform_lacks -h --help -V --version; and contains -- "$operands[1]" $argv
