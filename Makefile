@@ -34,6 +34,7 @@ scripts: $(PROGRAM) $(TESTS)
 	tests/install
 	tests/completions
 	tests/pre-commit
+	tests/columns
 
 $(PROGRAM) $(TESTS):
 	@echo "make scripts: there is no $@: run make test, whose gate leaves it" >&2; exit 1
