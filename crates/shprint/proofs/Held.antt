@@ -89,7 +89,19 @@ one_waits {g = g} h x p =
 
 -- ---- one text, from the offset o of the printed text on
 
-module _ (edition : Edition) (B T : List ℕ) (o : ℕ) (here : drop o B ≡ T) where
+-- T is what stands in B, all that was printed, from o on. What is said of such a text takes this one value,
+-- and the edition, B, T and o are seen from it.
+pub record StandsIn (edition : Edition) (B T : List ℕ) (o : ℕ) : Type 0 where
+  pub here : drop o B ≡ T
+
+module _ {edition : Edition} {B T : List ℕ} {o : ℕ} (S : StandsIn edition B T o) where
+  abbrev pub g : Given
+  g = given edition T o
+
+  -- what is printed stands here
+  abbrev pub At : Held → ℕ → Marks → Type 0
+  At h p ms = drop p T ≡ lay h ms
+
   -- the bodies of all documents so far, read or not
   abbrev pub texts_of : Held → Row Text
   texts_of h = map (text_at B) h.bodies ++ map (λ (x : Document). x.bytes) h.waiting
@@ -98,13 +110,13 @@ module _ (edition : Edition) (B T : List ℕ) (o : ℕ) (here : drop o B ≡ T) 
   pub text_of_span : (p : ℕ) (w zs : List ℕ) → drop p T ≡ w ++ zs → text_at B (span o p (p + length w)) ≡ w
   text_of_span p w zs at =
       let n : o + (p + length w) - (o + p) ≡ length w = omega arith in
-      ap (λ k. take k (drop (o + p) B)) n ∙ ap (take (length w)) (sym (drop-drop p o B) ∙ ap (drop p) here)
+      ap (λ k. take k (drop (o + p) B)) n ∙ ap (take (length w)) (sym (drop-drop p o B) ∙ ap (drop p) S.here)
       ∙ text_here T p w zs at
 
   -- bodies that are read from p on
   pub record BodiesRead (xs : Row Document) (bodies : Row Span) (p : ℕ) : Type 0 where
     pub spans : Row Span
-    pub reads : bodies_from (given edition T o) (map as_waiting xs) bodies p
+    pub reads : bodies_from g (map as_waiting xs) bodies p
         ≡ Ok (bodies ++ spans, p + length (held_bytes xs))
     pub texts : map (text_at B) spans ≡ map (λ (x : Document). x.bytes) xs
 
@@ -140,16 +152,12 @@ module _ (edition : Edition) (B T : List ℕ) (o : ℕ) (here : drop o B ≡ T) 
       length-append (bytes_of x) (held_bytes xs) in omega (arith, n) in
       record {
         spans = s ∷ others.spans;
-        reads = ap (body_by (bodies_from (given edition T o) (map as_waiting xs)) (given edition T o)
+        reads = ap (body_by (bodies_from g (map as_waiting xs)) g
             (as_waiting x) bodies p) found
-            ∙ ap (bodies_from (given edition T o) (map as_waiting xs) (bodies ++ s ∷ [])) past ∙ others.reads
+            ∙ ap (bodies_from g (map as_waiting xs) (bodies ++ s ∷ [])) past ∙ others.reads
             ∙ rw (append_assoc, last) refl;
         texts = rw (text_of_span p x.bytes (x.d.text ++ 10 ∷ rest) parts, others.texts) refl;
       }
-
-  -- what is printed stands here
-  abbrev pub StandsAt : Held → ℕ → Marks → Type 0
-  StandsAt h p ms = drop p T ≡ lay h ms
 
   -- a newline token at p, and the bodies after it
   pub record Emptied (h : Held) (p : ℕ) (ms : Marks) : Type 0 where
@@ -157,12 +165,12 @@ module _ (edition : Edition) (B T : List ℕ) (o : ℕ) (here : drop o B ≡ T) 
     pub q : ℕ
     pub on : p + 1 ≤ q
     pub within : q ≤ length T
-    pub reads : Gives (given edition T o) (change bodies_here) (state h (p + 1)) tt (state later q)
-    pub at : StandsAt later q ms
+    pub reads : Gives g (change bodies_here) (state h (p + 1)) tt (state later q)
+    pub at : At later q ms
     pub none : later.waiting ≡ []
     pub texts : texts_of later ≡ texts_of h
 
-  pub emptied : (h : Held) (p : ℕ) (ms : Marks) → StandsAt h p (line_end ∷ ms) → Emptied h p ms
+  pub emptied : (h : Held) (p : ℕ) (ms : Marks) → At h p (line_end ∷ ms) → Emptied h p ms
   unfolding laid_behind held_bytes
   emptied h p ms at =
       let zs = laid_behind [] ms in

@@ -6,6 +6,12 @@ pub mod Gives
 pub mod Good
 pub mod Held
 pub mod ReadBack
+pub mod PrintedText
+pub mod PrintedItems
+pub mod PrintedCommands
+pub mod PrintedLists
+pub mod PrintedCompounds
+pub mod PrintedCases
 pub mod PrintedRows
 pub mod Readable
 pub mod Parts

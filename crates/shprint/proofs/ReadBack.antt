@@ -11,6 +11,7 @@ use Rattle.shgrammar.specs.Form.{Spelled}
 use Rattle.shgrammar.specs.Commands.{is_empty}
 use Rattle.shgrammar.specs.Levels.{most_open}
 use Rattle.shgrammar.specs.Scripts.{AScript, SoFar, is_blank_line, with_line, Lines, line_ended, last_line, nothing_yet, Outcome}
+use Rattle.shgrammar.proofs.MovedTrees.{pushed_some}
 use Rattle.shgrammar.proofs.Scripts.{script_only}
 use Rattle.shgrammar.proofs.NormalForm.{script_in_normal_form}
 use Rattle.shprint.specs.declared.layout.Layout.{Layout}
@@ -19,7 +20,9 @@ use Rattle.shprint.specs.Printed.{print_blank, print_content, print_entries, pri
 use Rattle.shprint.specs.ReadBack.{ReadsBack}
 use Rattle.shprint.proofs.Good.{GoodEntries}
 use Rattle.shprint.proofs.Readable.{script_readable}
-use Rattle.shprint.proofs.PrintedRows.{ScriptLine, EntryLine, entry_rest, entry_marks, fine, entry_line, blank_line_read, end_line_read}
+use Rattle.shprint.proofs.Held.{StandsIn}
+use Rattle.shprint.proofs.PrintedLists.{entry_rest, entry_marks, blank_first}
+use Rattle.shprint.proofs.PrintedRows.{ScriptLine, EntryLine, entry_line, blank_line_read, end_line_read}
 
 module _ (edition : Edition) (y : Layout) (B : List ℕ) where
   -- these entries are read from p on, after what was read so far
@@ -32,18 +35,22 @@ module _ (edition : Edition) (y : Layout) (B : List ℕ) where
   abbrev At : ℕ → Marks → Type 0
   At p ms = drop p B ≡ laid ms
 
+  -- what is left from p on
+  abbrev from_here : (p : ℕ) → StandsIn edition B (drop p B) p
+  from_here p = record { here = refl }
+
   at_next : (p f : ℕ) (ms : Marks) → drop f (drop p B) ≡ laid ms → At (p + f) ms
   at_next p f ms at = sym (drop-drop f p B) ∙ at
 
   -- the last line, which is empty
   end_read : (so : SoFar) (p : ℕ) → At p [] → ScriptRead so p no_entry
   end_read so p at =
-      let r = end_line_read edition B (drop p B) p refl y (is_blank_line so) at in
+      let r = end_line_read (from_here p) y (is_blank_line so) at in
       record { value = []; told = r.reads.passes; reads = last_line [] _ r.reads.passes r.reads.reads; shape = refl }
 
   -- one entry more in front
   entry_read : (so : SoFar) (p : ℕ) (x : Shape AnEntryOf) (es : Shape EntriesOf) (rest : Marks)
-      (one : EntryLine edition B (drop p B) p refl (is_blank_line so) x rest)
+      (one : EntryLine (from_here p) (is_blank_line so) x rest)
       → ScriptRead (with_line so (one.value ∷ [])) (p + one.line.f) es → ScriptRead so p (more_entries x es)
   entry_read so p x es rest one others =
       let v = one.value in
@@ -63,52 +70,40 @@ module _ (edition : Edition) (y : Layout) (B : List ℕ) where
   and_false : (b : Bool) (c : Bool) → b ≡ false → (b && c) ≡ false
   and_false b c e = rw e refl
 
-  filled : (es : Row AnEntry) (v : AnEntry) → is_empty (es ++ v ∷ []) ≡ false
-  filled [] v = refl
-  filled (e ∷ es) v = refl
-
-  blank_first : (es : Row AnEntry) → (is_empty es ≡ true → false ≡ true) → is_empty es ≡ false
-  blank_first [] e = absurd (both_ways false refl (e refl))
-  blank_first (x ∷ xs) e = refl
-
   -- an entry from the beginning of its line on
   from_margin : (so : SoFar) (p : ℕ) (what : Shape AContentOf) (background blank : Bool) (comment : Option Text)
       (es : Shape EntriesOf) → GoodEntries edition most_open (more_entries (entry what background blank comment) es)
       → are_normal (more_entries (entry what background blank comment) es) ≡ true → is_blank_line so ≡ blank
       → At p (text [] ∷ (print_content y [] what
-      ++ entry_rest edition B (drop p B) p refl most_open y
-      (fine edition B (drop p B) p refl y most_open) background comment (print_entries y [] es)))
+      ++ entry_rest background comment (print_entries y [] es)))
       → ((to : SoFar) (q : ℕ) → to.gap ≡ false → is_empty to.entries ≡ false → At q (print_entries y [] es) →
       ScriptRead to q es)
       → ScriptRead so p (more_entries (entry what background blank comment) es)
   from_margin so p what background blank comment es good normal blank_is at others =
-      let one = entry_line edition B (drop p B) p refl y blank what background comment
+      let one = entry_line (from_here p) y blank what background comment
       (print_entries y [] es) good.0.0 good.0.1 (and_parts _ _ normal).0 at in
-      let one_so = subst (λ b. EntryLine edition B (drop p B) p refl b (entry what background blank comment)
+      let one_so = subst (λ b. EntryLine (from_here p) b (entry what background blank comment)
       (print_entries y [] es)) (sym blank_is) one in
       entry_read so p (entry what background blank comment) es (print_entries y [] es) one_so
-      (others (with_line so (one_so.value ∷ [])) (p + one_so.line.f) refl (filled so.entries one_so.value)
+      (others (with_line so (one_so.value ∷ [])) (p + one_so.line.f) refl (pushed_some so.entries one_so.value)
       (at_next p one_so.line.f (print_entries y [] es) one_so.line.at))
 
   -- what is printed for a list, from its first entry on
-  marks_are : (p : ℕ) (what : Shape AContentOf) (background blank : Bool) (comment : Option Text) (es : Shape EntriesOf)
+  marks_are : (what : Shape AContentOf) (background blank : Bool) (comment : Option Text) (es : Shape EntriesOf)
       → print_entries y [] (more_entries (entry what background blank comment) es)
       ≡ print_blank blank ++ (text []
-      ∷ (print_content y [] what ++ entry_rest edition B (drop p B) p refl most_open y
-      (fine edition B (drop p B) p refl y most_open) background comment (print_entries y [] es)))
-  marks_are p what background blank comment es =
+      ∷ (print_content y [] what ++ entry_rest background comment (print_entries y [] es)))
+  marks_are what background blank comment es =
       let all = print_entries y [] (more_entries (entry what background blank comment) es) in
-      let one = entry_marks edition B (drop p B) p refl most_open y
-      (fine edition B (drop p B) p refl y most_open) [] what background blank comment es [] in
+      let one = entry_marks y [] what background blank comment es [] in
       sym (append-nil all) ∙ one ∙ ap
       (λ more. print_blank blank ++
       (text [] ∷ (print_content y [] what
-      ++ entry_rest edition B (drop p B) p refl most_open y
-      (fine edition B (drop p B) p refl y most_open) background comment more))) (append-nil (print_entries y [] es))
+      ++ entry_rest background comment more))) (append-nil (print_entries y [] es))
 
   -- after an empty line
   blank_read : (so : SoFar) (p : ℕ) (es : Shape EntriesOf) (rest : Marks)
-      (line : ScriptLine edition B (drop p B) p refl (is_blank_line so) [] true rest) →
+      (line : ScriptLine (from_here p) (is_blank_line so) [] true rest) →
       ScriptRead (with_line so []) (p + line.f) es → ScriptRead so p es
   blank_read so p es rest line others =
       let all = line_ended [] _ line.reads.passes line.reads.reads others.reads in
@@ -126,12 +121,12 @@ module _ (edition : Edition) (y : Layout) (B : List ℕ) where
   lines_read no_entry so p good normal first gap at = end_read so p at
   lines_read (more_entries (entry what background false comment) es) so p good normal first gap at =
       from_margin so p what background false comment es good normal (and_false so.gap _ gap)
-      (at ∙ ap laid (marks_are p what background false comment es))
+      (at ∙ ap laid (marks_are what background false comment es))
       (λ to q none some there. lines_read es to q good.1 (and_parts _ _ normal).1
       (λ e. absurd (both_ways (is_empty to.entries) some e)) none there)
   lines_read (more_entries (entry what background true comment) es) so p good normal first gap at =
-      let more_at = at ∙ ap laid (marks_are p what background true comment es) in
-      let line = blank_line_read edition B (drop p B) p refl y (is_blank_line so) _ more_at in
+      let more_at = at ∙ ap laid (marks_are what background true comment es) in
+      let line = blank_line_read (from_here p) y (is_blank_line so) _ more_at in
       let some_before = blank_first so.entries first in
       let to = with_line so [] in
       let q = p + line.f in

@@ -9,7 +9,8 @@ lines-init g c =
     let bytes = g.S.Source.bytes c.args.source.now in
     let self = c.args.self.now in
     let start = c.following-lines.ensures.start in (
-      λ e y front is. start_printed e y front bytes self.before c.following-lines.result.before c.following-lines.result.at
+      λ e y front is. start_printed e y front bytes self.before c.following-lines.result.before
+          c.following-lines.result.at
           (sheet self.page) start.0 start.1 is.0,
       refl,
       c.following-lines.ensures.source,

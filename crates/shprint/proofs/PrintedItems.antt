@@ -1,0 +1,941 @@
+-- The items of a command, with their redirections and here-documents: what is printed for them is read as the
+-- same items, and what is printed for a simple command as that command.
+use Rattle.std.proofs.Common.{◌≡◌, ℕ, ◌+◌, ◌-◌, ◌<◌, ◌≤◌, ⊎_elim, ◌==◌, Bool, true, false, not, ◌&&◌, ◌||◌, List, List as Row, [], ◌∷◌, ◌++◌, length, drop, take, codes, if◌then◌else◌, Option, Some, None, is_some, option_map, slice_get, refl, sym, ap, subst, ◌∙◌, arith, append_assoc, append-nil, map}
+use Rattle.std.proofs.lemmas.Bool.{both_ways}
+use Rattle.std.proofs.lemmas.List.{map-append}
+use Rattle.shgrammar.specs.declared.edition.Edition.{Edition}
+use Rattle.shgrammar.specs.declared.token.Next.{Next}
+use Rattle.shgrammar.specs.declared.token.Position.{Position}
+use Rattle.shgrammar.specs.declared.token.Position.TheVariants.{Command, Prefix, Suffix}
+use Rattle.shgrammar.specs.declared.token.Token.{Token}
+use Rattle.shgrammar.specs.declared.token.Token.TheVariants as tokens
+use Rattle.shgrammar.specs.Bytes.{stands, past_continuations, past_blanks}
+use Rattle.shgrammar.specs.Comments.{span}
+use Rattle.shgrammar.specs.Standing.{is_byte}
+use Rattle.shgrammar.specs.Sights.{State, here as the_place, is_a_name, one_byte, the_delimiter, the_digits}
+use Rattle.shgrammar.specs.Form.{raw, with_bytes, with_its_bytes, Form, ◌>>◌, by, bared, Step, give, move, leads_on, again, done, many}
+use Rattle.shgrammar.specs.Words.{a_word}
+use Rattle.shgrammar.specs.Levels.{level}
+use Rattle.shast.specs.Nodes.{word_span}
+use Rattle.shast.specs.Normal.{first_not_broken}
+use Rattle.shgrammar.specs.Compounds.{word_turn}
+use Rattle.shgrammar.specs.Commands.{a_document, open_document, is_strip, a_command, begins_simple, is_empty, pick, Items, behind_word, begins_redirect, is_number_token, redirect_operator_of, is_long, a_number, an_operator, operator_by, a_target, one_redirect, behind_redirect, redirect_turn, so_many, breaks, as_item, an_item, item_turn, a_simple, is_word, is_paren, a_word_command}
+use Rattle.shgrammar.proofs.MovedTrees.{pushed_some}
+use Rattle.shgrammar.proofs.Places.{blanks_low}
+use Rattle.shgrammar.proofs.Anywhere.{WordOf}
+use Rattle.shgrammar.specs.HereDocuments.{delimiter_of}
+use Rattle.shast.specs.Opened.{here_bodies, item_bodies, item_content_bodies, items_bodies, command_bodies, open_here, open_item, open_item_content, open_items, open_command}
+use Rattle.shgrammar.proofs.WordsWaiting.{word_waiting}
+use Rattle.shgrammar.proofs.Elsewhere.{follows, item_is_word, ItemAnywhere}
+use Rattle.shast.specs.declared.tree.RedirectOperator.{RedirectOperator}
+use Rattle.shast.specs.declared.tree.RedirectOperator.TheVariants as redirects
+use Rattle.shast.specs.declared.tree.Span.{Span}
+use Rattle.shast.specs.Spelling.{redirect_text}
+use Rattle.shast.specs.Shape.{shape_of_here, Text, Shape, bare, bare_at, text_at, shape_of_items, shape_of_item, shape_of_command, shape_of_word}
+use Rattle.shast.specs.Tree.{AHere, AHereOf, AWordOf, AnItemOf, AnItem, AWord, item, items_of, ItemsOf, no_item, more_items, redirect, simple, SubstsOf, word, argument}
+use Rattle.shprint.specs.declared.layout.Layout.{Layout}
+use Rattle.shprint.specs.Marks.{text, Marks, laid_behind, one, deeper}
+use Rattle.shprint.specs.Printed.{delimiter_line, print_here, print_gap, print_number, duplicates, would_strip, is_broken_item, print_item, print_items, print_simple}
+use Rattle.shprint.proofs.Tokens.{NoDash, Reads, is_here, first, byte_here, start_here, skip, text_here, Gap, Start, all_blank, blank_gap, broken_gap, no_gap, next_one, kind_of, item_no_round, no_word, no_item_token, NoLonger, space_no_longer, word_no_longer, redirect_token, NumberHere, number_token, angle_first, angle_clear, angle_no_blank, RedirectThere, redirect_is_item, redirect_no_word, delimiter_stays}
+use Rattle.shprint.proofs.Digits.{bare_of_digits}
+use Rattle.shprint.proofs.Gives.{Gives, gives, told_here, ◌⟫◌, given_here, seen_here, moved_here, pushed_here, first_of, second_of, last_turn, one_turn}
+use Rattle.shprint.proofs.Held.{At, Document, Followed, Held, StandsIn, bytes_more, g, held_bytes, lay, one_waits, state, with_document}
+use Rattle.shprint.proofs.Good.{GoodHere, Kind, of_command, of_for, of_compound, GoodItem, of_word, of_argument, of_redirect, of_redirect_behind, GoodNumber, GoodRedirect, a_redirect_of, GoodItems, none_more, one_more, GoodSimple, SomeItem, an_item_of}
+use Rattle.shprint.proofs.PrintedText.{laid_text, Adds, at_text, span_text, leads, told, asked, asked_behind, tell, tell_word, next_read, some_word, byte_moved, byte_behind, Behind, Got}
+
+-- ---- items as they are printed
+
+item_printed : (y : Layout) (b : Bool) (position : Position) (t : Text) (ss : Shape SubstsOf) →
+    print_item y (an_item_of b position (word t ss)) ≡ text t ∷ []
+item_printed y b Command t ss = refl
+item_printed y b Prefix t ss = refl
+item_printed y b Suffix t ss = refl
+
+more_printed : (y : Layout) (m : Text) (i : Shape AnItemOf) (is : Shape ItemsOf) (rest : Marks)
+    → print_items y m (more_items i is) ++ rest ≡ print_gap y m (is_broken_item i)
+    ++ (print_item y i ++ (print_items y m is ++ rest))
+more_printed y m i is rest =
+    let gap = print_gap y m (is_broken_item i) in
+    let others = print_items y m is in
+    append_assoc (gap ++ print_item y i) others rest ∙ append_assoc gap (print_item y i) (others ++ rest)
+
+gap_follows : (y : Layout) (m : Text) (b : Bool) (ms : Marks) → Followed (print_gap y m b ++ ms)
+unfolding laid_behind
+gap_follows y m true ms held = refl
+gap_follows y m false ms held = refl
+
+pub items_follow : (y : Layout) (m : Text) (is : Shape ItemsOf) (rest : Marks) → Followed rest →
+    Followed (print_items y m is ++ rest)
+items_follow y m no_item rest follow held = follow held
+items_follow y m (more_items i is) rest follow held =
+    ap (λ ms. follows (laid_behind held ms)) (more_printed y m i is rest)
+    ∙ gap_follows y m (is_broken_item i) (print_item y i ++ (print_items y m is ++ rest)) held
+
+module _ {edition : Edition} {B T : List ℕ} {o : ℕ} (S : StandsIn edition B T o) (room : ℕ) where
+  -- ---- one item
+
+  -- the turn that reads one more item of a kind
+  abbrev turn_of : Kind → Items → Form (Step Items)
+  turn_of of_command = item_turn (level room)
+  turn_of of_for = word_turn (level room)
+  turn_of of_compound = redirect_turn (level room)
+
+  -- whether that item is broken
+  abbrev broken_by : Kind → Items → Bool
+  broken_by of_command i = breaks i
+  broken_by of_for i = breaks i
+  broken_by of_compound i = i.next.broken
+
+  abbrev with_broken : Bool → Shape AnItemOf → Shape AnItemOf
+  with_broken broken (item b what) = item broken what
+
+  same_broken : (i : Shape AnItemOf) → with_broken (is_broken_item i) i ≡ i
+  same_broken (item b what) = refl
+
+  pub record ItemRead (h : Held) (kind : Kind) (acc : Row AnItem) (position : Position) (n : Next) (p : ℕ)
+      (next : Position) (i : Shape AnItemOf) (rest : Marks) : Type 0 where
+    pub it : AnItem
+    pub «end» : ℕ
+    pub later : Held
+    pub at : At S later «end» rest
+    pub reads : Gives (g S) (turn_of kind (so_many acc position n)) (state h p)
+        (again (so_many (acc ++ it ∷ []) next (asked S next «end»))) (state later (past_blanks T «end»))
+    pub on : leads_on (g S) (state h p) (state later (past_blanks T «end»)) ≡ true
+    pub is : shape_of_item B it ≡ open_item [] (with_broken (broken_by kind (so_many acc position n)) i)
+    pub texts : Adds S h later (item_bodies i)
+
+  item_shape : (position : Position) (b : Bool) (v : AWord) (w : Shape AWordOf) → shape_of_word B v ≡ w →
+      shape_of_item B (item b (as_item position v)) ≡ open_item [] (an_item_of b position w)
+  unfolding open_item open_item_content
+  item_shape Command b v w is = rw is refl
+  item_shape Prefix b v w is = rw is refl
+  item_shape Suffix b v w is = rw is refl
+
+  word_adds : (h : Held) (b : Bool) (position : Position) (w : Shape AWordOf) →
+      Adds S h h (item_bodies (an_item_of b position w))
+  unfolding item_bodies item_content_bodies
+  word_adds h b Command w ts = refl
+  word_adds h b Prefix w ts = refl
+  word_adds h b Suffix w ts = refl
+
+  broken_item : (b c : Bool) (position : Position) (w : Shape AWordOf) →
+      an_item_of b position w ≡ with_broken b (an_item_of c position w)
+  broken_item b c Command w = refl
+  broken_item b c Prefix w = refl
+  broken_item b c Suffix w = refl
+
+  -- a word that is printed here
+  pub printed_word : (h : Held) (w : Text) (ss : Shape SubstsOf) (p : ℕ)
+      (v : WordOf room (g S) p (length w) B (word w ss)) →
+      Gives (g S) (a_word (level room)) (state h p) v.0 (state h (p + length w))
+  printed_word h w ss p v = gives _ (word_waiting room (g S) p (p + length w) v.0 _ (state h p) v.1.0)
+
+  -- a word as an item
+  word_item : (h : Held) (next : Position) (w : Text) (ss : Shape SubstsOf) (acc : Row AnItem) (place : Position)
+      (n : Next) (p : ℕ) (v : WordOf room (g S) p (length w) B (word w ss))
+      → Gives (g S) (an_item (level room) (so_many acc place n) next) (state h p)
+      (again (so_many (acc ++ item (breaks (so_many acc place n)) (as_item next v.0) ∷ []) next
+      (asked S next (p + length w)))) (state h (past_blanks T (p + length w)))
+  unfolding an_item
+  word_item h next w ss acc place n p v =
+      printed_word h w ss p v ⟫ pushed_here acc _ ⟫ next_read S h next (p + length w) ⟫ given_here
+
+  word_on : (h : Held) (w : Text) (p : ℕ) (rest : Marks) → 0 < length w → At S h p (text w ∷ rest) →
+      leads_on (g S) (state h p) (state h (past_blanks T (p + length w))) ≡ true
+  word_on h w p rest some at =
+      let low = blanks_low T (p + length w) in
+      leads S h h p (past_blanks T (p + length w)) (omega (arith, some, low))
+      (some_word S p w (lay h rest) some (at ∙ laid_text h w rest))
+
+  -- ---- redirections
+
+  one_byte_moves : (h : Held) (p c : ℕ) (xs : Text) → (c == 92) ≡ false → drop p T ≡ c ∷ xs →
+      Gives (g S) (move one_byte >> give {X = Unit {0}} tt >> give {X = Unit {0}} tt) (state h p) tt (state h (p + 1))
+  one_byte_moves h p c xs clear at = byte_moved S h p c xs clear at ⟫ given_here ⟫ given_here
+
+  two_bytes_move : (h : Held) (p c d : ℕ) (xs : Text) → (c == 92) ≡ false → (d == 92) ≡ false → drop p T ≡ c ∷ d ∷ xs
+      → Gives (g S) (move one_byte >> move one_byte >> give {X = Unit {0}} tt) (state h p) tt (state h (p + 2))
+  two_bytes_move h p c d xs clear clear_too at =
+      let two : p + 1 + 1 ≡ p + 2 = omega arith in
+      subst (λ q. Gives (g S) (move one_byte >> move one_byte >> give {X = Unit {0}} tt) (state h p) tt (state h q)) two
+      (byte_moved S h p c (d ∷ xs) clear at ⟫ byte_moved S h (p + 1) d xs clear_too
+      (byte_behind S p c d xs at) ⟫ given_here)
+
+  operator_moves : (h : Held) (k : RedirectOperator) (p : ℕ) (xs : Text) → drop p T ≡ redirect_text k ++ xs
+      → Gives (g S) (move one_byte >> pick (is_long k) (move one_byte) (give tt) >> pick (is_strip k) (move one_byte)
+      (give tt)) (state h p) tt (state h (p + length (redirect_text k)))
+  operator_moves h redirects.Input p xs at = one_byte_moves h p 60 xs refl at
+  operator_moves h redirects.Output p xs at = one_byte_moves h p 62 xs refl at
+  operator_moves h redirects.Here p xs at = two_bytes_move h p 60 60 xs refl refl at
+  operator_moves h redirects.Append p xs at = two_bytes_move h p 62 62 xs refl refl at
+  operator_moves h redirects.DuplicateInput p xs at = two_bytes_move h p 60 38 xs refl refl at
+  operator_moves h redirects.DuplicateOutput p xs at = two_bytes_move h p 62 38 xs refl refl at
+  operator_moves h redirects.ReadWrite p xs at = two_bytes_move h p 60 62 xs refl refl at
+  operator_moves h redirects.HereStripped p xs at =
+      let three : p + 1 + 1 + 1 ≡ p + 3 = omega arith in
+      let there = byte_behind S p 60 60 (45 ∷ xs) at in
+      subst (λ q. Gives (g S) (move one_byte >> move one_byte >> move one_byte) (state h p) tt (state h q)) three
+      (byte_moved S h p 60 (60 ∷ 45 ∷ xs) refl at ⟫ byte_moved S h (p + 1) 60 (45 ∷ xs) refl there ⟫ byte_moved S h
+      (p + 1 + 1) 45 xs refl (byte_behind S (p + 1) 60 45 xs there))
+  operator_moves h redirects.Clobber p xs at = two_bytes_move h p 62 124 xs refl refl at
+
+  -- the number before an operator, or none
+  record NumberRead (h : Held) (number : Option Text) (k : RedirectOperator) (n : Next) (p : ℕ)
+      (ms : Marks) : Type 0 where
+    value : Option Span
+    next : Next
+    q : ℕ
+    reads : Gives (g S) (a_number n) (state h p) (value, next) (state h q)
+    token_is : next.token ≡ tokens.Redirect k
+    at : At S h q (text (redirect_text k) ∷ ms)
+    low : p ≤ q
+    shape : option_map (bare_at B) value ≡ number
+
+  module _ (k : RedirectOperator) (ms : Marks) (no_dash : (h : Held) (q : ℕ) → At S h q ms → NoDash k T q)
+      (longer : (h : Held) (q : ℕ) → At S h q ms → NoLonger T q) where
+    operator_there : (h : Held) (position : Position) (p : ℕ) → At S h p (text (redirect_text k) ∷ ms) →
+        told S position p ≡ tokens.Redirect k
+    operator_there h position p at =
+        tell S (redirect_token position k T p (lay h ms)
+        (no_dash h (p + length (redirect_text k)) (at_text S h p (redirect_text k) ms at))
+        (longer h (p + length (redirect_text k)) (at_text S h p (redirect_text k) ms at))
+        (at ∙ laid_text h (redirect_text k) ms))
+
+    -- the digits of a number, and what stands after them
+    number_there : (h : Held) (position : Position) (d : ℕ) (ds : Text) (p : ℕ) → GoodNumber (Some (d ∷ ds)) →
+        At S h p (text (d ∷ ds) ∷ text (redirect_text k) ∷ ms) → NumberHere position T p (d ∷ ds)
+    number_there h position d ds p digits at =
+        let a = angle_first k in
+        number_token position T p a.0 d ds (a.1 ++ lay h ms) digits a.3
+        (at ∙ laid_text h (d ∷ ds) (text (redirect_text k) ∷ ms)
+        ∙ ap (λ z. (d ∷ ds) ++ z) (laid_text h (redirect_text k) ms ∙ ap (λ z. z ++ lay h ms) a.2))
+
+    operator_start : (h : Held) (p : ℕ) → At S h p (text (redirect_text k) ∷ ms) → Start T p
+    operator_start h p at =
+        let a = angle_first k in
+        start_here (byte_here T p a.0 (a.1 ++ lay h ms) (angle_clear a.0 a.3)
+        (at ∙ laid_text h (redirect_text k) ms ∙ ap (λ z. z ++ lay h ms) a.2)) (angle_no_blank a.0 a.3)
+
+    number_read : (h : Held) (position : Position) (number : Option Text) (n : Next) (p : ℕ) → GoodNumber number →
+        n.token ≡ told S position p → At S h p (print_number number ++ (text (redirect_text k) ∷ ms)) →
+        NumberRead h number k n p ms
+    unfolding a_number
+    number_read h position None n p digits token_is at =
+        let is = token_is ∙ operator_there h position p at in
+        record {
+          value = None;
+          next = n;
+          q = p;
+          reads = second_of _ _ (ap is_number_token is) given_here;
+          token_is = is;
+          at = at;
+          low = omega arith;
+          shape = refl;
+        }
+    number_read h position (Some []) n p digits token_is at = absurd digits
+    number_read h position (Some (d ∷ ds)) n p digits token_is at =
+        let number = number_there h position d ds p digits at in
+        let q = p + length (d ∷ ds) in
+        let at_q = at_text S h p (d ∷ ds) (text (redirect_text k) ∷ ms) at in
+        let gap = no_gap (operator_start h q at_q) in
+        let moved : Gives (g S) (move the_digits) (state h p) tt (state h q) =
+        subst (λ r. Gives (g S) (move the_digits) (state h p) tt (state h r)) number.past_it
+        (moved_here the_digits) in
+        let read : Gives (g S) (a_number n) (state h p) (Some (span o p q), asked S Suffix q)
+        (state h (past_blanks T q)) =
+        first_of _ _ (ap is_number_token (token_is ∙ tell S number.token))
+        (told_here bared moved ⟫ next_read S h Suffix q ⟫ given_here) in
+        record {
+          value = Some (span o p q);
+          next = asked S Suffix q;
+          q = q;
+          reads = subst (λ r. Gives (g S) (a_number n) (state h p) (Some (span o p q), asked S Suffix q) (state h r))
+              gap.blanks read;
+          token_is = ap (λ (n : Next). n.token) (asked_behind S Suffix gap) ∙ operator_there h Suffix q at_q;
+          at = at_q;
+          low = omega arith;
+          shape = ap (λ t. Some (bare t))
+              (span_text S p (d ∷ ds) _ (at ∙ laid_text h (d ∷ ds) (text (redirect_text k) ∷ ms)))
+              ∙ ap Some (bare_of_digits (d ∷ ds) digits);
+        }
+
+    -- the token with which a redirection begins
+    redirect_begins : (h : Held) (position : Position) (number : Option Text) (p : ℕ) → GoodNumber number →
+        At S h p (print_number number ++ (text (redirect_text k) ∷ ms)) → RedirectThere edition position T p
+    redirect_begins h position None p digits at =
+        let is = operator_there h position p at in
+        record { start = operator_start h p at; redirect = ap begins_redirect is; no_word = ap behind_word is }
+    redirect_begins h position (Some []) p digits at = absurd digits
+    redirect_begins h position (Some (d ∷ ds)) p digits at =
+        let number = number_there h position d ds p digits at in
+        record {
+          start = number.start;
+          redirect = ap begins_redirect (tell S number.token);
+          no_word = ap behind_word (tell S number.token);
+        }
+
+  -- the word of a redirection, after its operator
+  record TargetThere (h : Held) (k : RedirectOperator) (e : ℕ) (t : Text) (rest : Marks) : Type 0 where
+    f : ℕ
+    at : At S h f (text t ∷ rest)
+    gap : Gap T e f false
+    no_longer : NoLonger T e
+    no_dash : NoDash k T e
+
+  -- after `<<` a space, or a word that does not begin with `-`
+  no_dash_by : (k : RedirectOperator) (e c : ℕ) (cs : Text) → Reads T e c cs → (c == 45) ≡ false → NoDash k T e
+  no_dash_by redirects.Here e c cs r other = is_here 45 r ∙ other
+  no_dash_by redirects.Input e c cs r other = tt
+  no_dash_by redirects.Output e c cs r other = tt
+  no_dash_by redirects.Append e c cs r other = tt
+  no_dash_by redirects.DuplicateInput e c cs r other = tt
+  no_dash_by redirects.DuplicateOutput e c cs r other = tt
+  no_dash_by redirects.ReadWrite e c cs r other = tt
+  no_dash_by redirects.HereStripped e c cs r other = tt
+  no_dash_by redirects.Clobber e c cs r other = tt
+
+  no_dash_word : (k : RedirectOperator) (e : ℕ) (t zs : Text) → drop e T ≡ t ++ zs → 0 < length t →
+      past_continuations T e ≡ e → would_strip k t ≡ false → NoDash k T e
+  unfolding stands
+  no_dash_word redirects.Here e [] zs at some place other = absurd (omega (arith, some))
+  no_dash_word redirects.Here e (c ∷ cs) zs at some place other = ap (λ q. is_byte (slice_get T q) 45) place
+      ∙ ap (λ x. is_byte x 45) (first T e c (cs ++ zs) at) ∙ other
+  no_dash_word redirects.Input e t zs at some place other = tt
+  no_dash_word redirects.Output e t zs at some place other = tt
+  no_dash_word redirects.Append e t zs at some place other = tt
+  no_dash_word redirects.DuplicateInput e t zs at some place other = tt
+  no_dash_word redirects.DuplicateOutput e t zs at some place other = tt
+  no_dash_word redirects.ReadWrite e t zs at some place other = tt
+  no_dash_word redirects.HereStripped e t zs at some place other = tt
+  no_dash_word redirects.Clobber e t zs at some place other = tt
+
+  target_there : (h : Held) (k : RedirectOperator) (spaced : Bool) (e : ℕ) (t : Text) (ss : Shape SubstsOf)
+      (rest : Marks) → (spaced ≡ false → would_strip k t ≡ false) → ItemAnywhere edition room Suffix tokens.Word t ss
+      → Followed rest
+      → At S h e ((if spaced then one (codes " ") else []) ++ (text t ∷ rest)) → TargetThere h k e t rest
+  target_there h k true e t ss rest dash good follow at =
+      let there = at ∙ laid_text h (codes " ") (text t ∷ rest) in
+      let behind_it = at_text S h e (codes " ") (text t ∷ rest) at in
+      let found = good.there (g S) (e + 1) (lay h rest) (behind_it ∙ laid_text h t rest)
+      (follow (held_bytes h.waiting)) in
+      record {
+        f = e + 1;
+        at = behind_it;
+        gap = blank_gap refl there (no_gap (record { place = found.place; no_blank = found.no_blank }));
+        no_longer = space_no_longer T e (lay h (text t ∷ rest)) there;
+        no_dash = no_dash_by k e 32 (lay h (text t ∷ rest))
+            (byte_here T e 32 (lay h (text t ∷ rest)) refl there) refl;
+      }
+  target_there h k false e t ss rest dash good follow at =
+      let found = good.there (g S) e (lay h rest) (at ∙ laid_text h t rest) (follow (held_bytes h.waiting)) in
+      record {
+        f = e;
+        at = at;
+        gap = no_gap (record { place = found.place; no_blank = found.no_blank });
+        no_longer = word_no_longer T e found.token_is;
+        no_dash = no_dash_word k e t (lay h rest) (at ∙ laid_text h t rest) good.some found.place (dash refl);
+      }
+
+  -- ---- the here-document of a redirection
+
+  -- what waits after a redirection, and where it stands then
+  record DocumentRead (h : Held) (k : RedirectOperator) (b p : ℕ) (t : Text) (f : ℕ) (doc : Option (AHereOf Text))
+      (rest : Marks) : Type 0 where
+    value : Option AHere
+    later : Held
+    at : At S later f rest
+    reads : Gives (g S) (a_document k b p t) (state h f) value (state later f)
+    shape : option_map (shape_of_here B) value ≡ open_here [] doc
+    texts : Adds S h later (here_bodies doc)
+
+  document_read : (h : Held) (k : RedirectOperator) (b p : ℕ) (t : Text) (f : ℕ) (ss : Shape SubstsOf)
+      (doc : Option (AHereOf Text)) (rest : Marks) → GoodHere edition k t doc →
+      At S h f (print_here (word t ss) doc ++ rest)
+      → DocumentRead h k b p t f doc rest
+  unfolding a_document laid_behind
+  document_read h k b p t f ss None rest none at = record {
+    value = None;
+    later = h;
+    at = at;
+    reads = second_of _ _ none given_here;
+    shape = refl;
+    texts = λ ts. refl;
+  }
+  document_read h k b p t f ss (Some d) rest good at =
+      let x : Document = record { b = b; strip = is_strip k; d = good.d; bytes = d.body; good = good.reads } in
+      let line : delimiter_line (delimiter_of t) ≡ good.d.text ++ 10 ∷ [] =
+      ap delimiter_line (delimiter_stays edition t good.d good.delimits) in
+      let bytes : held_bytes h.waiting ++ (d.body ++ delimiter_line (delimiter_of t))
+      ≡ held_bytes (h.waiting ++ x ∷ []) = ap (λ r. held_bytes h.waiting ++ (d.body ++ r)) line
+      ∙ sym (bytes_more h.waiting x) in
+      let M = map (text_at B) h.bodies in
+      let W = map (λ (x : Document). x.bytes) h.waiting in
+      let bodies : map (λ (x : Document). x.bytes) (h.waiting ++ x ∷ []) ≡ W ++ d.body ∷ [] =
+      map-append (λ (x : Document). x.bytes) h.waiting (x ∷ []) in
+      record {
+        value = Some (open_document (is_strip k) good.d);
+        later = with_document h x;
+        at = at ∙ ap (λ held. laid_behind held rest) bytes;
+        reads = first_of _ _ good.takes
+            (seen_here (the_delimiter t) ⟫ rw good.delimits (one_waits h x f ⟫ given_here));
+        shape = rw (good.literal, good.strip) refl;
+        texts = λ ts. ap (λ r. (M ++ r) ++ ts) bodies ∙ ap (λ r. r ++ ts) (sym (append_assoc M W (d.body ∷ [])))
+            ∙ append_assoc (M ++ W) (d.body ∷ []) ts;
+      }
+
+  -- a word with its bytes
+  bytes_here : {X : Type 0} {r : Form X} {s u : State} {x : X} → Gives (g S) r s x u →
+      Gives (g S) (with_bytes r) s (x, raw T s.at u.at) u
+  bytes_here one = gives _ (with_its_bytes one.reads)
+
+  record RedirectRead (h : Held) (broken : Bool) (acc : Row AnItem) (next : Position) (n : Next) (p : ℕ)
+      (i : Shape AnItemOf) (rest : Marks) : Type 0 where
+    it : AnItem
+    «end» : ℕ
+    later : Held
+    at : At S later «end» rest
+    reads : Gives (g S) (one_redirect (level room) broken next acc n) (state h p)
+        (again (so_many (acc ++ it ∷ []) next (asked S next «end»))) (state later (past_blanks T «end»))
+    on : leads_on (g S) (state h p) (state later (past_blanks T «end»)) ≡ true
+    is : shape_of_item B it ≡ open_item [] i
+    texts : Adds S h later (item_bodies i)
+
+  -- one redirection
+  module _ (y : Layout) (number : Option Text) (k : RedirectOperator) (t : Text) (ss : Shape SubstsOf)
+      (doc : Option (AHereOf Text)) (good : GoodRedirect edition room number k t ss doc) (rest : Marks)
+      (follow : Followed rest) where
+    abbrev spaced : Bool
+    spaced = (y.space_redirects && not (duplicates k)) || would_strip k t
+
+    -- what stands after the word
+    abbrev behind_word_marks : Marks
+    behind_word_marks = print_here (word t ss) doc ++ rest
+
+    abbrev behind_operator : Marks
+    behind_operator = (if spaced then one (codes " ") else []) ++ (text t ∷ behind_word_marks)
+
+    document_follows : (doc : Option (AHereOf Text)) → Followed (print_here (word t ss) doc ++ rest)
+    unfolding laid_behind
+    document_follows None held = follow held
+    document_follows (Some d) held = follow (held ++ (d.body ++ delimiter_line (delimiter_of t)))
+
+    redirect_printed : (b : Bool) →
+        print_item y (a_redirect_of b number k t ss doc) ++ rest ≡ print_number number
+        ++ (text (redirect_text k) ∷ behind_operator)
+    redirect_printed b =
+        let O = text (redirect_text k) ∷ (if spaced then one (codes " ") else []) in
+        let D = print_here (word t ss) doc in
+        append_assoc (print_number number ++ O ++ one t) D rest
+        ∙ append_assoc (print_number number ++ O) (one t) (D ++ rest)
+        ∙ append_assoc (print_number number) O (text t ∷ (D ++ rest))
+
+    no_strip : spaced ≡ false → would_strip k t ≡ false
+    no_strip e = by_or (y.space_redirects && not (duplicates k)) (would_strip k t) e
+      where
+        by_or : (a b : Bool) → (a || b) ≡ false → b ≡ false
+        by_or true b e = absurd cc
+        by_or false b e = e
+
+    target_at : (h : Held) (e : ℕ) → At S h e behind_operator → TargetThere h k e t behind_word_marks
+    target_at h e at = target_there h k spaced e t ss behind_word_marks no_strip good.reads (document_follows doc) at
+
+    no_longer_at : (h : Held) (e : ℕ) → At S h e behind_operator → NoLonger T e
+    no_longer_at h e at = (target_at h e at).no_longer
+
+    no_dash_at : (h : Held) (e : ℕ) → At S h e behind_operator → NoDash k T e
+    no_dash_at h e at = (target_at h e at).no_dash
+
+    redirect_there : (h : Held) (position : Position) (b : Bool) (p : ℕ) →
+        At S h p (print_item y (a_redirect_of b number k t ss doc) ++ rest) → RedirectThere edition position T p
+    redirect_there h position b p at =
+        redirect_begins k behind_operator no_dash_at no_longer_at h position number p good.digits
+        (at ∙ ap (lay h) (redirect_printed b))
+
+    redirect_shape : (broken : Bool) (d : Option Span) (s : Span) (w : AWord) (v : Option AHere) →
+        option_map (bare_at B) d ≡ number → shape_of_word B w ≡ word t ss →
+        option_map (shape_of_here B) v ≡ open_here [] doc
+        → shape_of_item B (item broken (redirect d k s w v)) ≡ open_item [] (a_redirect_of broken number k t ss doc)
+    unfolding open_item open_item_content
+    redirect_shape broken d s w v digits is waits = rw (digits, is, waits) refl
+
+    redirect_read : (h : Held) (position : Position) (broken b : Bool) (acc : Row AnItem) (next : Position) (n : Next)
+        (p : ℕ) → n.token ≡ told S position p → At S h p (print_item y (a_redirect_of b number k t ss doc) ++ rest)
+        → RedirectRead h broken acc next n p (a_redirect_of broken number k t ss doc) rest
+    unfolding one_redirect a_target an_operator item_bodies item_content_bodies
+    redirect_read h position broken b acc next n p token_is at =
+        let d = number_read k behind_operator no_dash_at no_longer_at h position number n p good.digits token_is
+        (at ∙ ap (lay h) (redirect_printed b)) in
+        let e = d.q + length (redirect_text k) in
+        let w = target_at h e (at_text S h d.q (redirect_text k) behind_operator d.at) in
+        let q = past_blanks T e in
+        let at_q = subst (λ r. At S h r (text t ∷ behind_word_marks)) (sym w.gap.blanks) w.at in
+        let held = held_bytes h.waiting in
+        let v = (good.reads.there (g S) q (lay h behind_word_marks) (at_q ∙ laid_text h t behind_word_marks)
+        (document_follows doc held)).word B (sym S.here) in
+        let f = q + length t in
+        let found = good.reads.there (g S) w.f (lay h behind_word_marks) (w.at ∙ laid_text h t behind_word_marks)
+        (document_follows doc held) in
+        let word_is : is_word (asked S Suffix e).token ≡ true =
+        ap (λ (n : Next). is_word n.token) (asked_behind S Suffix w.gap) ∙ ap is_word (tell S found.token_is) in
+        let moves = operator_moves h k d.q (lay h behind_operator)
+        (d.at ∙ laid_text h (redirect_text k) behind_operator) in
+        let operator : Gives (g S) (operator_by (o + p) (redirect_operator_of d.next.token)) (state h d.q)
+        (k, span o d.q e) (state h e) =
+        rw d.token_is (told_here (by (redirect_text k)) moves ⟫ given_here) in
+        let size : f - q ≡ length t = omega arith in
+        let raw_is : raw T q f ≡ t = ap (λ n. take n (drop q T)) size
+        ∙ text_here T q t (lay h behind_word_marks) (at_q ∙ laid_text h t behind_word_marks) in
+        let word_bytes : Gives (g S) (with_bytes (a_word (level room))) (state h q) (v.0, t) (state h f) =
+        subst (λ z. Gives (g S) (with_bytes (a_word (level room))) (state h q) (v.0, z) (state h f)) raw_is
+        (bytes_here (printed_word h t ss q v)) in
+        let x = document_read h k (span o d.q e).start (word_span v.0).start t f ss doc rest good.document
+        (at_text S h q t behind_word_marks at_q) in
+        let it = item broken (redirect d.value k (span o d.q e) v.0 x.value) in
+        let within = some_word S q t (lay h behind_word_marks) good.reads.some
+        (at_q ∙ laid_text h t behind_word_marks) in
+        let low : e ≤ q = blanks_low T e in
+        let low_f : f ≤ past_blanks T f = blanks_low T f in
+        record {
+          it = it;
+          «end» = f;
+          later = x.later;
+          at = x.at;
+          reads = seen_here the_place ⟫ d.reads ⟫ operator ⟫
+              (next_read S h Suffix e ⟫ first_of _ _ word_is word_bytes) ⟫ x.reads ⟫ pushed_here acc it ⟫ next_read S
+              x.later next f ⟫ given_here;
+          on = leads S h x.later p (past_blanks T f) (omega (arith, good.reads.some, low, low_f, d.low))
+              (omega (arith, within, low, d.low));
+          is = redirect_shape broken d.value (span o d.q e) v.0 x.value d.shape v.1.1 x.shape;
+          texts = x.texts;
+        }
+
+  -- ---- items of each kind
+
+  item_begins : (t : Token) (position : Position) → behind_word t ≡ Some position → begins_simple t ≡ true
+  item_begins t position e = rw e refl
+
+  -- where an item is printed
+  pub record ItemThere (position : Position) (p : ℕ) : Type 0 where
+    pub start : Start T p
+    pub begins : begins_simple (told S position p) ≡ true
+
+  word_there : (h : Held) (position next : Position) (token : Token) (w : Text) (ss : Shape SubstsOf) →
+      behind_word token ≡ Some next → ItemAnywhere edition room position token w ss → (p : ℕ) (rest : Marks) →
+      Followed rest
+      → At S h p (text w ∷ rest) → ItemThere position p
+  word_there h position next token w ss some good p rest follow at =
+      let found = good.there (g S) p (lay h rest) (at ∙ laid_text h w rest) (follow (held_bytes h.waiting)) in
+      record {
+        start = record { place = found.place; no_blank = found.no_blank };
+        begins = ap begins_simple (tell_word S (item_is_word token (ap is_some some)) found.token_is)
+            ∙ item_begins token next some;
+      }
+
+  pub item_there : (h : Held) {kind : Kind} {position next : Position} {i : Shape AnItemOf} (y : Layout) →
+      GoodItem edition room kind position i next → (p : ℕ) (rest : Marks) → Followed rest →
+      At S h p (print_item y i ++ rest)
+      → ItemThere position p
+  item_there h y (of_word {position = position} {next = next} {token = token} {broken = b} {t = t}
+      {ss = ss} some good) p rest follow at =
+      word_there h position next token t ss some good p rest follow
+      (at ∙ ap (λ ms. lay h (ms ++ rest)) (item_printed y b next t ss))
+  item_there h y (of_argument {broken = b} {t = t} {ss = ss} good) p rest follow at =
+      word_there h Suffix Suffix tokens.Word t ss refl good p rest follow at
+  item_there h y (of_redirect {position = position} {broken = b} {number = number} {o = k} {t = t} {ss = ss}
+      {h = doc} good) p rest follow at =
+      let r = redirect_there y number k t ss doc good rest follow h position b p at in
+      record { start = r.start; begins = redirect_is_item (told S position p) r.redirect }
+  item_there h y (of_redirect_behind {broken = b} {number = number} {o = k} {t = t} {ss = ss} {h = doc} good) p rest
+      follow at =
+      let r = redirect_there y number k t ss doc good rest follow h Command b p at in
+      record { start = r.start; begins = redirect_is_item (told S Command p) r.redirect }
+
+  pub item_read : (h : Held) {kind : Kind} {position next : Position} {i : Shape AnItemOf} (y : Layout) →
+      GoodItem edition room kind position i next → (acc : Row AnItem) (n : Next) (p : ℕ) (rest : Marks) →
+      n.token ≡ told S position p
+      → Followed rest → At S h p (print_item y i ++ rest) → ItemRead h kind acc position n p next i rest
+  unfolding item_turn word_turn redirect_turn an_item item_bodies item_content_bodies
+  item_read h y (of_word {position = position} {next = next} {token = token} {broken = b} {t = w} {ss = ss} some good)
+      acc n p rest token_is follow at =
+      let at_p = at ∙ ap (λ ms. lay h (ms ++ rest)) (item_printed y b next w ss) in
+      let found = good.there (g S) p (lay h rest) (at_p ∙ laid_text h w rest) (follow (held_bytes h.waiting)) in
+      let v = found.word B (sym S.here) in
+      let is_here : n.token ≡ token = token_is ∙ tell_word S (item_is_word token (ap is_some some)) found.token_is in
+      record {
+        it = item (breaks (so_many acc position n)) (as_item next v.0);
+        «end» = p + length w;
+        later = h;
+        at = at_text S h p w rest at_p;
+        reads = rw (is_here, some) (word_item h next w ss acc position n p v);
+        on = word_on h w p rest good.some at_p;
+        is = item_shape next _ v.0 (word w ss) v.1.1
+            ∙ ap (λ i. open_item [] i) (broken_item (breaks (so_many acc position n)) b next (word w ss));
+        texts = word_adds h b next (word w ss);
+      }
+  item_read h y (of_argument {broken = b} {t = w} {ss = ss} good) acc n p rest token_is follow at =
+      let found = good.there (g S) p (lay h rest) (at ∙ laid_text h w rest) (follow (held_bytes h.waiting)) in
+      let v = found.word B (sym S.here) in
+      record {
+        it = item (breaks (so_many acc Suffix n)) (as_item Suffix v.0);
+        «end» = p + length w;
+        later = h;
+        at = at_text S h p w rest at;
+        reads = first_of _ _ (ap is_word (token_is ∙ tell S found.token_is)) (word_item h Suffix w ss acc Suffix n p v);
+        on = word_on h w p rest good.some at;
+        is = item_shape Suffix _ v.0 (word w ss) v.1.1;
+        texts = word_adds h b Suffix (word w ss);
+      }
+  item_read h y (of_redirect {position = position} {broken = b} {number = number} {o = k} {t = t} {ss = ss}
+      {h = doc} good) acc n p rest token_is follow at =
+      let there = redirect_there y number k t ss doc good rest follow h position b p at in
+      let r = redirect_read y number k t ss doc good rest follow h position (breaks (so_many acc position n)) b acc
+      (behind_redirect position) n p token_is at in
+      let none : behind_word n.token ≡ None = ap behind_word token_is ∙ there.no_word in
+      let begins : begins_redirect n.token ≡ true = ap begins_redirect token_is ∙ there.redirect in
+      record {
+        it = r.it;
+        «end» = r.«end»;
+        later = r.later;
+        at = r.at;
+        reads = rw none (first_of _ _ begins r.reads);
+        on = r.on;
+        is = r.is;
+        texts = r.texts;
+      }
+  item_read h y (of_redirect_behind {broken = b} {number = number} {o = k} {t = t} {ss = ss} {h = doc} good) acc n p
+      rest token_is follow at =
+      let there = redirect_there y number k t ss doc good rest follow h Command b p at in
+      let r = redirect_read y number k t ss doc good rest follow h Command n.broken b acc Command n p token_is at in
+      let begins : begins_redirect n.token ≡ true = ap begins_redirect token_is ∙ there.redirect in
+      record {
+        it = r.it;
+        «end» = r.«end»;
+        later = r.later;
+        at = r.at;
+        reads = first_of _ _ begins r.reads;
+        on = r.on;
+        is = r.is;
+        texts = r.texts;
+      }
+
+  abbrev Shapes : Row AnItem → Shape ItemsOf
+  Shapes is = shape_of_items B (items_of is)
+
+  -- ---- items after others
+
+  pub record ItemsRead (h : Held) (kind : Kind) (acc : Row AnItem) (position : Position) (n : Next) (p : ℕ)
+      (last : Position) (is : Shape ItemsOf) (rest : Marks) : Type 0 where
+    pub more_items_read : Row AnItem
+    pub «end» : ℕ
+    pub later : Held
+    pub at : At S later «end» rest
+    pub reads : Gives (g S) (many (turn_of kind) (so_many acc position n)) (state h p)
+        (so_many (acc ++ more_items_read) last (asked S Command «end»)) (state later (past_blanks T «end»))
+    pub shape : Shapes more_items_read ≡ open_items [] is
+    pub texts : Adds S h later (items_bodies is)
+
+  -- one more item before others
+  items_on : (h : Held) {kind : Kind} {acc : Row AnItem} {position : Position} {n : Next} {p : ℕ}
+      {next last : Position} {i : Shape AnItemOf} {is : Shape ItemsOf} {ms rest : Marks}
+      (one : ItemRead h kind acc position n p next i ms)
+      → broken_by kind (so_many acc position n) ≡ is_broken_item i →
+      ItemsRead one.later kind (acc ++ one.it ∷ []) next (asked S next one.«end»)
+      (past_blanks T one.«end») last is rest
+      → ItemsRead h kind acc position n p last (more_items i is) rest
+  unfolding open_items items_bodies
+  items_on h {kind = kind} {acc = acc} {position = position} {n = n} {p = p} {last = last} {i = i}
+      {is = is} one same others = record {
+        more_items_read = one.it ∷ others.more_items_read;
+        «end» = others.«end»;
+        later = others.later;
+        at = others.at;
+        reads = subst (λ is. Gives (g S) (many (turn_of kind) (so_many acc position n)) (state h p)
+            (so_many is last (asked S Command others.«end»)) (state others.later (past_blanks T others.«end»)))
+            (append_assoc acc (one.it ∷ []) others.more_items_read)
+            (one_turn (turn_of kind) one.reads one.on others.reads);
+        shape = ap2 (one.is ∙ ap (λ b. open_item [] (with_broken b i)) same
+            ∙ ap (λ i. open_item [] i) (same_broken i))
+            others.shape;
+        texts = λ ts. others.texts ts ∙ one.texts (items_bodies is ts);
+      }
+    where
+      ap2 : {i j : Shape AnItemOf} {is js : Shape ItemsOf} → i ≡ j → is ≡ js → more_items i is ≡ more_items j js
+      ap2 e f = rw (e, f) refl
+
+  -- no more item
+  item_stops : (h : Held) (kind : Kind) (acc : Row AnItem) (position : Position) (n : Next) (p : ℕ) →
+      begins_simple n.token ≡ false →
+      Gives (g S) (turn_of kind (so_many acc position n)) (state h p) (done (so_many acc position n)) (state h p)
+  unfolding item_turn word_turn redirect_turn
+  item_stops h of_command acc position n p none = let no = no_item_token n.token none in
+      rw (no.behind, no.redirect) given_here
+  item_stops h of_for acc position n p none = second_of _ _ (no_item_token n.token none).word given_here
+  item_stops h of_compound acc position n p none = second_of _ _ (no_item_token n.token none).redirect given_here
+
+  no_items_on : (h : Held) (kind : Kind) (acc : Row AnItem) (position : Position) (n : Next) (e : ℕ) (rest : Marks) →
+      At S h e rest → asked S Command e ≡ n → begins_simple n.token ≡ false
+      → ItemsRead h kind acc position n (past_blanks T e) position no_item rest
+  unfolding open_items items_bodies
+  no_items_on h kind acc position n e rest at same none = record {
+    more_items_read = [];
+    «end» = e;
+    later = h;
+    at = at;
+    reads = rw (append-nil acc, same)
+        (last_turn (turn_of kind) (item_stops h kind acc position n (past_blanks T e) none));
+    shape = refl;
+    texts = λ ts. refl;
+  }
+
+  -- ---- gaps between items
+
+  -- after a printed gap an item may begin
+  pub record GapRead (h : Held) (e : ℕ) (broken : Bool) (ms : Marks) : Type 0 where
+    pub p : ℕ
+    pub at : At S h p ms
+    pub gap : Start T p → Gap T e p broken
+
+  pub gap_read : (h : Held) (y : Layout) (m : Text) (broken : Bool) (e : ℕ) (ms : Marks) →
+      all_blank (deeper y m) ≡ true → (c : ℕ) (cs : Text) → deeper y m ≡ c ∷ cs → At S h e (print_gap y m broken ++ ms)
+      → GapRead h e broken ms
+  gap_read h y m false e ms blank c cs is at =
+      let there = at ∙ laid_text h (codes " ") ms in
+      record { p = e + 1; at = next_one T e 32 (lay h ms) there; gap = λ s. blank_gap refl there (no_gap s) }
+  gap_read h y m true e ms blank c cs is at =
+      let there : drop e T ≡ 32 ∷ 92 ∷ 10 ∷ c ∷ (cs ++ lay h ms) =
+      at ∙ laid_text h (codes " \\\n") (text (deeper y m) ∷ ms)
+      ∙ ap (λ z. 32 ∷ 92 ∷ 10 ∷ z) (laid_text h (deeper y m) ms ∙ ap (λ z. z ++ lay h ms) is) in
+      let n : e + length (32 ∷ 92 ∷ 10 ∷ c ∷ cs) ≡ e + 3 + length (c ∷ cs) = omega arith in
+      record {
+        p = e + 3 + length (c ∷ cs);
+        at = subst (λ q. drop q T ≡ lay h ms) n (skip T e (32 ∷ 92 ∷ 10 ∷ c ∷ cs) (lay h ms) there);
+        gap = broken_gap T e c cs (lay h ms) (subst (λ z. all_blank z ≡ true) is blank) there;
+      }
+
+  -- ---- all items
+
+  -- the first item is not broken, where it stands after no other one
+  abbrev Unbroken : Kind → Row AnItem → Shape ItemsOf → Type 0
+  Unbroken of_command acc is = is_empty acc ≡ true → first_not_broken is ≡ true
+  Unbroken of_for acc is = is_empty acc ≡ true → first_not_broken is ≡ true
+  Unbroken of_compound acc is = Unit {0}
+
+  first_not : (b : Bool) → not b ≡ true → b ≡ false
+  first_not true e = absurd cc
+  first_not false e = refl
+
+  breaks_by : (acc : Row AnItem) (position : Position) (n : Next) (b : Bool) → (is_empty acc ≡ true → not b ≡ true) →
+      n.broken ≡ b → breaks (so_many acc position n) ≡ b
+  breaks_by [] position n b none is = sym (first_not b (none refl))
+  breaks_by (i ∷ is) position n b none same = same
+
+  broken_is : (kind : Kind) (acc : Row AnItem) (position : Position) (n : Next) (i : Shape AnItemOf)
+      (is : Shape ItemsOf) → Unbroken kind acc (more_items i is) → n.broken ≡ is_broken_item i
+      → broken_by kind (so_many acc position n) ≡ is_broken_item i
+  broken_is of_command acc position n (item b what) is first same = breaks_by acc position n b first same
+  broken_is of_for acc position n (item b what) is first same = breaks_by acc position n b first same
+  broken_is of_compound acc position n (item b what) is first same = same
+
+  unbroken_on : (kind : Kind) (acc : Row AnItem) (i : AnItem) (is : Shape ItemsOf) → Unbroken kind (acc ++ i ∷ []) is
+  unbroken_on of_command acc i is = λ e. absurd (both_ways (is_empty (acc ++ i ∷ [])) (pushed_some acc i) e)
+  unbroken_on of_for acc i is = λ e. absurd (both_ways (is_empty (acc ++ i ∷ [])) (pushed_some acc i) e)
+  unbroken_on of_compound acc i is = tt
+
+  first_item : (b : Bool) (position : Position) (w : Shape AWordOf) (is : Shape ItemsOf) →
+      first_not_broken (more_items (an_item_of b position w) is) ≡ true → b ≡ false
+  first_item b Command w is first = first_not b first
+  first_item b Prefix w is first = first_not b first
+  first_item b Suffix w is first = first_not b first
+
+  module _ (y : Layout) (m : Text) (c : ℕ) (cs : Text) (blank : all_blank (deeper y m) ≡ true)
+      (some_margin : deeper y m ≡ c ∷ cs)
+      (rest : Marks) (follow : Followed rest) (after_it : (h : Held) (e : ℕ) → At S h e rest → Behind S e) where
+    -- the next item, after a gap
+    record NextItem (h : Held) (position : Position) (i : Shape AnItemOf) (is : Shape ItemsOf) (e : ℕ) : Type 0 where
+      at : At S h (past_blanks T e) (print_item y i ++ (print_items y m is ++ rest))
+      broken : (asked S position e).broken ≡ is_broken_item i
+      begins : begins_simple (asked S position e).token ≡ true
+
+    next_item : (h : Held) {kind : Kind} {position next : Position} {i : Shape AnItemOf} (is : Shape ItemsOf) (e : ℕ)
+        → GoodItem edition room kind position i next → At S h e (print_items y m (more_items i is) ++ rest) →
+        NextItem h position i is e
+    next_item h {position = position} {i = i} is e one at =
+        let ms = print_item y i ++ (print_items y m is ++ rest) in
+        let gap = gap_read h y m (is_broken_item i) e ms blank c cs some_margin
+        (at ∙ ap (lay h) (more_printed y m i is rest)) in
+        let there = item_there h y one gap.p (print_items y m is ++ rest) (items_follow y m is rest follow) gap.at in
+        let passed = gap.gap there.start in
+        record {
+          at = subst (λ q. At S h q ms) (sym passed.blanks) gap.at;
+          broken = passed.breaks;
+          begins = ap (λ (n : Next). begins_simple n.token) (asked_behind S position passed) ∙ there.begins;
+        }
+
+    pub items_read : {kind : Kind} (h : Held) {position last : Position} {is : Shape ItemsOf} →
+        GoodItems edition room kind position is last → (acc : Row AnItem) (e : ℕ) → Unbroken kind acc is
+        → At S h e (print_items y m is ++ rest) →
+        ItemsRead h kind acc position (asked S position e) (past_blanks T e) last is rest
+    items_read {kind = kind} h {position = position} none_more acc e first at =
+        let b = after_it h e at in
+        no_items_on h kind acc position (asked S position e) e rest at (b.seen_as Command ∙ sym (b.seen_as position))
+        (ap (λ (n : Next). begins_simple n.token) (b.seen_as position) ∙ b.no_item)
+    items_read {kind = kind} h {position = position} (one_more {i = i} {is = is} good others) acc e first at =
+        let it = next_item h is e good at in
+        let n = asked S position e in
+        let one = item_read h y good acc n (past_blanks T e) (print_items y m is ++ rest) refl
+        (items_follow y m is rest follow) it.at in
+        items_on h one (broken_is kind acc position n i is first it.broken)
+        (items_read one.later others (acc ++ one.it ∷ []) one.«end» (unbroken_on kind acc one.it is) one.at)
+
+    simple_printed : (i : Shape AnItemOf) (is : Shape ItemsOf) →
+        print_simple y m (more_items i is) ++ rest ≡ print_item y i ++ (print_items y m is ++ rest)
+    simple_printed i is = append_assoc (print_item y i) (print_items y m is) rest
+
+    first_unbroken : (n : Next) (i : Shape AnItemOf) (is : Shape ItemsOf) → first_not_broken (more_items i is) ≡ true
+        → broken_by of_command (so_many [] Command n) ≡ is_broken_item i
+    first_unbroken n (item b what) is first = sym (first_not b first)
+
+    -- all items of a simple command, and the token after them
+    simple_items : (h : Held) {last : Position} {is : Shape ItemsOf} (n : Next) (p : ℕ) →
+        GoodItems edition room of_command Command is last → SomeItem is → first_not_broken is ≡ true →
+        n.token ≡ told S Command p
+        → At S h p (print_simple y m is ++ rest) → ItemsRead h of_command [] Command n p last is rest
+    simple_items h n p none_more some first token_is at = absurd some
+    simple_items h n p (one_more {i = i} {is = is} good others) some first token_is at =
+        let there = at ∙ ap (lay h) (simple_printed i is) in
+        let one = item_read h y good [] n p (print_items y m is ++ rest) token_is
+        (items_follow y m is rest follow) there in
+        items_on h one (first_unbroken n i is first)
+        (items_read one.later others (one.it ∷ []) one.«end» (λ e. absurd cc) one.at)
+
+    -- a simple command
+    pub simple_read : (h : Held) (is : Shape ItemsOf) (n : Next) (p : ℕ) → GoodSimple edition room is →
+        first_not_broken is ≡ true → n.token ≡ told S Command p → At S h p (print_simple y m is ++ rest)
+        → Got S h (a_simple (level room) (so_many [] Command n)) p rest (command_bodies (simple is))
+        (λ c. shape_of_command B c ≡ open_command [] (simple is))
+    unfolding a_simple open_command command_bodies
+    simple_read h is n p good first token_is at =
+        let r = simple_items h n p good.items good.some first token_is at in
+        record {
+          value = simple (items_of r.more_items_read);
+          «end» = r.«end»;
+          later = r.later;
+          at = r.at;
+          texts = r.texts;
+          reads = r.reads ⟫ given_here;
+          is = ap (λ is. simple is) r.shape;
+        }
+
+    -- no `(` stands after a word
+    next_round : (h : Held) {position last : Position} {is : Shape ItemsOf} →
+        GoodItems edition room of_command position is last → (e : ℕ) → At S h e (print_items y m is ++ rest) →
+        is_paren (asked S position e).token ≡ false
+    next_round h {position = position} none_more e at = let b = after_it h e at in
+        ap (λ (n : Next). is_paren n.token) (b.seen_as position) ∙ b.no_round
+    next_round h {position = position} (one_more {is = is} good others) e at =
+        item_no_round (asked S position e).token (next_item h is e good at).begins
+
+    -- a simple command that begins with a word
+    word_command_read : (h : Held) {last : Position} {w : Text} {ss : Shape SubstsOf} {is : Shape ItemsOf} (p : ℕ) →
+        ItemAnywhere edition room Command tokens.Word w ss → GoodItems edition room of_command Suffix is last →
+        At S h p (text w ∷ (print_items y m is ++ rest))
+        → Got S h (a_word_command (level room)) p rest
+        (command_bodies (simple (more_items (an_item_of false Suffix (word w ss)) is)))
+        (λ c. shape_of_command B c ≡ open_command [] (simple (more_items (an_item_of false Suffix (word w ss)) is)))
+    unfolding a_word_command a_simple open_command open_items command_bodies items_bodies item_bodies
+        item_content_bodies
+    word_command_read h {w = w} {ss = ss} {is = is} p good others at =
+        let ms = print_items y m is ++ rest in
+        let there = at ∙ laid_text h w ms in
+        let found = good.there (g S) p (lay h ms) there (items_follow y m is rest follow (held_bytes h.waiting)) in
+        let v = found.word B (sym S.here) in
+        let e = p + length w in
+        let at_e = at_text S h p w ms at in
+        let it : AnItem = item false (argument v.0) in
+        let r = items_read h others (it ∷ []) e (λ e. absurd cc) at_e in
+        record {
+          value = simple (items_of (it ∷ r.more_items_read));
+          «end» = r.«end»;
+          later = r.later;
+          at = r.at;
+          texts = r.texts;
+          reads = seen_here is_a_name ⟫ printed_word h w ss p v ⟫ next_read S h Suffix e ⟫ second_of _ _
+              (next_round h others e at_e) (pushed_here [] it ⟫ (r.reads ⟫ given_here));
+          is = rw (item_shape Suffix false v.0 (word w ss) v.1.1, r.shape) refl;
+        }
+
+    -- one that begins with another item
+    other_read : (h : Held) (is : Shape ItemsOf) (n : Next) (p : ℕ) → GoodSimple edition room is →
+        first_not_broken is ≡ true → n.token ≡ told S Command p → At S h p (print_simple y m is ++ rest) →
+        is_word n.token ≡ false → begins_simple n.token ≡ true
+        → Got S h (a_command (level room) n) p rest (command_bodies (simple is))
+        (λ c. shape_of_command B c ≡ open_command [] (simple is))
+    unfolding a_command
+    other_read h is n p good first token_is at no_word begins =
+        let r = simple_read h is n p good first token_is at in
+        record {
+          value = r.value;
+          «end» = r.«end»;
+          later = r.later;
+          at = r.at;
+          texts = r.texts;
+          reads = second_of _ _ no_word (first_of _ _ begins r.reads);
+          is = r.is;
+        }
+
+    -- a simple command, by what it begins with
+    pub simple_command : (h : Held) (is : Shape ItemsOf) (n : Next) (p : ℕ) → GoodSimple edition room is →
+        first_not_broken is ≡ true → n.token ≡ told S Command p → At S h p (print_simple y m is ++ rest)
+        → Got S h (a_command (level room) n) p rest (command_bodies (simple is))
+        (λ c. shape_of_command B c ≡ open_command [] (simple is))
+    unfolding a_command
+    simple_command h all n p good first token_is at = by_items h good.items good.some first at
+      where
+        by_items : (h : Held) {last : Position} {is : Shape ItemsOf} →
+            GoodItems edition room of_command Command is last → SomeItem is → first_not_broken is ≡ true →
+            At S h p (print_simple y m is ++ rest)
+            → Got S h (a_command (level room) n) p rest (command_bodies (simple is))
+            (λ c. shape_of_command B c ≡ open_command [] (simple is))
+        by_items h none_more some first at = absurd some
+        by_items h {last = last} (one_more {is = is}
+            (of_word {next = next} {token = token} {broken = b} {t = w} {ss = ss} is_item one) others) some first at =
+            let there = at ∙ ap (lay h) (simple_printed (an_item_of b next (word w ss)) is)
+            ∙ ap (λ ms. lay h (ms ++ (print_items y m is ++ rest))) (item_printed y b next w ss) in
+            let found = one.there (g S) p (lay h (print_items y m is ++ rest))
+            (there ∙ laid_text h w (print_items y m is ++ rest))
+            (items_follow y m is rest follow (held_bytes h.waiting)) in
+            let token_here : n.token ≡ token = token_is
+            ∙ tell_word S (item_is_word token (ap is_some is_item)) found.token_is in
+            ⊎_elim
+            (λ (k : (token ≡ tokens.Word) × (next ≡ Suffix)).
+            let r = word_command_read h p (subst (λ (t : Token). ItemAnywhere edition room Command t w ss) k.0 one)
+            (subst (λ (q : Position). GoodItems edition room of_command q is last) k.1 others) there in
+            let same : more_items (an_item_of false Suffix (word w ss)) is
+            ≡ more_items (an_item_of b next (word w ss)) is =
+            rw (first_item b next (word w ss) is first, k.1) refl in
+            subst (λ is. Got S h (a_command (level room) n) p rest (command_bodies (simple is))
+            (λ c. shape_of_command B c ≡ open_command [] (simple is))) same
+            (record {
+              value = r.value;
+              «end» = r.«end»;
+              later = r.later;
+              at = r.at;
+              texts = r.texts;
+              reads = first_of _ _ (ap is_word (token_here ∙ k.0)) r.reads;
+              is = r.is;
+            }))
+            (λ (k : (token ≡ tokens.Assignment) × (next ≡ Prefix)).
+            other_read h (more_items (an_item_of b next (word w ss)) is) n p
+            (record { last = last; items = one_more (of_word is_item one) others; some = tt }) first token_is at
+            (ap is_word (token_here ∙ k.0)) (ap begins_simple (token_here ∙ k.0)))
+            (kind_of token next is_item)
+        by_items h {last = last} (one_more {is = is}
+            (of_redirect {broken = b} {number = number} {o = k} {t = t} {ss = ss} {h = doc} one) others) some first
+            at =
+            let there = redirect_there y number k t ss doc one (print_items y m is ++ rest)
+            (items_follow y m is rest follow) h Command b p
+            (at ∙ ap (lay h) (simple_printed (a_redirect_of b number k t ss doc) is)) in
+            let redirect_is = ap begins_redirect token_is ∙ there.redirect in
+            other_read h (more_items (a_redirect_of b number k t ss doc) is) n p
+            (record { last = last; items = one_more (of_redirect one) others; some = tt }) first token_is at
+            (redirect_no_word n.token redirect_is) (redirect_is_item n.token redirect_is)
