@@ -98,7 +98,7 @@ impl<'a, S: Source, const KEEP: u8> Cursor<'a, S, KEEP> {
         Ok(true)
     }
 
-    /// All of them.
+    /// The branches after the first, up to what is no `elif`.
     #[cycle(commands)]
     #[tactic(auto, using(shgrammar::proofs::Turns::many_again, shgrammar::proofs::Turns::many_done, crate::proofs::Stops::many_stop))]
     fn elifs(&mut self, room: usize) -> Result<Vec<Branch>, Stop>

@@ -114,7 +114,7 @@ impl<'a, S: Source, const KEEP: u8> Cursor<'a, S, KEEP> {
         Ok(true)
     }
 
-    /// All of them.
+    /// The words of a `for`, up to what is none.
     #[cycle(commands)]
     #[tactic(auto, using(shgrammar::proofs::Turns::many_again, shgrammar::proofs::Turns::many_done, crate::proofs::Stops::many_stop))]
     fn words(&mut self, room: usize) -> Result<Vec<Item>, Stop>

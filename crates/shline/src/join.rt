@@ -30,7 +30,7 @@ impl<'a, S: Source, const KEEP: u8> Cursor<'a, S, KEEP> {
         Ok(newline)
     }
 
-    /// All of them.
+    /// The newlines and comments after an operator, up to its operand.
     #[tactic(auto, using(shgrammar::proofs::Turns::many_again, shgrammar::proofs::Turns::many_done, crate::proofs::Stops::many_stop))]
     pub(crate) fn join_on(&mut self, join: &mut Join) -> Result<(), Stop>
         ensures value { Takes self.old (many join_turn (join_so (view_join join.old) self.old.next))

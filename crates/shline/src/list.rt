@@ -164,7 +164,7 @@ impl<'a, S: Source, const KEEP: u8> Cursor<'a, S, KEEP> {
         Ok(separator.is_some())
     }
 
-    /// All of them.
+    /// The entries of a line, up to what begins none.
     #[cycle(commands)]
     #[tactic(auto, using(shgrammar::proofs::Turns::many_again, shgrammar::proofs::Turns::many_done, crate::proofs::Stops::many_stop, shgrammar::proofs::Turns::last_entry))]
     fn entries(&mut self, listed: &mut Listed, room: usize) -> Result<(), Stop>
@@ -223,7 +223,7 @@ impl<'a, S: Source, const KEEP: u8> Cursor<'a, S, KEEP> {
         Ok(newline)
     }
 
-    /// All of them.
+    /// The lines of a list, up to what begins no entry.
     #[cycle(commands)]
     #[tactic(auto, using(shgrammar::proofs::Turns::many_again, shgrammar::proofs::Turns::many_done, crate::proofs::Stops::many_stop))]
     pub(crate) fn list_lines(&mut self, listed: &mut Listed, room: usize) -> Result<(), Stop>

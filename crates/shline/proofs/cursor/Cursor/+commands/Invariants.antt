@@ -1,3 +1,6 @@
+-- The measure by which the functions end that read lists, commands and words, and what their loops keep: 128
+-- for each construct that may still be opened, and for each function a number below 128 that is above those
+-- of the functions it calls with as many.
 use Rattle.std.proofs.Common.{◌≡◌, ◌≤◌, ◌+◌, ◌*◌, ◌-◌, [], length, map}
 use Rattle.shgrammar.specs.declared.token.Position.TheVariants.{Suffix, Command as AsCommand}
 use Rattle.shline.specs.Clauses.{at_place, at_token, here_of, Rests, start_of, text_of}
