@@ -2,6 +2,7 @@
 -- that know of no later edition. Which delimiter a word is, `delimiter_of` says. That a row sees these by
 -- that edition, and nothing else, is a law (`by_2017` of `shread`).
 use Rattle.std.specs.Prelude.{ℕ, ◌==◌, List, Option, None, Some, if◌then◌else◌}
+use Rattle.shgrammar.specs.Characters.{number_sign, dollar_sign, ampersand, left_parenthesis, right_parenthesis, semicolon, less_than_sign, greater_than_sign, backslash, grave_accent, left_brace, vertical_line}
 use Rattle.shgrammar.specs.declared.mode.Mode.{Mode}
 use Rattle.shgrammar.specs.declared.mode.Piece.{Piece}
 use Rattle.shgrammar.specs.declared.mode.Piece.TheVariants as pieces
@@ -21,14 +22,15 @@ use Rattle.shgrammar.specs.Tokens.{greater_at, is_number, less_at, word_by}
 abbrev pub token_2017 : Position → List ℕ → ℕ → Option ℕ → Token
 token_2017 position T p None = tokens.End
 token_2017 position T p (Some b) = if is_newline b then tokens.Newline
-    else (if b == 59 then (if stands T (past_byte T p) 59 then tokens.DoubleSemicolon else tokens.Semicolon)
-    else (if b == 38 then (if stands T (past_byte T p) 38 then tokens.AndIf else tokens.Ampersand)
-    else (if b == 124 then (if stands T (past_byte T p) 124 then tokens.OrIf else tokens.Pipe)
-    else (if b == 40 then tokens.OpenParen
-    else (if b == 41 then tokens.CloseParen
-    else (if b == 60 then tokens.Redirect (less_at T (past_byte T p))
-    else (if b == 62 then tokens.Redirect (greater_at T (past_byte T p))
-    else (if b == 35 then tokens.Comment
+    else (if b == semicolon then
+    (if stands T (past_byte T p) semicolon then tokens.DoubleSemicolon else tokens.Semicolon)
+    else (if b == ampersand then (if stands T (past_byte T p) ampersand then tokens.AndIf else tokens.Ampersand)
+    else (if b == vertical_line then (if stands T (past_byte T p) vertical_line then tokens.OrIf else tokens.Pipe)
+    else (if b == left_parenthesis then tokens.OpenParen
+    else (if b == right_parenthesis then tokens.CloseParen
+    else (if b == less_than_sign then tokens.Redirect (less_at T (past_byte T p))
+    else (if b == greater_than_sign then tokens.Redirect (greater_at T (past_byte T p))
+    else (if b == number_sign then tokens.Comment
     else (if is_number T p then tokens.Number else word_by position T p)))))))))
 
 -- the next token from p on: what it is, and whether a continuation stands before it
@@ -43,17 +45,18 @@ next_2017 position T p = record {
 -- by the byte after a `$`, which is read at q
 abbrev pub dollar_2017 : List ℕ → ℕ → Option ℕ → Piece
 dollar_2017 T q None = pieces.Ordinary
-dollar_2017 T q (Some b) = if b == 36 then pieces.Pid
-    else (if b == 40 then (if stands T (past_byte T q) 40 then pieces.Arith else pieces.Subst)
-    else (if b == 123 then pieces.Param else pieces.Ordinary))
+dollar_2017 T q (Some b) = if b == dollar_sign then pieces.Pid
+    else (if b == left_parenthesis then
+    (if stands T (past_byte T q) left_parenthesis then pieces.Arith else pieces.Subst)
+    else (if b == left_brace then pieces.Param else pieces.Ordinary))
 
 -- by the byte at p, or none
 abbrev pub piece_by_2017 : List ℕ → ℕ → Mode → ℕ → Option ℕ → Piece
 piece_by_2017 T p mode n None = end_by mode
-piece_by_2017 T p mode n (Some b) = if b == 92
+piece_by_2017 T p mode n (Some b) = if b == backslash
     then (if at_end T (past_byte T p) then pieces.LoneBackslash else pieces.Escape)
-    else (if b == 96 then pieces.Backquote
-    else (if b == 36 then dollar_2017 T (past_byte T p) (byte_at T (past_byte T p))
+    else (if b == grave_accent then pieces.Backquote
+    else (if b == dollar_sign then dollar_2017 T (past_byte T p) (byte_at T (past_byte T p))
     else byte_by T p mode n b))
 
 -- the piece at p, with n brackets open in arithmetic

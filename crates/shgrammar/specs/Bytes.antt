@@ -1,6 +1,7 @@
 -- The bytes of a text as they are read: continuations are removed (XCU 2.2.1).
 use Rattle.std.specs.Prelude.{ℕ, ◌+◌, ◌-◌, length, Bool, true, ◌==◌, ◌&&◌, ◌||◌, List, [], ◌∷◌, Option, Some, None, slice_get, drop, zero, suc, if◌then◌else◌}
 use Rattle.shtext.specs.Text.{is_newline}
+use Rattle.shgrammar.specs.Characters.{newline_char, backslash}
 use Rattle.shgrammar.specs.Classes.{is_blank, is_operator}
 use Rattle.shgrammar.specs.Standing.{is_byte, passes, raw_past, continues}
 
@@ -8,7 +9,7 @@ use Rattle.shgrammar.specs.Standing.{is_byte, passes, raw_past, continues}
 unfoldable pub count_joined : List ℕ → ℕ
 count_joined [] = 0
 count_joined (b ∷ []) = 0
-count_joined (b ∷ c ∷ bs) = if b == 92 && c == 10 then 2 + count_joined bs else 0
+count_joined (b ∷ c ∷ bs) = if b == backslash && c == newline_char then 2 + count_joined bs else 0
 
 -- past continuations: the least place at or past p that whole continuations lead to and where none stands
 unfoldable pub past_continuations : List ℕ → ℕ → ℕ

@@ -4,6 +4,7 @@ use Rattle.std.specs.Prelude.{ℕ, zero, suc, ◌+◌, ◌-◌, ◌==◌, min, B
 use Rattle.std.specs.List.{list_any}
 use Rattle.shast.specs.declared.tree.Span.{Span}
 use Rattle.shast.specs.Shape.{bare}
+use Rattle.shgrammar.specs.Characters.{tab, newline_char, quotation_mark, dollar_sign, apostrophe, left_parenthesis, backslash, grave_accent, left_brace}
 use Rattle.shgrammar.specs.declared.fault.Fault.{Fault}
 use Rattle.shgrammar.specs.declared.fault.FaultKind.TheVariants.{UnclosedHere}
 use Rattle.shgrammar.specs.Standing.{at_end, count_front, next_newline}
@@ -23,13 +24,13 @@ pub data Quoting : Type 0 where
 
 -- this byte opens quotes, or closes them (XCU 2.2.2, 2.2.3)
 abbrev pub is_quote : Quoting → ℕ → Bool
-is_quote not_quoted b = b == 39 || b == 34
-is_quote in_single b = b == 39
-is_quote in_double b = b == 34
+is_quote not_quoted b = b == apostrophe || b == quotation_mark
+is_quote in_single b = b == apostrophe
+is_quote in_double b = b == quotation_mark
 
 -- how the bytes after this quote are quoted
 abbrev pub behind_quote : Quoting → ℕ → Quoting
-behind_quote not_quoted b = if b == 39 then in_single else in_double
+behind_quote not_quoted b = if b == apostrophe then in_single else in_double
 behind_quote q b = not_quoted
 
 -- a backslash, where it quotes, and a `$` and a backquote, where they are special
@@ -43,25 +44,26 @@ left_before b left = option_map (λ bs. b ∷ bs) left
 
 -- in double quotes a backslash stays, but before `$`, a backquote, `"` and a backslash (XCU 2.2.3)
 abbrev pub stays_before : Quoting → ℕ → Bool
-stays_before in_double c = not (c == 36 || c == 96 || c == 34 || c == 92)
+stays_before in_double c = not (c == dollar_sign || c == grave_accent || c == quotation_mark || c == backslash)
 stays_before q c = false
 
 -- the byte after a backslash: a continuation is dropped (XCU 2.2.1)
 abbrev pub escape_left : Quoting → ℕ → Option (List ℕ) → Option (List ℕ)
-escape_left q c left = if c == 10 then left
-    else (if stays_before q c then left_before 92 (left_before c left) else left_before c left)
+escape_left q c left = if c == newline_char then left
+    else (if stays_before q c then left_before backslash (left_before c left) else left_before c left)
 
 -- A `$`, and the bytes after it: `$(`, `$((` and `${` leave nothing. Whether it is
 -- the second of `$$`, and then whether the next is.
 abbrev pub dollar_left : Bool → List ℕ → (Bool → Option (List ℕ)) → Option (List ℕ)
-dollar_left true bs left = left_before 36 (left false)
-dollar_left false bs left = if stands bs 0 40 || stands bs 0 123 then None else left_before 36 (left (stands bs 0 36))
+dollar_left true bs left = left_before dollar_sign (left false)
+dollar_left false bs left = if stands bs 0 left_parenthesis || stands bs 0 left_brace then None
+    else left_before dollar_sign (left (stands bs 0 dollar_sign))
 
 -- a byte that is not after a backslash, and the bytes after it; text in backquotes leaves nothing
 abbrev pub byte_left : Quoting → Bool → ℕ → List ℕ → (Quoting → Bool → Option (List ℕ)) → Option (List ℕ)
 byte_left q second b bs left = if is_quote q b then left (behind_quote q b) false
-    else (if is_live q 96 b then None
-    else (if is_live q 36 b then dollar_left second bs (left q)
+    else (if is_live q grave_accent b then None
+    else (if is_live q dollar_sign b then dollar_left second bs (left q)
     else left_before b (left q second)))
 
 -- What quote removal leaves of these bytes of a word (XCU 2.6.7), or that an expansion or text in backquotes
@@ -69,13 +71,13 @@ byte_left q second b bs left = if is_quote q b then left (behind_quote q b) fals
 unfoldable pub unquoted : Quoting → Bool → List ℕ → Option (List ℕ)
 unquoted q second [] = Some []
 unquoted q second (b ∷ []) = byte_left q second b [] (λ r s. Some [])
-unquoted q second (b ∷ c ∷ bs) = if is_live q 92 b then escape_left q c (unquoted q second bs)
+unquoted q second (b ∷ c ∷ bs) = if is_live q backslash b then escape_left q c (unquoted q second bs)
     else byte_left q second b (c ∷ bs) (λ r s. unquoted r s (c ∷ bs))
 
 -- a part of the word is quoted, perhaps an empty one: its first quote, or backslash
 -- that begins no continuation, stands outside quotes
 abbrev pub is_quoted : List ℕ → Bool
-is_quoted bytes = list_any (λ b. b == 92 || b == 39 || b == 34) (bare bytes)
+is_quoted bytes = list_any (λ b. b == backslash || b == apostrophe || b == quotation_mark) (bare bytes)
 
 -- the text of a delimiter, and whether its document is literal
 pub record ADelimiter : Type 0 where
@@ -91,10 +93,10 @@ delimiter_of bytes = option_map (λ text. record { text = text; literal = is_quo
 unfoldable pub has_dollar_single : Quoting → Bool → List ℕ → Bool
 has_dollar_single q second [] = false
 has_dollar_single q second (b ∷ []) = false
-has_dollar_single q second (b ∷ c ∷ bs) = if is_live q 92 b then has_dollar_single q second bs
+has_dollar_single q second (b ∷ c ∷ bs) = if is_live q backslash b then has_dollar_single q second bs
     else (if is_quote q b then has_dollar_single (behind_quote q b) false (c ∷ bs)
-    else (if is_live q 36 b then (not second && is_quote q 39 && stands (c ∷ bs) 0 39)
-    || has_dollar_single q (not second && stands (c ∷ bs) 0 36) (c ∷ bs)
+    else (if is_live q dollar_sign b then (not second && is_quote q apostrophe && stands (c ∷ bs) 0 apostrophe)
+    || has_dollar_single q (not second && stands (c ∷ bs) 0 dollar_sign) (c ∷ bs)
     else has_dollar_single q second (c ∷ bs)))
 
 -- the delimiter that an edition has: text in dollar-single quotes makes none, where the edition has it
@@ -114,7 +116,7 @@ past_line T p = min (next_newline T p + 1) (length T)
 
 -- the operator `<<-` takes leading tabs off
 abbrev pub stripped : Bool → List ℕ → List ℕ
-stripped true line = drop (count_front (λ b. b == 9) line) line
+stripped true line = drop (count_front (λ b. b == tab) line) line
 stripped false line = line
 
 abbrev pub is_delimiter : Waiting → List ℕ → Bool
@@ -122,7 +124,7 @@ is_delimiter w line = bytes_eq (stripped w.strip line) w.delimiter
 
 -- it ends in an odd number of backslashes, the last of which takes its newline; not where nothing is expanded
 abbrev pub takes_newline : Waiting → List ℕ → Bool
-takes_newline w line = not w.literal && fold (λ odd b. b == 92 && not odd) false line
+takes_newline w line = not w.literal && fold (λ odd b. b == backslash && not odd) false line
 
 -- a line that the one before takes in is not the delimiter's, which `taken` tells;
 -- fewer than n bytes are left

@@ -1,5 +1,6 @@
 -- The lines of a script (XCU 2.10.2), and a line read as a script of its own.
 use Rattle.std.specs.Prelude.{ℕ, ◌-◌, ◌≤◌, Bool, true, false, ◌&&◌, [], ◌∷◌, List, List as Row, drop, length, take, Ok, Err, ◌≡◌}
+use Rattle.shgrammar.specs.Characters.{newline_char}
 use Rattle.shgrammar.specs.declared.edition.Edition.{Edition}
 use Rattle.shgrammar.specs.declared.fault.Fault.{Fault}
 use Rattle.shgrammar.specs.declared.token.Next.{Next}
@@ -62,7 +63,7 @@ kind_of (e ∷ es) newline = entries_line (entries_of (e ∷ es))
 
 -- a newline token ended the line that ends at q, and is its last byte
 abbrev pub is_ended : List ℕ → Bool → ℕ → Bool
-is_ended T newline q = newline && raw_stands T (q - 1) 10
+is_ended T newline q = newline && raw_stands T (q - 1) newline_char
 
 -- the line with which the text begins
 pub data IsLine (edition : Edition) (T : List ℕ) : ALine → Type 0 where

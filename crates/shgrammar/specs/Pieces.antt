@@ -1,5 +1,6 @@
 -- The pieces of a word: what begins one in each mode (XCU 2.2, 2.6).
 use Rattle.std.specs.Prelude.{ℕ, zero, suc, ◌+◌, ◌==◌, Bool, true, false, ◌&&◌, ◌||◌, List, Option, None, Some, if◌then◌else◌}
+use Rattle.shgrammar.specs.Characters.{quotation_mark, number_sign, dollar_sign, percent_sign, apostrophe, left_parenthesis, right_parenthesis, backslash, grave_accent, left_brace, right_brace}
 use Rattle.shgrammar.specs.declared.fault.FaultKind.{FaultKind}
 use Rattle.shgrammar.specs.declared.fault.FaultKind.TheVariants.{UnclosedBackquote, UnclosedDollarSingle, UnclosedDouble, UnclosedParam, UnclosedArith, UnexpectedEnd}
 use Rattle.shgrammar.specs.declared.edition.Edition.{Edition}
@@ -19,10 +20,11 @@ use Rattle.shgrammar.specs.Bytes.{byte_at, past_byte, stands, stands_in, ends, p
 -- by the byte after a `$`, which is read at q (XCU 2.6)
 abbrev pub dollar_by : List ℕ → ℕ → Option ℕ → Piece
 dollar_by T q None = pieces.Ordinary
-dollar_by T q (Some b) = if b == 36 then pieces.Pid
-    else (if b == 40 then (if stands T (past_byte T q) 40 then pieces.Arith else pieces.Subst)
-    else (if b == 123 then pieces.Param
-    else (if b == 39 then pieces.DollarSingle else pieces.Ordinary)))
+dollar_by T q (Some b) = if b == dollar_sign then pieces.Pid
+    else (if b == left_parenthesis then
+    (if stands T (past_byte T q) left_parenthesis then pieces.Arith else pieces.Subst)
+    else (if b == left_brace then pieces.Param
+    else (if b == apostrophe then pieces.DollarSingle else pieces.Ordinary)))
 
 -- what the `$` at p begins
 unfoldable pub dollar_at : List ℕ → ℕ → Piece
@@ -37,13 +39,14 @@ bracket_by (suc n) two = pieces.Close
 -- a byte other than a backslash, a backquote and a `$`
 abbrev pub byte_by : List ℕ → ℕ → Mode → ℕ → ℕ → Piece
 byte_by T p Plain n b = if ends (Some b) then pieces.Closer
-    else (if b == 39 then pieces.Single else (if b == 34 then pieces.Double else pieces.Ordinary))
-byte_by T p Double n b = if b == 34 then pieces.Closer else pieces.Ordinary
-byte_by T p Brace n b = if b == 125 then pieces.Closer
-    else (if b == 39 then pieces.Single else (if b == 34 then pieces.Double else pieces.Ordinary))
-byte_by T p DoubleBrace n b = if b == 125 then pieces.Closer else (if b == 34 then pieces.Double else pieces.Ordinary)
-byte_by T p Arith n b = if b == 41 then bracket_by n (stands T (past_byte T p) 41)
-    else (if b == 40 then pieces.Open else pieces.Ordinary)
+    else (if b == apostrophe then pieces.Single else (if b == quotation_mark then pieces.Double else pieces.Ordinary))
+byte_by T p Double n b = if b == quotation_mark then pieces.Closer else pieces.Ordinary
+byte_by T p Brace n b = if b == right_brace then pieces.Closer
+    else (if b == apostrophe then pieces.Single else (if b == quotation_mark then pieces.Double else pieces.Ordinary))
+byte_by T p DoubleBrace n b = if b == right_brace then pieces.Closer
+    else (if b == quotation_mark then pieces.Double else pieces.Ordinary)
+byte_by T p Arith n b = if b == right_parenthesis then bracket_by n (stands T (past_byte T p) right_parenthesis)
+    else (if b == left_parenthesis then pieces.Open else pieces.Ordinary)
 
 -- at the end of the text a word ends, and nothing else may
 abbrev pub end_by : Mode → Piece
@@ -54,10 +57,10 @@ end_by _ = pieces.Missing
 -- where it does not quote it (XCU 2.2.3), that byte begins nothing either.
 abbrev pub piece_by : List ℕ → ℕ → Mode → ℕ → Option ℕ → Piece
 piece_by T p mode n None = end_by mode
-piece_by T p mode n (Some b) = if b == 92
+piece_by T p mode n (Some b) = if b == backslash
     then (if at_end T (past_byte T p) then pieces.LoneBackslash else pieces.Escape)
-    else (if b == 96 then pieces.Backquote
-    else (if b == 36 then dollar_at T p
+    else (if b == grave_accent then pieces.Backquote
+    else (if b == dollar_sign then dollar_at T p
     else byte_by T p mode n b))
 
 -- the piece at p, with n brackets open in arithmetic
@@ -83,7 +86,7 @@ piece_in edition mode piece = piece
 
 -- after the byte that stands at p; a backslash takes the byte after it
 unfoldable pub past_taken : List ℕ → ℕ → ℕ
-past_taken T p = p + (if raw_stands T p 92 then 2 else 1)
+past_taken T p = p + (if raw_stands T p backslash then 2 else 1)
 
 -- after what closes a construct; nothing closes a word
 abbrev pub past_closer : List ℕ → Mode → ℕ → ℕ
@@ -105,13 +108,13 @@ unclosed Arith = UnclosedArith
 
 -- the next single quote, or the end (XCU 2.2.2)
 abbrev pub next_quote : List ℕ → ℕ → ℕ
-next_quote T p = next_of 39 T p
+next_quote T p = next_of apostrophe T p
 
 -- In backquotes (XCU 2.6.3), and in dollar-single quotes (POSIX.1-2024, XCU 2.2.4), a backslash takes one
 -- byte. The byte that closes such text:
 abbrev pub closes_by : Escaping → ℕ
-closes_by escapings.Backquotes = 96
-closes_by escapings.DollarSingle = 39
+closes_by escapings.Backquotes = grave_accent
+closes_by escapings.DollarSingle = apostrophe
 
 -- the fault where the text ends in it
 abbrev pub unclosed_in : Escaping → FaultKind
@@ -120,11 +123,11 @@ unclosed_in escapings.DollarSingle = UnclosedDollarSingle
 
 -- the next such byte or backslash, or the end
 abbrev pub next_escaped : Escaping → List ℕ → ℕ → ℕ
-next_escaped how T p = next_such (λ b. b == closes_by how || b == 92) T p
+next_escaped how T p = next_such (λ b. b == closes_by how || b == backslash) T p
 
 -- a backslash at p is the last byte
 abbrev pub is_last_backslash : List ℕ → ℕ → Bool
-is_last_backslash T p = raw_stands T p 92 && at_end T (p + 1)
+is_last_backslash T p = raw_stands T p backslash && at_end T (p + 1)
 
 -- ---- parameter expansions (XCU 2.6.2)
 
@@ -144,4 +147,4 @@ braces_in Arith = DoubleBrace
 
 -- how the rest of an expansion is read, from just after its parameter on: after `#` or `%` it is a pattern
 unfoldable pub rest_mode : List ℕ → Mode → ℕ → Mode
-rest_mode T mode q = if stands T q 35 || stands T q 37 then Brace else braces_in mode
+rest_mode T mode q = if stands T q number_sign || stands T q percent_sign then Brace else braces_in mode

@@ -1,5 +1,6 @@
 -- A search for the first fault, a line at a time.
 use Rattle.std.specs.Prelude.{◌≡◌, ℕ, ◌+◌, ◌-◌, ◌<◌, ◌≤◌, List, List as Row, Ok, Option, drop, length, option_map, take, false, true}
+use Rattle.shgrammar.specs.Characters.{newline_char}
 use Rattle.shgrammar.specs.declared.edition.Edition.{Edition}
 use Rattle.shgrammar.specs.declared.keep.Keep.TheVariants.{Nothing}
 use Rattle.shgrammar.specs.Moved.{moved_fault}
@@ -20,7 +21,7 @@ abbrev pub LineBefore : Edition → List ℕ → ℕ → ℕ → Type 0
 LineBefore edition bytes p q =
     (es : Row AnEntry) × (t : State) × (line_told edition bytes Nothing false p 0 ≡ Ok ((es, true), t)) × (q ≡ p + t.at)
     × (0 < t.at) × (q ≤ length bytes)
-    × (raw_stands (drop p bytes) (t.at - 1) 10 ≡ true)
+    × (raw_stands (drop p bytes) (t.at - 1) newline_char ≡ true)
 
 -- no such line begins at an offset
 abbrev pub StopsAt : Edition → List ℕ → ℕ → Type 0

@@ -1,5 +1,6 @@
 -- What a token says of the bytes from its first one on.
 use Rattle.std.specs.Prelude.{◌≡◌, ℕ, ◌<◌, true, false, List, length, Some}
+use Rattle.shgrammar.specs.Characters.{newline_char, number_sign, less_than_sign}
 use Rattle.shgrammar.specs.declared.token.Token.{Token}
 use Rattle.shgrammar.specs.declared.token.Token.TheVariants as tokens
 use Rattle.shast.specs.declared.tree.AndOrOperator.{AndOrOperator}
@@ -17,14 +18,14 @@ IsRead T p = past_continuations T p < length T
 abbrev pub Shows : Token → List ℕ → ℕ → Type 0
 Shows token T p =
     (begins_word token ≡ true → ends_word T p ≡ false)
-    × (is_end token ≡ false → IsRead T p) × (token ≡ tokens.Newline → raw_stands T p 10 ≡ true)
+    × (is_end token ≡ false → IsRead T p) × (token ≡ tokens.Newline → raw_stands T p newline_char ≡ true)
     × (token ≡ tokens.End → at_end T p ≡ true)
     × ((operator : AndOrOperator) → and_or_operator_of token ≡ Some operator → IsRead T (past_byte T p))
-    × (is_comment token ≡ false → raw_stands T p 35 ≡ false) × (past_continuations T p ≡ p)
+    × (is_comment token ≡ false → raw_stands T p number_sign ≡ false) × (past_continuations T p ≡ p)
     × (begins_pattern token ≡ true → ends_word T p ≡ false) × (ends_item token ≡ true → IsRead T (past_byte T p))
     × ((operator : RedirectOperator) → redirect_operator_of token ≡ Some operator → is_long operator ≡ true →
     IsRead T (past_byte T p))
     × ((operator : RedirectOperator) → redirect_operator_of token ≡ Some operator → is_strip operator ≡ true →
     IsRead T (past_byte T (past_byte T p)))
     × ((operator : RedirectOperator) → redirect_operator_of token ≡ Some operator → takes_here operator ≡ true →
-    raw_stands T p 60 ≡ true)
+    raw_stands T p less_than_sign ≡ true)

@@ -1,5 +1,6 @@
 -- The bytes of a text as they stand, continuations and all.
 use Rattle.std.specs.Prelude.{ℕ, ◌+◌, Bool, true, false, ◌==◌, ◌&&◌, not, List, [], ◌∷◌, Option, Some, None, slice_get, drop, zero, suc, if◌then◌else◌}
+use Rattle.shgrammar.specs.Characters.{newline_char, backslash}
 use Rattle.shgrammar.specs.Classes.{is_blank}
 
 abbrev pub is_byte : Option ℕ → ℕ → Bool
@@ -45,7 +46,7 @@ next_of c T p = next_such (λ b. b == c) T p
 
 -- the newline, or the end, after p
 abbrev pub next_newline : List ℕ → ℕ → ℕ
-next_newline T p = next_of 10 T p
+next_newline T p = next_of newline_char T p
 
 -- the place after the last byte before q that is no blank
 unfoldable pub before_blanks : List ℕ → ℕ → ℕ
@@ -54,4 +55,4 @@ before_blanks T (suc q) = if raw_in is_blank T q then before_blanks T q else suc
 
 -- a backslash and a newline stand at p: a continuation (XCU 2.2.1)
 unfoldable pub continues : List ℕ → ℕ → Bool
-continues T p = raw_stands T p 92 && raw_stands T (p + 1) 10
+continues T p = raw_stands T p backslash && raw_stands T (p + 1) newline_char

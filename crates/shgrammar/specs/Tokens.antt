@@ -1,5 +1,6 @@
 -- Tokens: what begins at a place where no blank stands (XCU 2.3, 2.4, 2.10.1).
 use Rattle.std.specs.Prelude.{ℕ, Bool, true, false, ◌==◌, ◌&&◌, ◌||◌, List, [], ◌∷◌, List as Row, Option, Some, None, codes, if◌then◌else◌}
+use Rattle.shgrammar.specs.Characters.{number_sign, ampersand, left_parenthesis, right_parenthesis, hyphen, semicolon, less_than_sign, equals_sign, greater_than_sign, vertical_line}
 use Rattle.shgrammar.specs.declared.edition.Edition.{Edition}
 use Rattle.shgrammar.specs.declared.edition.Edition.TheVariants.{Y2017, Y2024}
 use Rattle.shgrammar.specs.declared.token.Next.{Next}
@@ -49,7 +50,7 @@ past_reserved T p = past is_name T (past_byte T p)
 
 -- a NAME and `=` stand at p (XCU 2.10.2, rule 7)
 unfoldable pub begins_assignment : List ℕ → ℕ → Bool
-begins_assignment T p = stands_in is_letter T p && stands T (past is_name T p) 61
+begins_assignment T p = stands_in is_letter T p && stands T (past is_name T p) equals_sign
 
 -- the word that stands at p is a NAME (XBD 3.235)
 unfoldable pub is_name_at : List ℕ → ℕ → Bool
@@ -61,7 +62,8 @@ past_digits T p = past is_digit T p
 
 -- digits that `<` or `>` follows stand at p (XCU 2.10.1, rule 2)
 unfoldable pub is_number : List ℕ → ℕ → Bool
-is_number T p = stands_in is_digit T p && (stands T (past is_digit T p) 60 || stands T (past is_digit T p) 62)
+is_number T p = stands_in is_digit T p
+    && (stands T (past is_digit T p) less_than_sign || stands T (past is_digit T p) greater_than_sign)
 
 -- ---- tokens
 
@@ -84,32 +86,33 @@ word_by Suffix T p = tokens.Word
 -- The operator of a redirection that begins with `<`, or with `>`; what stands after
 -- that byte stands at p (XCU 2.7).
 unfoldable pub less_at : List ℕ → ℕ → RedirectOperator
-less_at T p = if stands T p 60 then (if stands T (past_byte T p) 45 then redirects.HereStripped else redirects.Here)
-    else (if stands T p 38 then redirects.DuplicateInput
-    else (if stands T p 62 then redirects.ReadWrite else redirects.Input))
+less_at T p = if stands T p less_than_sign then
+    (if stands T (past_byte T p) hyphen then redirects.HereStripped else redirects.Here)
+    else (if stands T p ampersand then redirects.DuplicateInput
+    else (if stands T p greater_than_sign then redirects.ReadWrite else redirects.Input))
 
 unfoldable pub greater_at : List ℕ → ℕ → RedirectOperator
-greater_at T p = if stands T p 62 then redirects.Append
-    else (if stands T p 38 then redirects.DuplicateOutput
-    else (if stands T p 124 then redirects.Clobber else redirects.Output))
+greater_at T p = if stands T p greater_than_sign then redirects.Append
+    else (if stands T p ampersand then redirects.DuplicateOutput
+    else (if stands T p vertical_line then redirects.Clobber else redirects.Output))
 
 -- what begins with a `;`, where p is the place after it
 abbrev pub semicolon_at : List ℕ → ℕ → Token
-semicolon_at T p = if stands T p 59 then tokens.DoubleSemicolon
-    else (if stands T p 38 then tokens.SemicolonAmpersand else tokens.Semicolon)
+semicolon_at T p = if stands T p semicolon then tokens.DoubleSemicolon
+    else (if stands T p ampersand then tokens.SemicolonAmpersand else tokens.Semicolon)
 
 -- by the byte at p, or none; of several operators the longest one
 abbrev pub token_of : Position → List ℕ → ℕ → Option ℕ → Token
 token_of position T p None = tokens.End
 token_of position T p (Some b) = if is_newline b then tokens.Newline
-    else (if b == 59 then semicolon_at T (past_byte T p)
-    else (if b == 38 then (if stands T (past_byte T p) 38 then tokens.AndIf else tokens.Ampersand)
-    else (if b == 124 then (if stands T (past_byte T p) 124 then tokens.OrIf else tokens.Pipe)
-    else (if b == 40 then tokens.OpenParen
-    else (if b == 41 then tokens.CloseParen
-    else (if b == 60 then tokens.Redirect (less_at T (past_byte T p))
-    else (if b == 62 then tokens.Redirect (greater_at T (past_byte T p))
-    else (if b == 35 then tokens.Comment
+    else (if b == semicolon then semicolon_at T (past_byte T p)
+    else (if b == ampersand then (if stands T (past_byte T p) ampersand then tokens.AndIf else tokens.Ampersand)
+    else (if b == vertical_line then (if stands T (past_byte T p) vertical_line then tokens.OrIf else tokens.Pipe)
+    else (if b == left_parenthesis then tokens.OpenParen
+    else (if b == right_parenthesis then tokens.CloseParen
+    else (if b == less_than_sign then tokens.Redirect (less_at T (past_byte T p))
+    else (if b == greater_than_sign then tokens.Redirect (greater_at T (past_byte T p))
+    else (if b == number_sign then tokens.Comment
     else (if is_number T p then tokens.Number else word_by position T p)))))))))
 
 -- no token begins here

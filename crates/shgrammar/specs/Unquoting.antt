@@ -1,6 +1,7 @@
 -- What the code has of a delimiter, in the definitions.
 use Rattle.std.specs.List.{list_all}
 use Rattle.std.specs.Prelude.{ℕ, ◌+◌, ◌-◌, ◌==◌, Bool, ◌&&◌, List, ◌++◌, Option, Some, None, option_map, take, drop, get_or, length, nat_lt, not, if◌then◌else◌}
+use Rattle.shgrammar.specs.Characters.{backslash}
 use Rattle.shgrammar.specs.declared.delimiter.Delimiter as the_delimiter
 use Rattle.shgrammar.specs.declared.delimiter.Quoting as the_quoting
 use Rattle.shgrammar.specs.declared.delimiter.Quoting.TheVariants as quotings
@@ -32,7 +33,7 @@ left_by u word None = None
 
 -- a backslash at a place quotes the next byte
 abbrev pub escapes : Quoting → List ℕ → ℕ → Bool
-escapes q word at = nat_lt (at + 1) (length word) && is_live q 92 (get_or word at 0)
+escapes q word at = nat_lt (at + 1) (length word) && is_live q backslash (get_or word at 0)
 
 -- ---- delimiters whose text stands in the word
 
@@ -47,7 +48,7 @@ is_wrapped word = not (nat_lt (length word) 2) && is_quote not_quoted (get_or wo
 
 -- a backslash stands before other bytes
 abbrev pub is_escaped : List ℕ → Bool
-is_escaped word = not (nat_lt (length word) 2) && get_or word 0 0 == 92
+is_escaped word = not (nat_lt (length word) 2) && get_or word 0 0 == backslash
 
 -- the word without the quotes around it or the backslash before it, if it has them
 abbrev pub unwrapped : List ℕ → List ℕ

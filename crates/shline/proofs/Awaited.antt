@@ -12,6 +12,7 @@ use Rattle.shast.specs.declared.tree.Span.{Span}
 use Rattle.shgrammar.specs.declared.fault.Fault.{Fault}
 use Rattle.shline.specs.declared.documents.Waiting as the_waiting
 use Rattle.shgrammar.specs.declared.fault.FaultKind.TheVariants.{UnclosedHere}
+use Rattle.shgrammar.specs.Characters.{tab}
 use Rattle.shgrammar.specs.Standing.{is_byte, raw_stands, raw_past, count_front, next_newline}
 use Rattle.shgrammar.specs.Comments.{span}
 use Rattle.shline.specs.declared.documents.Documents as the_documents
@@ -104,13 +105,13 @@ drop_take (suc t) (suc n) [] = take_nothing (suc n - suc t)
 drop_take (suc t) (suc n) (b ∷ X) = let same : n - t ≡ suc n - suc t = omega arith in
     drop_take t n X ∙ ap (λ m. take m (drop t X)) same
 
-pub tabs_before : (T : List ℕ) (p : ℕ) → raw_past (λ b. b == 9) T p ≤ next_newline T p
+pub tabs_before : (T : List ℕ) (p : ℕ) → raw_past (λ b. b == tab) T p ≤ next_newline T p
 unfolding raw_past
 tabs_before T p = omega (arith, tabs_low (drop p T))
 
 -- a line without its tabs
 pub stripped_line : (T : List ℕ) (p : ℕ) →
-    stripped true (rest_of_line T p) ≡ raw T (raw_past (λ b. b == 9) T p) (next_newline T p)
+    stripped true (rest_of_line T p) ≡ raw T (raw_past (λ b. b == tab) T p) (next_newline T p)
 unfolding raw_past
 stripped_line T p =
     let X = drop p T in
