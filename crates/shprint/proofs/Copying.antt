@@ -9,7 +9,7 @@ use Rattle.shast.specs.Shape.{bare, text_at}
 use Rattle.shast.specs.declared.tree.Span.{Span}
 use Rattle.shast.specs.declared.tree.RedirectOperator.TheVariants as redirects
 use Rattle.shtext.specs.Text.{IsRun}
-use Rattle.shprint.specs.Printed.{would_strip}
+use Rattle.shprint.specs.Printed.{would_lengthen}
 
 -- ---- by stretches
 
@@ -110,10 +110,10 @@ bare_joined B at «end» one two lt =
 
 module _ (B : List ℕ) (s : Span) (some : s.start < s.«end») where
   strip_by : (o : Option ℕ) → slice_get B s.start ≡ o →
-      would_strip redirects.Here (text_at B s) ≡ option_eq ◌==◌ o (Some 45)
+      would_lengthen redirects.Here (text_at B s) ≡ option_eq ◌==◌ o (Some 45)
   strip_by None e = rw (drop_none B s.start e, none_taken (s.«end» - s.start)) refl
   strip_by (Some b) e = rw (taken B s.start s.«end» b e some) refl
 
   -- it is looked at by its first byte
-  pub strip_is : would_strip redirects.Here (text_at B s) ≡ option_eq ◌==◌ (slice_get B s.start) (Some 45)
+  pub strip_is : would_lengthen redirects.Here (text_at B s) ≡ option_eq ◌==◌ (slice_get B s.start) (Some 45)
   strip_is = strip_by (slice_get B s.start) refl

@@ -35,8 +35,8 @@ use Rattle.shast.specs.Shape.{shape_of_here, Text, Shape, bare, bare_at, text_at
 use Rattle.shast.specs.Tree.{AHere, AHereOf, AWordOf, AnItemOf, AnItem, AWord, item, items_of, ItemsOf, no_item, more_items, redirect, simple, SubstsOf, word, argument}
 use Rattle.shprint.specs.declared.layout.Layout.{Layout}
 use Rattle.shprint.specs.Marks.{text, Marks, laid_behind, one, deeper}
-use Rattle.shprint.specs.Printed.{delimiter_line, print_here, print_gap, print_number, duplicates, would_strip, is_broken_item, print_item, print_items, print_simple}
-use Rattle.shprint.proofs.Tokens.{NoDash, Reads, is_here, first, byte_here, start_here, skip, text_here, Gap, Start, all_blank, blank_gap, broken_gap, no_gap, next_one, kind_of, item_no_round, no_word, no_item_token, NoLonger, space_no_longer, word_no_longer, redirect_token, NumberHere, number_token, angle_first, angle_clear, angle_no_blank, RedirectThere, redirect_is_item, redirect_no_word, delimiter_stays}
+use Rattle.shprint.specs.Printed.{delimiter_line, print_here, print_gap, print_number, duplicates, would_lengthen, is_broken_item, print_item, print_items, print_simple}
+use Rattle.shprint.proofs.Tokens.{IsWhole, Reads, is_here, first, byte_here, start_here, skip, text_here, Gap, Start, all_blank, blank_gap, broken_gap, no_gap, next_one, kind_of, item_no_round, no_word, no_item_token, NoLonger, space_no_longer, word_no_longer, redirect_token, NumberHere, number_token, angle_first, angle_clear, angle_no_blank, RedirectThere, redirect_is_item, redirect_no_word, delimiter_stays}
 use Rattle.shprint.proofs.Digits.{bare_of_digits}
 use Rattle.shprint.proofs.Gives.{Gives, gives, told_here, ◌⟫◌, given_here, seen_here, moved_here, pushed_here, first_of, second_of, last_turn, one_turn}
 use Rattle.shprint.proofs.Held.{At, Document, Followed, Held, StandsIn, bytes_more, g, held_bytes, lay, one_waits, state, with_document}
@@ -191,13 +191,13 @@ module _ {edition : Edition} {B T : List ℕ} {o : ℕ} (S : StandsIn edition B 
     low : p ≤ q
     shape : option_map (bare_at B) value ≡ number
 
-  module _ (k : RedirectOperator) (ms : Marks) (no_dash : (h : Held) (q : ℕ) → At S h q ms → NoDash k T q)
+  module _ (k : RedirectOperator) (ms : Marks) (is_whole : (h : Held) (q : ℕ) → At S h q ms → IsWhole k T q)
       (longer : (h : Held) (q : ℕ) → At S h q ms → NoLonger T q) where
     operator_there : (h : Held) (position : Position) (p : ℕ) → At S h p (text (redirect_text k) ∷ ms) →
         told S position p ≡ tokens.Redirect k
     operator_there h position p at =
         tell S (redirect_token position k T p (lay h ms)
-        (no_dash h (p + length (redirect_text k)) (at_text S h p (redirect_text k) ms at))
+        (is_whole h (p + length (redirect_text k)) (at_text S h p (redirect_text k) ms at))
         (longer h (p + length (redirect_text k)) (at_text S h p (redirect_text k) ms at))
         (at ∙ laid_text h (redirect_text k) ms))
 
@@ -280,37 +280,37 @@ module _ {edition : Edition} {B T : List ℕ} {o : ℕ} (S : StandsIn edition B 
     at : At S h f (text t ∷ rest)
     gap : Gap T e f false
     no_longer : NoLonger T e
-    no_dash : NoDash k T e
+    is_whole : IsWhole k T e
 
   -- after `<<` a space, or a word that does not begin with `-`
-  no_dash_by : (k : RedirectOperator) (e c : ℕ) (cs : Text) → Reads T e c cs → (c == 45) ≡ false → NoDash k T e
-  no_dash_by redirects.Here e c cs r other = is_here 45 r ∙ other
-  no_dash_by redirects.Input e c cs r other = tt
-  no_dash_by redirects.Output e c cs r other = tt
-  no_dash_by redirects.Append e c cs r other = tt
-  no_dash_by redirects.DuplicateInput e c cs r other = tt
-  no_dash_by redirects.DuplicateOutput e c cs r other = tt
-  no_dash_by redirects.ReadWrite e c cs r other = tt
-  no_dash_by redirects.HereStripped e c cs r other = tt
-  no_dash_by redirects.Clobber e c cs r other = tt
+  whole_by : (k : RedirectOperator) (e c : ℕ) (cs : Text) → Reads T e c cs → (c == 45) ≡ false → IsWhole k T e
+  whole_by redirects.Here e c cs r other = is_here 45 r ∙ other
+  whole_by redirects.Input e c cs r other = tt
+  whole_by redirects.Output e c cs r other = tt
+  whole_by redirects.Append e c cs r other = tt
+  whole_by redirects.DuplicateInput e c cs r other = tt
+  whole_by redirects.DuplicateOutput e c cs r other = tt
+  whole_by redirects.ReadWrite e c cs r other = tt
+  whole_by redirects.HereStripped e c cs r other = tt
+  whole_by redirects.Clobber e c cs r other = tt
 
-  no_dash_word : (k : RedirectOperator) (e : ℕ) (t zs : Text) → drop e T ≡ t ++ zs → 0 < length t →
-      past_continuations T e ≡ e → would_strip k t ≡ false → NoDash k T e
+  whole_word : (k : RedirectOperator) (e : ℕ) (t zs : Text) → drop e T ≡ t ++ zs → 0 < length t →
+      past_continuations T e ≡ e → would_lengthen k t ≡ false → IsWhole k T e
   unfolding stands
-  no_dash_word redirects.Here e [] zs at some place other = absurd (omega (arith, some))
-  no_dash_word redirects.Here e (c ∷ cs) zs at some place other = ap (λ q. is_byte (slice_get T q) 45) place
+  whole_word redirects.Here e [] zs at some place other = absurd (omega (arith, some))
+  whole_word redirects.Here e (c ∷ cs) zs at some place other = ap (λ q. is_byte (slice_get T q) 45) place
       ∙ ap (λ x. is_byte x 45) (first T e c (cs ++ zs) at) ∙ other
-  no_dash_word redirects.Input e t zs at some place other = tt
-  no_dash_word redirects.Output e t zs at some place other = tt
-  no_dash_word redirects.Append e t zs at some place other = tt
-  no_dash_word redirects.DuplicateInput e t zs at some place other = tt
-  no_dash_word redirects.DuplicateOutput e t zs at some place other = tt
-  no_dash_word redirects.ReadWrite e t zs at some place other = tt
-  no_dash_word redirects.HereStripped e t zs at some place other = tt
-  no_dash_word redirects.Clobber e t zs at some place other = tt
+  whole_word redirects.Input e t zs at some place other = tt
+  whole_word redirects.Output e t zs at some place other = tt
+  whole_word redirects.Append e t zs at some place other = tt
+  whole_word redirects.DuplicateInput e t zs at some place other = tt
+  whole_word redirects.DuplicateOutput e t zs at some place other = tt
+  whole_word redirects.ReadWrite e t zs at some place other = tt
+  whole_word redirects.HereStripped e t zs at some place other = tt
+  whole_word redirects.Clobber e t zs at some place other = tt
 
   target_there : (h : Held) (k : RedirectOperator) (spaced : Bool) (e : ℕ) (t : Text) (ss : Shape SubstsOf)
-      (rest : Marks) → (spaced ≡ false → would_strip k t ≡ false) → ItemAnywhere edition room Suffix tokens.Word t ss
+      (rest : Marks) → (spaced ≡ false → would_lengthen k t ≡ false) → ItemAnywhere edition room Suffix tokens.Word t ss
       → Followed rest
       → At S h e ((if spaced then one (codes " ") else []) ++ (text t ∷ rest)) → TargetThere h k e t rest
   target_there h k true e t ss rest dash good follow at =
@@ -323,7 +323,7 @@ module _ {edition : Edition} {B T : List ℕ} {o : ℕ} (S : StandsIn edition B 
         at = behind_it;
         gap = blank_gap refl there (no_gap (record { place = found.place; no_blank = found.no_blank }));
         no_longer = space_no_longer T e (lay h (text t ∷ rest)) there;
-        no_dash = no_dash_by k e 32 (lay h (text t ∷ rest))
+        is_whole = whole_by k e 32 (lay h (text t ∷ rest))
             (byte_here T e 32 (lay h (text t ∷ rest)) refl there) refl;
       }
   target_there h k false e t ss rest dash good follow at =
@@ -333,7 +333,7 @@ module _ {edition : Edition} {B T : List ℕ} {o : ℕ} (S : StandsIn edition B 
         at = at;
         gap = no_gap (record { place = found.place; no_blank = found.no_blank });
         no_longer = word_no_longer T e found.token_is;
-        no_dash = no_dash_word k e t (lay h rest) (at ∙ laid_text h t rest) good.some found.place (dash refl);
+        is_whole = whole_word k e t (lay h rest) (at ∙ laid_text h t rest) good.some found.place (dash refl);
       }
 
   -- ---- the here-document of a redirection
@@ -405,7 +405,7 @@ module _ {edition : Edition} {B T : List ℕ} {o : ℕ} (S : StandsIn edition B 
       (doc : Option (AHereOf Text)) (good : GoodRedirect edition room number k t ss doc) (rest : Marks)
       (follow : Followed rest) where
     abbrev spaced : Bool
-    spaced = (y.space_redirects && not (duplicates k)) || would_strip k t
+    spaced = (y.space_redirects && not (duplicates k)) || would_lengthen k t
 
     -- what stands after the word
     abbrev behind_word_marks : Marks
@@ -429,8 +429,8 @@ module _ {edition : Edition} {B T : List ℕ} {o : ℕ} (S : StandsIn edition B 
         ∙ append_assoc (print_number number ++ O) (one t) (D ++ rest)
         ∙ append_assoc (print_number number) O (text t ∷ (D ++ rest))
 
-    no_strip : spaced ≡ false → would_strip k t ≡ false
-    no_strip e = by_or (y.space_redirects && not (duplicates k)) (would_strip k t) e
+    no_strip : spaced ≡ false → would_lengthen k t ≡ false
+    no_strip e = by_or (y.space_redirects && not (duplicates k)) (would_lengthen k t) e
       where
         by_or : (a b : Bool) → (a || b) ≡ false → b ≡ false
         by_or true b e = absurd cc
@@ -442,13 +442,13 @@ module _ {edition : Edition} {B T : List ℕ} {o : ℕ} (S : StandsIn edition B 
     no_longer_at : (h : Held) (e : ℕ) → At S h e behind_operator → NoLonger T e
     no_longer_at h e at = (target_at h e at).no_longer
 
-    no_dash_at : (h : Held) (e : ℕ) → At S h e behind_operator → NoDash k T e
-    no_dash_at h e at = (target_at h e at).no_dash
+    whole_at : (h : Held) (e : ℕ) → At S h e behind_operator → IsWhole k T e
+    whole_at h e at = (target_at h e at).is_whole
 
     redirect_there : (h : Held) (position : Position) (b : Bool) (p : ℕ) →
         At S h p (print_item y (a_redirect_of b number k t ss doc) ++ rest) → RedirectThere edition position T p
     redirect_there h position b p at =
-        redirect_begins k behind_operator no_dash_at no_longer_at h position number p good.digits
+        redirect_begins k behind_operator whole_at no_longer_at h position number p good.digits
         (at ∙ ap (lay h) (redirect_printed b))
 
     redirect_shape : (broken : Bool) (d : Option Span) (s : Span) (w : AWord) (v : Option AHere) →
@@ -463,7 +463,7 @@ module _ {edition : Edition} {B T : List ℕ} {o : ℕ} (S : StandsIn edition B 
         → RedirectRead h broken acc next n p (a_redirect_of broken number k t ss doc) rest
     unfolding one_redirect a_target an_operator item_bodies item_content_bodies
     redirect_read h position broken b acc next n p token_is at =
-        let d = number_read k behind_operator no_dash_at no_longer_at h position number n p good.digits token_is
+        let d = number_read k behind_operator whole_at no_longer_at h position number n p good.digits token_is
         (at ∙ ap (lay h) (redirect_printed b)) in
         let e = d.q + length (redirect_text k) in
         let w = target_at h e (at_text S h d.q (redirect_text k) behind_operator d.at) in

@@ -623,12 +623,12 @@ word_no_longer T q word = record {
     no_word_of false t u one two = two
 
 -- after `<<` no `-` is read
-abbrev pub NoDash : RedirectOperator → List ℕ → ℕ → Type 0
-NoDash redirects.Here T q = stands T q 45 ≡ false
-NoDash _ T q = Unit {0}
+abbrev pub IsWhole : RedirectOperator → List ℕ → ℕ → Type 0
+IsWhole redirects.Here T q = stands T q 45 ≡ false
+IsWhole _ T q = Unit {0}
 
 pub redirect_token : (position : Position) (k : RedirectOperator) (T : List ℕ) (p : ℕ) (xs : List ℕ) →
-    NoDash k T (p + length (redirect_text k)) → NoLonger T (p + length (redirect_text k)) →
+    IsWhole k T (p + length (redirect_text k)) → NoLonger T (p + length (redirect_text k)) →
     drop p T ≡ redirect_text k ++ xs
     → token_at position T p ≡ tokens.Redirect k
 unfolding less_at greater_at
@@ -640,8 +640,8 @@ redirect_token position redirects.Here T p xs none n at =
     let r = byte_here T p 60 (60 ∷ xs) refl at in
     let s = byte_here T (p + 1) 60 xs refl r.rest in
     let two : p + 2 ≡ p + 1 + 1 = omega arith in
-    let no_dash : stands T (p + 1 + 1) 45 ≡ false = subst (λ q. stands T q 45 ≡ false) two none in
-    token_here position r ∙ rw (second 60 refl r, r.behind_it, s.behind_it, no_dash) refl
+    let is_whole : stands T (p + 1 + 1) 45 ≡ false = subst (λ q. stands T q 45 ≡ false) two none in
+    token_here position r ∙ rw (second 60 refl r, r.behind_it, s.behind_it, is_whole) refl
 redirect_token position redirects.Append T p xs none n at =
     let r = byte_here T p 62 (62 ∷ xs) refl at in token_here position r ∙ rw (second 62 refl r) refl
 redirect_token position redirects.DuplicateInput T p xs none n at =

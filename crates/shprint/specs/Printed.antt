@@ -73,14 +73,14 @@ duplicates redirects.DuplicateOutput = true
 duplicates _ = false
 
 -- `<<` and a word that begins with `-` would be `<<-`
-abbrev pub would_strip : RedirectOperator → Text → Bool
-would_strip redirects.Here (b ∷ bs) = b == 45
-would_strip _ _ = false
+abbrev pub would_lengthen : RedirectOperator → Text → Bool
+would_lengthen redirects.Here (b ∷ bs) = b == 45
+would_lengthen _ _ = false
 
 abbrev pub print_operator : Layout → RedirectOperator → Shape AWordOf → Marks
 print_operator y operator (word t substs) =
     text (redirect_text operator)
-    ∷ (if (y.space_redirects && not (duplicates operator)) || would_strip operator t then one (codes " ") else [])
+    ∷ (if (y.space_redirects && not (duplicates operator)) || would_lengthen operator t then one (codes " ") else [])
 
 -- the line of a delimiter
 abbrev pub delimiter_line : Option ADelimiter → Text

@@ -8,7 +8,7 @@ ghost use Rattle.shast.specs.Tree.{item, items_of, patterns_of};
 ghost use Rattle.shast.specs.View.{view_here, view_item, view_redirection, view_word};
 ghost use Rattle.shgrammar.specs.HereDocuments.{delimiter_of};
 ghost use Rattle.shprint.specs.Marks.{text};
-ghost use Rattle.shprint.specs.Printed.{delimiter_line, duplicates, print_first_pattern, print_gap, print_here, print_item, print_items, print_number, print_operator, print_patterns, print_simple, print_word, would_strip};
+ghost use Rattle.shprint.specs.Printed.{delimiter_line, duplicates, print_first_pattern, print_gap, print_here, print_item, print_items, print_number, print_operator, print_patterns, print_simple, print_word, would_lengthen};
 ghost use Rattle.shprint.specs.Written.{Prints};
 
 use crate::page::Page;
@@ -82,8 +82,8 @@ impl<'a, S: Source> Printer<'a, S> {
     }
 
     /// Whether `<<` and the word at this span would be read as `<<-`.
-    fn would_strip(&self, operator: RedirectOperator, word: Span) -> bool
-        ensures { result ≡ would_strip operator (text_at (S.bytes self.now.source.now) word) }
+    fn would_lengthen(&self, operator: RedirectOperator, word: Span) -> bool
+        ensures { result ≡ would_lengthen operator (text_at (S.bytes self.now.source.now) word) }
     {
         match operator {
             RedirectOperator::Here => {
@@ -105,7 +105,7 @@ impl<'a, S: Source> Printer<'a, S> {
     {
         page.put(redirect_text(operator))?;
         let spaced = self.layout.space_redirects && !duplicates(operator);
-        if spaced || self.would_strip(operator, word.span) {
+        if spaced || self.would_lengthen(operator, word.span) {
             page.put(b" ")?;
         }
         Ok(())

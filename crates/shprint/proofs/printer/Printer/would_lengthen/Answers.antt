@@ -1,6 +1,6 @@
 use Rattle.std.proofs.Common.{arith}
 use Rattle.shprint.proofs.Copying.{strip_is}
-use Rattle.shprint.proofs.printer.Printer.would_strip.Goals as goal
+use Rattle.shprint.proofs.printer.Printer.would_lengthen.Goals as goal
 
 pub returns-then-word : goal.returns-then-word
 returns-then-word g c =
