@@ -71,10 +71,10 @@ past_opener true = one_byte
 past_opener false = the_reserved
 
 -- After `for` and `case` stands a word, reserved or not (XCU 2.10.2). After all others a command may begin.
-abbrev pub behind_opener : Opener → Position
-behind_opener openers.For = Suffix
-behind_opener openers.Case = Suffix
-behind_opener _ = Command
+abbrev pub position_after : Opener → Position
+position_after openers.For = Suffix
+position_after openers.Case = Suffix
+position_after _ = Command
 
 -- the round bracket or the reserved word here, told by this text, and the token after
 -- it, which stands in this position
@@ -355,7 +355,7 @@ held_apart (c ∷ cs) = c
 -- the compound command that opens here, and the token after it
 unfoldable pub a_compound : Inner → Opener → Form (ACommand × Next)
 a_compound inner o =
-    reserved_or_paren (opener_text o) (is_open_paren o) (behind_opener o) >>= λ x.
+    reserved_or_paren (opener_text o) (is_open_paren o) (position_after o) >>= λ x.
     a_form inner o x.1 >>= λ f.
     push [] (compound (formed f.what (through x.0 f.closer) no_item)) >>= λ cs.
     give (held_apart cs, f.next)

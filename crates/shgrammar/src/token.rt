@@ -1,7 +1,7 @@
 //! Tokens: what may begin where one begins (XCU 2.3, 2.4, 2.10.1).
 ghost use Rattle.std.specs.Prelude.{◌≡◌, IfSome, false, true};
 ghost use Rattle.shgrammar.specs.Commands.{and_or_operator_of, begins_pipeline, begins_redirect, begins_simple, begins_word, behind_redirect, behind_word, ends_item, falls_through, opener_of, redirect_operator_of, separator_of};
-ghost use Rattle.shgrammar.specs.Compounds.{begins_pattern, behind_opener, is_closing};
+ghost use Rattle.shgrammar.specs.Compounds.{begins_pattern, position_after, is_closing};
 ghost use Rattle.shgrammar.specs.Tokens.{is_end};
 
 use shast::{AndOrOperator, RedirectOperator};
@@ -236,7 +236,7 @@ impl Opener {
     /// The position after it.
     #[inline(always)]
     pub fn position_after(self) -> Position
-        ensures { result ≡ behind_opener self }
+        ensures { result ≡ position_after self }
     {
         match self {
             Opener::For | Opener::Case => Position::Suffix,

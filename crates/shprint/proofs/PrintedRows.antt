@@ -23,7 +23,7 @@ use Rattle.shgrammar.specs.Words.{Inner}
 use Rattle.shgrammar.specs.Levels.{most_open, level}
 use Rattle.shast.specs.Nodes.{through}
 use Rattle.shast.specs.Normal.{is_normal_form, is_normal_entry, is_normal_compound}
-use Rattle.shgrammar.specs.Compounds.{a_compound, is_open_paren, behind_opener, a_linebreak, a_form, opener_text, reserved_or_paren, closing, closing_text, is_closing, under_name, a_function}
+use Rattle.shgrammar.specs.Compounds.{a_compound, is_open_paren, position_after, a_linebreak, a_form, opener_text, reserved_or_paren, closing, closing_text, is_closing, under_name, a_function}
 use Rattle.shgrammar.specs.Lines.{a_line, an_open_line, end_of_line}
 use Rattle.shgrammar.specs.Lists.{none_listed}
 use Rattle.shgrammar.specs.Commands.{nothing_waits, begins_pipeline, join_turn, join_so, a_join_of, begins_simple, opener_of, is_newline_token}
@@ -142,7 +142,7 @@ module _ {edition : Edition} {B T : List ℕ} {o : ℕ} {S : StandsIn edition B 
 
   form_read : (h : Held) (m : Text) (form : Shape AFormOf) (f : ℕ) (rest : Marks) → all_blank m ≡ true →
       GoodForm edition room form → is_normal_form form ≡ true → Ends rest → At S h f (form_rest y m form rest)
-      → Finished S h AForm (a_form (level room) (opener_for form) (asked S (behind_opener (opener_for form)) f))
+      → Finished S h AForm (a_form (level room) (opener_for form) (asked S (position_after (opener_for form)) f))
       (past_blanks T f) rest (form_bodies form) (λ v. shape_of_form B v ≡ open_form [] form)
   unfolding open_form form_bodies
   form_read h m (brace es) f rest blank good normal stop at =
@@ -210,8 +210,8 @@ module _ {edition : Edition} {B T : List ℕ} {o : ℕ} {S : StandsIn edition B 
     s : Span
     f : ℕ
     at : At S h f ms
-    reads : Gives (g S) (reserved_or_paren (opener_text k) (is_open_paren k) (behind_opener k)) (state h p)
-        (s, asked S (behind_opener k) f) (state h (past_blanks T f))
+    reads : Gives (g S) (reserved_or_paren (opener_text k) (is_open_paren k) (position_after k)) (state h p)
+        (s, asked S (position_after k) f) (state h (past_blanks T f))
 
   opened_by : (h : Held) (k : Opener) (r : Reserved) (p : ℕ) (ms : Marks) → is_open_paren k ≡ false →
       begins_simple (tokens.Reserved r) ≡ false → opener_of (tokens.Reserved r) ≡ Some k →
@@ -228,7 +228,7 @@ module _ {edition : Edition} {B T : List ℕ} {o : ℕ} {S : StandsIn edition B 
         s = span o p (p + length (opener_text k));
         f = p + length (opener_text k);
         at = at_text S h p (opener_text k) ms at;
-        reads = rw no_paren (reserved_or_paren_by S h (opener_text k) (behind_opener k) p
+        reads = rw no_paren (reserved_or_paren_by S h (opener_text k) (position_after k) p
             (p + length (opener_text k)) it.past_it);
       }
 

@@ -33,7 +33,7 @@ use Rattle.shgrammar.specs.Form.{Spelled, Read, Form, see, move, push, stop, giv
 use Rattle.shgrammar.specs.Words.{Inner, a_word}
 use Rattle.shgrammar.specs.Commands.{pick, next_token, is_newline_token, is_semicolon, a_semicolon, is_pipe, is_bang, begins_simple, begins_word, begins_redirect, begins_pipeline, opener_of, compound_by, and_or_operator_of, Items, so_many, behind_word, is_number_token, redirect_operator_of, takes_here, a_number, an_operator, operator_by, a_target, one_redirect, behind_redirect, redirect_turn, with_redirect_list, as_item, breaks, an_item, item_by, item_turn, a_simple, unexpected, comment_by, a_comment, a_newline, with_comment, JoinSo, join_turn, a_join, a_command, a_bang, Piped, piped, one_command, pipe_turn, a_pipeline, Joined, joined_so, one_pipeline, joined_by, join_pipeline, an_and_or, separator_of, separator_by, a_separator, an_entry, is_word, is_paren, a_word_command, ASeparator, past_separator, ends_item, falls_through, a_document, document_by, open_document, is_long, is_strip, nothing_waits}
 use Rattle.shgrammar.specs.Lists.{ListSo, list_so, none_listed, is_blank_next, one_entry, entry_turn, remark_by, a_remark, on_line, list_turn, a_list}
-use Rattle.shgrammar.specs.Compounds.{Branched, branched, Closed, is_closing, reserved_or_paren, closing, a_group, a_branch, elif_turn, an_else, an_if, a_loop, behind_opener, a_for_name, a_linebreak, a_sequential_sep, Headed, word_turn, for_words, a_for_head, behind_remarks, a_for, a_form, a_compound, under_name, a_function, a_case_word, begins_pattern, Patterned, a_pattern, one_pattern, pattern_turn, a_pattern_list, an_open_bracket, a_body, ItemEnd, an_ender, an_item_end, CasesSo, cases_so, one_case, case_turn, a_case_head, a_case}
+use Rattle.shgrammar.specs.Compounds.{Branched, branched, Closed, is_closing, reserved_or_paren, closing, a_group, a_branch, elif_turn, an_else, an_if, a_loop, position_after, a_for_name, a_linebreak, a_sequential_sep, Headed, word_turn, for_words, a_for_head, behind_remarks, a_for, a_form, a_compound, under_name, a_function, a_case_word, begins_pattern, Patterned, a_pattern, one_pattern, pattern_turn, a_pattern_list, an_open_bracket, a_body, ItemEnd, an_ender, an_item_end, CasesSo, cases_so, one_case, case_turn, a_case_head, a_case}
 use Rattle.shgrammar.specs.Levels.{most_open, level}
 use Rattle.shgrammar.specs.Lines.{a_line, an_open_line, line_end_by, end_of_line}
 use Rattle.shgrammar.specs.Tokens.{is_end}
@@ -1761,7 +1761,7 @@ module _ (B : List ℕ) (g : Given) (here : g.text ≡ drop g.offset B) where
       unfolding fill_form
       until_open b one = opens_one g (until_do b) until_do (λ ts. refl) (λ x good. good) one
 
-      reads_form : (o : Opener) (n : Next) (D : Row Due) (p : ℕ) → Stands g (behind_opener o) n p →
+      reads_form : (o : Opener) (n : Next) (D : Row Due) (p : ℕ) → Stands g (position_after o) n p →
           Adds g D (a_form inner o n) (FormGood D) p
       reads_form openers.Brace n D p so =
           add_first g (reads_group closings.Brace n D p so)
