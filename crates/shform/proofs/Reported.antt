@@ -7,7 +7,7 @@ use Rattle.shgrammar.specs.declared.fault.Fault.{Fault}
 use Rattle.shprint.specs.ReadBack.{IsTextOf}
 use Rattle.shprint.specs.declared.layout.Layout.{Layout}
 use Rattle.shtext.specs.Device.{Writes}
-use Rattle.shform.specs.Report.{IsPrintReport, IsReport, IsTold, StopsFor, TellsFault}
+use Rattle.shform.specs.Report.{IsPrintReport, IsReport, IsTold, GivenUpFor, TellsFault}
 use Rattle.shtext.specs.Edit.{limit}
 use Rattle.shform.specs.declared.report.RunError.{RunError}
 use Rattle.shform.specs.declared.report.RunError.TheVariants.{Memory, Unwritable}
@@ -35,17 +35,18 @@ fault_reported edition name had has failed ended read consumed sound met low hel
 module _ (edition : Edition) (layout : Layout) (name : List ℕ) (had has : Option (List ℕ)) (failed ended : Bool)
     (read : List ℕ) (consumed : Consumes had has read) where
   -- a run that was given up before anything was printed
-  pub given_up : (out held holds : Option (List ℕ)) (unwritable broken : Bool) (status : ℕ) (stop : RunError) →
-      unwritable ≡ false → StopsFor read failed ended stop
-      → IsTold name read (Err stop) held holds broken status →
+  pub given_up : (out held holds : Option (List ℕ)) (unwritable broken : Bool) (status : ℕ) (error : RunError) →
+      unwritable ≡ false → GivenUpFor read failed ended error
+      → IsTold name read (Err error) held holds broken status →
       IsPrintReport edition layout name had has failed ended out out unwritable held holds broken status
-  given_up out held holds unwritable broken status stop whole judged told = record {
+  given_up out held holds unwritable broken status error whole judged told = record {
     read = read;
-    verdict = Err stop;
+    verdict = Err error;
     consumed = consumed;
     judged = judged;
     prints = (refl, whole);
-    told = subst (λ b. IsTold name read (cond b (Err Unwritable) (Err stop)) held holds broken status) (sym whole) told;
+    told = subst (λ b. IsTold name read (cond b (Err Unwritable) (Err error)) held holds broken status)
+        (sym whole) told;
   }
 
   module _ (sound : failed ≡ false) (met : ended ≡ true) (low : length read ≤ limit) where

@@ -14,24 +14,24 @@ use Rattle.shform.specs.declared.report.RunError.{RunError}
 use Rattle.shform.specs.declared.report.RunError.TheVariants.{Unreadable, TooLarge, Memory, Unwritable}
 
 -- what is said where a run is given up
-abbrev pub text_of_stop : List ℕ → RunError → List ℕ
-text_of_stop name Unreadable = codes "shform: cannot read " ++ name ++ codes "\n"
-text_of_stop name TooLarge = codes "shform: " ++ name ++ codes ": too large\n"
-text_of_stop name Memory = codes "shform: out of memory\n"
-text_of_stop name Unwritable = codes "shform: cannot write\n"
+abbrev pub text_of_error : List ℕ → RunError → List ℕ
+text_of_error name Unreadable = codes "shform: cannot read " ++ name ++ codes "\n"
+text_of_error name TooLarge = codes "shform: " ++ name ++ codes ": too large\n"
+text_of_error name Memory = codes "shform: out of memory\n"
+text_of_error name Unwritable = codes "shform: cannot write\n"
 
 -- A verdict is the first fault of a script, None where it has none, or why there is no answer.
 -- Here, what is said for a verdict on the bytes that were read.
 abbrev pub text_of_verdict : List ℕ → List ℕ → Result (Option Fault) RunError → List ℕ
 text_of_verdict name read (Ok None) = []
 text_of_verdict name read (Ok (Some fault)) = message_text name (line_of read fault.at) (column_of read fault.at) fault
-text_of_verdict name read (Err stop) = text_of_stop name stop
+text_of_verdict name read (Err error) = text_of_error name error
 
 -- the status of a verdict
 abbrev pub status_of_verdict : Result (Option Fault) RunError → ℕ
 status_of_verdict (Ok None) = 0
 status_of_verdict (Ok (Some fault)) = 1
-status_of_verdict (Err stop) = 2
+status_of_verdict (Err error) = 2
 
 -- The verdict on the bytes that were read was told: standard error held and holds
 -- bytes, whether a write there failed; and the status.
@@ -47,22 +47,22 @@ TellsFault name read fault held holds broken status =
 
 -- what was read and which ends were met where an input is given up: memory may run out at any time, before
 -- the end and after it. What is written has no part in it.
-abbrev pub StopsFor : List ℕ → Bool → Bool → RunError → Type 0
-StopsFor read failed ended Unreadable = (failed ≡ true) × (ended ≡ false) × (length read ≤ limit)
-StopsFor read failed ended TooLarge = (failed ≡ false) × (ended ≡ false) × (length read ≡ limit + 1)
-StopsFor read failed ended Memory = (failed ≡ false) × (length read ≤ limit)
-StopsFor read failed ended Unwritable = ⊥
+abbrev pub GivenUpFor : List ℕ → Bool → Bool → RunError → Type 0
+GivenUpFor read failed ended Unreadable = (failed ≡ true) × (ended ≡ false) × (length read ≤ limit)
+GivenUpFor read failed ended TooLarge = (failed ≡ false) × (ended ≡ false) × (length read ≡ limit + 1)
+GivenUpFor read failed ended Memory = (failed ≡ false) × (length read ≤ limit)
+GivenUpFor read failed ended Unwritable = ⊥
 
 -- the same for what follows bytes that were read, of which there are so many
-abbrev pub StopsBehind : ℕ → List ℕ → Bool → Bool → RunError → Type 0
-StopsBehind held more failed ended stop = (read : List ℕ) → length read ≡ held + length more →
-    StopsFor read failed ended stop
+abbrev pub GivenUpAfter : ℕ → List ℕ → Bool → Bool → RunError → Type 0
+GivenUpAfter held more failed ended error = (read : List ℕ) → length read ≡ held + length more →
+    GivenUpFor read failed ended error
 
 -- what was read and which ends were met where a verdict stands
 abbrev pub JudgedFor : Edition → List ℕ → Bool → Bool → Result (Option Fault) RunError → Type 0
 JudgedFor edition read failed ended (Ok fault) = (failed ≡ false) × (ended ≡ true) × (length read ≤ limit)
     × FirstFault edition read fault
-JudgedFor edition read failed ended (Err stop) = StopsFor read failed ended stop
+JudgedFor edition read failed ended (Err error) = GivenUpFor read failed ended error
 
 -- The report of a check. The bytes that the reader had and has left, whether a read failed or met the end;
 -- the bytes that standard error held and holds, whether a write there failed; and the status.
@@ -81,7 +81,7 @@ abbrev pub PrintsFor : Edition → Layout → List ℕ → Result (Option Fault)
 PrintsFor edition layout read (Ok None) held holds broken = (text : List ℕ) × IsTextOf edition layout read text
     × Writes held holds broken text
 PrintsFor edition layout read (Ok (Some fault)) held holds broken = (holds ≡ held) × (broken ≡ false)
-PrintsFor edition layout read (Err stop) held holds broken = (holds ≡ held) × (broken ≡ false)
+PrintsFor edition layout read (Err error) held holds broken = (holds ≡ held) × (broken ≡ false)
 
 -- The report of a print: as that of a check, and what was written on standard output.
 -- Where that failed, standard error says so.

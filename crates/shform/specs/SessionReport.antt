@@ -11,7 +11,7 @@ use Rattle.shtext.specs.Edit.{limit}
 use Rattle.shtext.specs.Meter.{raised}
 use Rattle.shtext.specs.declared.device.Input.{Input}
 use Rattle.shform.specs.ProgramEnds.{ProgramEnds, Devices}
-use Rattle.shform.specs.Report.{IsTold, StopsFor}
+use Rattle.shform.specs.Report.{IsTold, GivenUpFor}
 use Rattle.shform.specs.declared.report.RunError.{RunError}
 
 -- ---- the session
@@ -44,10 +44,10 @@ IsReadWhole remaining _ _ read = ⊥
 -- FILE was given up, with these bytes read; without FILE there is nothing to give up
 abbrev pub IsGivenUp : {F : Type 0} → (F → Option (List ℕ))
     → Option (Input F) → Option (Input F) → List ℕ → RunError → Type 0
-IsGivenUp remaining (Some old) (Some new) read stop =
+IsGivenUp remaining (Some old) (Some new) read error =
     Consumes (left_of remaining old) (left_of remaining new) read
-    × StopsFor read (input_failed new) (input_ended new) stop
-IsGivenUp remaining _ _ read stop = ⊥
+    × GivenUpFor read (input_failed new) (input_ended new) error
+IsGivenUp remaining _ _ read error = ⊥
 
 -- ---- the report
 
@@ -69,9 +69,9 @@ pub record Serves {F I O E : Type 0} (devices : Devices F I O E) (how : How) (me
 pub record GivesUp {F I O E : Type 0} (devices : Devices F I O E) (name : List ℕ)
     (old new : ProgramEnds F I O E) (status : ℕ) : Type 0 where
   pub read : List ℕ
-  pub stop : RunError
-  pub file : IsGivenUp devices.file old.file new.file read stop
-  pub told : IsTold name read (Err stop)
+  pub error : RunError
+  pub file : IsGivenUp devices.file old.file new.file read error
+  pub told : IsTold name read (Err error)
       (held_of devices.errors old.errors) (held_of devices.errors new.errors) (output_failed new.errors)
       status
   pub unasked : new.input ≡ old.input

@@ -3,7 +3,7 @@ ghost use Rattle.std.specs.Prelude.{◌≡◌, ◌≢◌, ◌+◌, ◌<◌, ◌�
 ghost use Rattle.std.specs.Io.KnownBytes.{Consumes, IsAtEnd};
 ghost use Rattle.shtext.specs.Device.{held_of, input_ended, input_failed, left_of, output_failed};
 ghost use Rattle.shtext.specs.Edit.{limit};
-ghost use Rattle.shform.specs.Report.{IsPrintReport, IsReport, StopsBehind, StopsFor};
+ghost use Rattle.shform.specs.Report.{IsPrintReport, IsReport, GivenUpAfter, GivenUpFor};
 
 use crate::partial_script::PartialScript;
 use crate::printed_part::{PrintedPart, Unprinted};
@@ -35,9 +35,9 @@ fn read_piece<R: Read>(
         (take count piece.new))
         × (input_failed input.new ≡ false) × (input_ended input.new ≡ (count == 0))
         × (count ≡ 0 → IsAtEnd (left_of R.remaining input.new))) }
-    ensures err { IfErr result (λ stop. (more : List ℕ)
+    ensures err { IfErr result (λ error. (more : List ℕ)
         × (Consumes (left_of R.remaining input.old) (left_of R.remaining input.new) more)
-        × StopsBehind held more (input_failed input.new) (input_ended input.new) stop) }
+        × GivenUpAfter held more (input_failed input.new) (input_ended input.new) error) }
 {
     let room = (LIMIT - held + 1).min(piece.len());
     let count = match input.read(&mut piece[..room]) {
@@ -63,9 +63,9 @@ fn read_into<R: Read, S: Sink>(input: &mut Input<R>, mut sink: S) -> Result<S, R
         × (Consumes (left_of R.remaining input.old) (left_of R.remaining input.new) read)
         × (IsAtEnd (left_of R.remaining input.new)) × (length read ≤ limit)
         × (input_failed input.new ≡ false) × (input_ended input.new ≡ true)) }
-    ensures err { IfErr result (λ stop. (read : List ℕ)
+    ensures err { IfErr result (λ error. (read : List ℕ)
         × (Consumes (left_of R.remaining input.old) (left_of R.remaining input.new) read)
-        × StopsFor read (input_failed input.new) (input_ended input.new) stop) }
+        × GivenUpFor read (input_failed input.new) (input_ended input.new) error) }
 {
     let mut held = 0;
     let mut piece = [0; READ_SIZE];
@@ -89,9 +89,9 @@ pub fn read_whole<R: Read>(alloc: Global, input: &mut Input<R>) -> Result<Vec<u8
         (λ text. Consumes (left_of R.remaining input.old) (left_of R.remaining input.new) text.items
         × (IsAtEnd (left_of R.remaining input.new)) × (length text.items ≤ limit)
         × (input_failed input.new ≡ false) × (input_ended input.new ≡ true)) }
-    ensures err { IfErr result (λ stop. (read : List ℕ)
+    ensures err { IfErr result (λ error. (read : List ℕ)
         × (Consumes (left_of R.remaining input.old) (left_of R.remaining input.new) read)
-        × StopsFor read (input_failed input.new) (input_ended input.new) stop) }
+        × GivenUpFor read (input_failed input.new) (input_ended input.new) error) }
 {
     read_into(input, Vec::new(alloc))
 }
@@ -122,7 +122,7 @@ pub fn check_engine<R: Read, O: Write, E: Write>(
     let _ = &*output;
     let part = match read_into(input, PartialScript::new(alloc, edition)) {
         Ok(part) => part,
-        Err(stop) => return give_up(name, stop, errors),
+        Err(error) => return give_up(name, error, errors),
     };
     match part.first_fault(alloc) {
         Ok(None) => 0,
@@ -159,7 +159,7 @@ pub fn print_engine<R: Read, O: Write, E: Write>(
 {
     let printed = match read_into(input, PrintedPart::new(alloc, edition, layout)) {
         Ok(printed) => printed,
-        Err(stop) => return give_up(name, stop, errors),
+        Err(error) => return give_up(name, error, errors),
     };
     let text = match printed.text() {
         Ok(text) => text,

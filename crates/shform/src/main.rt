@@ -126,8 +126,8 @@ fn on_usage(rt: &HostRuntime, usage: &Usage) -> u8 {
 }
 
 /// Tells on standard error why the run was given up.
-fn give_up_on(rt: &HostRuntime, name: &str, stop: RunError) -> u8 {
-    give_up(name, stop, &mut output_to(rt, rt.stderr()))
+fn give_up_on(rt: &HostRuntime, name: &str, error: RunError) -> u8 {
+    give_up(name, error, &mut output_to(rt, rt.stderr()))
 }
 
 /// Runs the program on the words after its name.

@@ -51,14 +51,14 @@ fn write_parts<E: Write>(
 }
 
 /// Says why the run was given up, and answers 2. It takes no memory.
-pub fn give_up<E: Write>(name: &str, stop: RunError, errors: &mut Output<E>) -> u8
+pub fn give_up<E: Write>(name: &str, error: RunError, errors: &mut Output<E>) -> u8
     requires sound { output_failed errors.old ≡ false }
     ensures answer { result ≡ 2 }
-    ensures told { (read : List ℕ) → IsTold name.now read (Err stop)
+    ensures told { (read : List ℕ) → IsTold name.now read (Err error)
         (held_of E.contents errors.old) (held_of E.contents errors.new)
         (output_failed errors.new) result }
 {
-    let _ = match stop {
+    let _ = match error {
         RunError::Unreadable => write_parts(
             errors,
             b"shform: cannot read ",

@@ -28,7 +28,7 @@ fn session_on(
     requires low { length bytes.now ≤ limit }
     ensures ok { IfOk result (λ session.
         session ≡ opened_on (how_of (edition_of reader) layout) (meter_of reader) bytes.now) }
-    ensures err { IfErr result (λ stop. stop ≡ RunError.Memory) }
+    ensures err { IfErr result (λ error. error ≡ RunError.Memory) }
     ensures empty { length bytes.now ≡ 0 → IsOk result }
 {
     match Session::open(alloc, reader, layout, bytes) {
@@ -48,8 +48,8 @@ fn open_session<F: Read>(
     ensures ok { IfOk result
         (λ session. (read : List ℕ) × IsReadWhole F.remaining file.old file.new read
         × (session ≡ opened_on (how_of (edition_of reader) layout) (meter_of reader) read)) }
-    ensures err { IfErr result (λ stop. (read : List ℕ)
-        × IsGivenUp F.remaining file.old file.new read stop) }
+    ensures err { IfErr result (λ error. (read : List ℕ)
+        × IsGivenUp F.remaining file.old file.new read error) }
 {
     match file {
         None => session_on(alloc, reader, layout, b""),
@@ -86,6 +86,6 @@ pub fn session_engine<F: Read, R: Read, O: Write, E: Write>(
 {
     match open_session(alloc, reader, layout, file) {
         Ok(mut session) => shlive::run(alloc, &mut session, requests, replies),
-        Err(stop) => give_up(name, stop, errors),
+        Err(error) => give_up(name, error, errors),
     }
 }

@@ -8,7 +8,7 @@ use Rattle.shform.proofs.engine.check_engine.Goals as goal
 pub returns-in-Err-clause-report : goal.returns-in-Err-clause-report
 returns-in-Err-clause-report g c =
     let p = c.in-Err.ensures.err in
-    record { read = p.0; verdict = Err c.in-Err.stop; consumed = p.1; judged = p.2; told = c.give_up.ensures.told p.0 }
+    record { read = p.0; verdict = Err c.in-Err.error; consumed = p.1; judged = p.2; told = c.give_up.ensures.told p.0 }
 
 pub returns-in-Ok-None-clause-report : goal.returns-in-Ok-None-clause-report
 returns-in-Ok-None-clause-report g c =

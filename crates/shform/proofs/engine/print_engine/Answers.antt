@@ -8,7 +8,7 @@ pub returns-in-Err-clause-report : goal.returns-in-Err-clause-report
 returns-in-Err-clause-report g c =
     let p = c.in-Err.ensures.err in
     given_up c.args.edition c.args.layout.now c.args.name.now _ _ _ _ p.0 p.1 _ _ _
-    (output_failed c.args.output.now) _ _ c.in-Err.stop c.requires.whole p.2 (c.give_up.ensures.told p.0)
+    (output_failed c.args.output.now) _ _ c.in-Err.error c.requires.whole p.2 (c.give_up.ensures.told p.0)
 
 pub returns-in-Err-Faulty-clause-report : goal.returns-in-Err-Faulty-clause-report
 returns-in-Err-Faulty-clause-report g c =

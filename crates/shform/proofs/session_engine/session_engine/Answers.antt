@@ -23,7 +23,7 @@ returns-in-Err g c =
     record {
       report = inr (record {
         read = stopped.0;
-        stop = c.in-Err.stop;
+        error = c.in-Err.error;
         file = stopped.1;
         told = c.give_up.ensures.told stopped.0;
         unasked = refl;
