@@ -2,7 +2,7 @@
 use Rattle.std.proofs.Common.{◌≡◌, ℕ, zero, suc, ◌<◌, ◌≤◌, Bool, true, false, cond, List, [], ◌∷◌, ◌++◌, List as Row, Option, None, Some, length, take, drop, refl, sym, ap, ◌∙◌, arith, append_assoc, append-nil, length-drop, subst}
 use Rattle.shtext.specs.Text.{is_newline}
 use Rattle.shtext.specs.Edit.{ASplice}
-use Rattle.shlive.specs.Requests.{Begins, Ending, EndsBy, Lined, Next, Request, Requests, Sense, asks, behind_bytes, clean, cut, edit_alone, first_line, leaves, left, more_parts, next_by_line, next_by_order, next_by_part, next_request_of, none_yet, nothing, one_more, order_of_line, part_by_line, part_of_line, splice_by, unfinished, with_bytes, with_text_before}
+use Rattle.shlive.specs.Requests.{Begins, Ending, EndsBy, Lined, NextRequest, Request, Requests, Sense, asks, behind_bytes, clean, cut, edit_alone, first_line, leaves, left, more_parts, next_by_line, next_by_order, next_by_part, next_request_of, none_yet, nothing, one_more, order_of_line, part_by_line, part_of_line, splice_by, unfinished, with_bytes, with_text_before}
 use Rattle.shlive.specs.declared.order.Order.{Order}
 use Rattle.shlive.specs.declared.order.Part.{Part}
 use Rattle.shlive.specs.declared.order.EditForm.TheVariants as forms
@@ -15,21 +15,21 @@ abbrev Shorter : List ℕ → Lined → Type 0
 Shorter text None = Unit {0}
 Shorter text (Some (line, rest)) = length rest < length text
 
-shorter_behind : (b : ℕ) (text : List ℕ) (l : Lined) → Shorter text l → Shorter (b ∷ text) (with_text_before (b ∷ []) l)
-shorter_behind b text None p = tt
-shorter_behind b text (Some (line, rest)) p = omega (arith, p)
+shorter_after : (b : ℕ) (text : List ℕ) (l : Lined) → Shorter text l → Shorter (b ∷ text) (with_text_before (b ∷ []) l)
+shorter_after b text None p = tt
+shorter_after b text (Some (line, rest)) p = omega (arith, p)
 
 shorter_by : (b : ℕ) (text : List ℕ) (c : Bool) (l : Lined) → Shorter text l →
     Shorter (b ∷ text) (cond c (Some ([], text)) (with_text_before (b ∷ []) l))
 shorter_by b text true l p = omega arith
-shorter_by b text false l p = shorter_behind b text l p
+shorter_by b text false l p = shorter_after b text l p
 
 line_shorter : (text : List ℕ) → Shorter text (first_line text)
 line_shorter [] = tt
 line_shorter (b ∷ text) = shorter_by b text (is_newline b) (first_line text) (line_shorter text)
 
 -- what is asked for leaves less than there was
-abbrev Leaves : ℕ → Next → Type 0
+abbrev Leaves : ℕ → NextRequest → Type 0
 Leaves n nothing = Unit {0}
 Leaves n unfinished = Unit {0}
 Leaves n leaves = Unit {0}
@@ -39,18 +39,18 @@ Leaves n (asks request rest) = length rest < n
 abbrev GoesOn : ℕ → Sense → Type 0
 GoesOn n next = (rest : List ℕ) → length rest < n → Leaves n (next rest)
 
-leaves_behind : (next : Sense) (text : List ℕ) (l : Lined) (n : ℕ) → Shorter text l → length text < n → GoesOn n next →
+leaves_after : (next : Sense) (text : List ℕ) (l : Lined) (n : ℕ) → Shorter text l → length text < n → GoesOn n next →
     Leaves n (behind_bytes next l)
-leaves_behind next text None n p low on = tt
-leaves_behind next text (Some ([], rest)) n p low on = on rest (omega (arith, p, low))
-leaves_behind next text (Some (c ∷ line, rest)) n p low on = omega (arith, p, low)
+leaves_after next text None n p low on = tt
+leaves_after next text (Some ([], rest)) n p low on = on rest (omega (arith, p, low))
+leaves_after next text (Some (c ∷ line, rest)) n p low on = omega (arith, p, low)
 
 leaves_bytes : (part : Part) (next : ASplice → Sense) (rest : List ℕ) (n : ℕ) → length rest < n →
     ((s : ASplice) → GoesOn n (next s)) → Leaves n (with_bytes part next rest)
 leaves_bytes part next rest n low on =
     let less = length-drop part.count rest in
     let after : List ℕ = drop part.count rest in
-    leaves_behind (next (splice_by part (take part.count rest))) after (first_line after) n (line_shorter after)
+    leaves_after (next (splice_by part (take part.count rest))) after (first_line after) n (line_shorter after)
     (omega (arith, less, low)) (on _)
 
 leaves_part : (part : Option Part) (next : ASplice → Sense) (rest : List ℕ) (n : ℕ) → length rest < n →
@@ -92,12 +92,12 @@ abbrev Ended : List ℕ → Type 0
 Ended input = (requests : List Request) × ((ending : Ending) × Requests input requests ending)
 
 module _ (input : List ℕ) where
-  ends : (asked : List Request) (mid : List ℕ) (next : Next) (e : Ending) → Begins input asked mid →
+  ends : (asked : List Request) (mid : List ℕ) (next : NextRequest) (e : Ending) → Begins input asked mid →
       next_request_of mid ≡ next → EndsBy next e → Ended input
   ends asked mid next e b is end = (asked, (e, (mid, b, subst (λ n. EndsBy n e) (sym is) end)))
 
-  by_next : (n : ℕ) (asked : List Request) (mid : List ℕ) (next : Next) → length mid ≤ n → Begins input asked mid →
-      next_request_of mid ≡ next → Leaves (length mid) (next_request_of mid) → Ended input
+  by_next : (n : ℕ) (asked : List Request) (mid : List ℕ) (next : NextRequest) → length mid ≤ n →
+      Begins input asked mid → next_request_of mid ≡ next → Leaves (length mid) (next_request_of mid) → Ended input
   by_next n asked mid nothing low b is less = ends asked mid nothing clean b is tt
   by_next n asked mid unfinished low b is less = ends asked mid unfinished cut b is tt
   by_next n asked mid leaves low b is less = ends asked mid leaves left b is tt
@@ -126,7 +126,7 @@ goes_before input _ _ e more (one_more {requests} {mid} request rest b is) g =
     subst (λ l. Goes input l e) (sym (append_assoc requests (request ∷ []) more))
     (goes_before input requests mid e (request ∷ more) b (rest, is, g))
 
-one_end : (n : Next) (d e : Ending) → EndsBy n d → EndsBy n e → d ≡ e
+one_end : (n : NextRequest) (d e : Ending) → EndsBy n d → EndsBy n e → d ≡ e
 one_end nothing clean clean p q = refl
 one_end nothing clean cut p q = absurd q
 one_end nothing clean left p q = absurd q
@@ -144,16 +144,16 @@ one_end leaves clean e p q = absurd p
 one_end leaves cut e p q = absurd p
 one_end (asks r rest) d e p q = absurd p
 
-no_end : (n : Next) (e : Ending) (r : Request) (rest : List ℕ) → n ≡ asks r rest → EndsBy n e → ⊥
+no_end : (n : NextRequest) (e : Ending) (r : Request) (rest : List ℕ) → n ≡ asks r rest → EndsBy n e → ⊥
 no_end n e r rest is p = let q : EndsBy (asks r rest) e = subst (λ m. EndsBy m e) is p in q
 
-abbrev request_in : Request → Next → Request
+abbrev request_in : Request → NextRequest → Request
 request_in d nothing = d
 request_in d unfinished = d
 request_in d leaves = d
 request_in d (asks r rest) = r
 
-abbrev rest_in : Next → List ℕ
+abbrev rest_in : NextRequest → List ℕ
 rest_in nothing = []
 rest_in unfinished = []
 rest_in leaves = []

@@ -11,7 +11,7 @@ use Rattle.shast.specs.declared.node.NodeLine.{NodeLine}
 use Rattle.shast.specs.declared.tree.Span.{Span}
 use Rattle.shtext.specs.Edit.{ASplice}
 use Rattle.shtext.specs.Text.{column_of, line_of}
-use Rattle.shlive.specs.Held.{Held, How}
+use Rattle.shlive.specs.Held.{Held, Manner}
 use Rattle.shlive.specs.Answers.{HasNodesAt, HasOutline, HasStatus, HasText}
 use Rattle.shlive.specs.Edits.{IsNotMade, IsMade}
 use Rattle.shlive.specs.Requests.{Request, edit, flawed, outline, at, fault, print, unknown}
@@ -115,7 +115,7 @@ IsEditReply before ss reply after =
     ⊎ ((error : LiveError) × IsNotMade before ss error after × (reply ≡ refusal_text error))
 
 -- The reply to a request on the bytes of a script. Memory may run out where a tree or a text is made.
-abbrev pub IsReply : How → List ℕ → Request → List ℕ → Type 0
+abbrev pub IsReply : Manner → List ℕ → Request → List ℕ → Type 0
 IsReply how bytes (edit ss) reply = ⊥
 IsReply how bytes (flawed flaw) reply = reply ≡ flaw_text flaw
 IsReply how bytes outline reply =

@@ -26,15 +26,15 @@ pub data Request : Type 0 where
   unknown : Request
 
 -- what an input begins with
-pub data Next : Type 0 where
+pub data NextRequest : Type 0 where
   -- no byte of a further request
-  nothing : Next
+  nothing : NextRequest
   -- a request that the input cuts off
-  unfinished : Next
+  unfinished : NextRequest
   -- a line `quit`
-  leaves : Next
+  leaves : NextRequest
   -- a request, and what follows it
-  asks : (request : Request) (rest : List ℕ) → Next
+  asks : (request : Request) (rest : List ℕ) → NextRequest
 
 -- ---- lines
 
@@ -55,12 +55,12 @@ first_line (b ∷ bs) = if is_newline b then Some ([], bs) else with_text_before
 -- ---- how bytes are understood
 
 abbrev pub Sense : Type 0
-Sense = List ℕ → Next
+Sense = List ℕ → NextRequest
 
 -- ---- edits
 
 -- what follows the bytes of a splice, by the rest of their last line: it has to be empty
-abbrev pub behind_bytes : Sense → Lined → Next
+abbrev pub behind_bytes : Sense → Lined → NextRequest
 behind_bytes next None = unfinished
 behind_bytes next (Some ([], rest)) = next rest
 behind_bytes next (Some (c ∷ line, rest)) = asks (flawed NoPayload) rest
@@ -85,7 +85,7 @@ abbrev pub next_by_part : Option Part → (ASplice → Sense) → Sense
 next_by_part None next rest = asks (flawed NoPart) rest
 next_by_part (Some p) next rest = with_bytes p next rest
 
-abbrev pub part_by_line : (ASplice → Sense) → Lined → Next
+abbrev pub part_by_line : (ASplice → Sense) → Lined → NextRequest
 part_by_line next None = unfinished
 part_by_line next (Some (line, rest)) = next_by_part (part_of_line line) next rest
 
@@ -112,7 +112,7 @@ next_by_form (forms.Alone p) = with_bytes p edit_alone
 next_by_form (forms.Batch n) = more_parts n []
 
 -- what a line asks for, by what follows it
-abbrev pub next_by_order : Option Order → List ℕ → Next
+abbrev pub next_by_order : Option Order → List ℕ → NextRequest
 next_by_order (Some (orders.Edit form)) rest = next_by_form form rest
 next_by_order (Some (orders.Ask question)) rest = asks (request_of question) rest
 next_by_order (Some orders.Quit) rest = leaves
@@ -122,11 +122,11 @@ next_by_order None rest = asks unknown rest
 abbrev pub order_of_line : List ℕ → Option Order
 order_of_line line = if nat_le (length line) line_limit then order_of line else None
 
-abbrev pub next_by_line : Lined → Next
+abbrev pub next_by_line : Lined → NextRequest
 next_by_line None = unfinished
 next_by_line (Some (line, rest)) = next_by_order (order_of_line line) rest
 
-abbrev pub next_request_of : List ℕ → Next
+abbrev pub next_request_of : List ℕ → NextRequest
 next_request_of [] = nothing
 next_request_of (b ∷ bs) = next_by_line (first_line (b ∷ bs))
 
@@ -145,7 +145,7 @@ pub data Ending : Type 0 where
   cut : Ending
   left : Ending
 
-abbrev pub EndsBy : Next → Ending → Type 0
+abbrev pub EndsBy : NextRequest → Ending → Type 0
 EndsBy nothing clean = Unit {0}
 EndsBy unfinished cut = Unit {0}
 EndsBy leaves left = Unit {0}

@@ -1,7 +1,7 @@
 use Rattle.std.proofs.Common.{[], refl, subst, sym, lit<}
 use Rattle.shtext.specs.Device.{input_ended, input_failed, output_failed}
 use Rattle.shlive.specs.Ahead.{ahead_of, too_many}
-use Rattle.shlive.specs.Held.{How}
+use Rattle.shlive.specs.Held.{Manner}
 use Rattle.shlive.specs.Replies as of_replies
 use Rattle.shlive.specs.Requests as of_requests
 use Rattle.shlive.proofs.Asked.{appends_none, smaller, some_spelled}
@@ -84,5 +84,5 @@ returns-in-Err-clause-run g c =
     (held c.args.output.now.writer) (held c.requests.output.writer) (held c.answer_next.new.output.writer) so
     (input_failed c.answer_next.new.input) (input_ended c.answer_next.new.input)
     (output_failed c.answer_next.new.output) c.answer.result refl refl c.in-Err.«end» c.in-Err.ensures.err
-    (subst (λ (h : How). HasAnswer h.edition c.in-Err.«end» c.answer_next.new.session.bytes c.answer.result) same
+    (subst (λ (h : Manner). HasAnswer h.edition c.in-Err.«end» c.answer_next.new.session.bytes c.answer.result) same
     c.answer.ensures)
