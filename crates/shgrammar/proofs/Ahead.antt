@@ -11,8 +11,8 @@ use Rattle.shgrammar.specs.declared.token.Position.TheVariants.{Command, Prefix,
 use Rattle.shgrammar.specs.declared.token.Token.TheVariants as tokens
 use Rattle.shgrammar.specs.Tokens.{Spelling, is_word_at, first_of_words, reserved_words, reserved_at, begins_assignment, greater_at, is_name_at, is_number, less_at, word_by, token_of, token_at, next_at}
 use Rattle.shgrammar.proofs.Stretches.{place_low, past_more, past_none, stands_in_low, joined_none, joined_more, raw_more, raw_none}
-use Rattle.shgrammar.proofs.Places.{must_fail, behind_low, past_low}
-use Rattle.shgrammar.proofs.SameBytes.{Kept, WordEnds, goes_on, Safe, at_limit, halts, one_byte, two_bytes, Place, inside, outside, Here, no_backslash, on_no_backslash, continued, safe_high, safe_low, safe_place, safe_behind, none_same, pair_same, place, raw_same, here_byte, here_behind}
+use Rattle.shgrammar.proofs.Places.{must_fail, after_low, past_low}
+use Rattle.shgrammar.proofs.SameBytes.{Kept, WordEnds, goes_on, Safe, at_limit, halts, one_byte, two_bytes, Place, inside, outside, Here, no_backslash, on_no_backslash, continued, safe_high, safe_low, safe_place, safe_after, none_same, pair_same, place, raw_same, here_byte, here_after}
 use Rattle.shgrammar.specs.declared.edition.Edition.{Edition}
 
 pub behind_is : (T : List ℕ) (p : ℕ) → past_byte T p ≡ past_continuations T p + 1
@@ -194,8 +194,8 @@ module _ {edition : Edition} {T T2 : List ℕ} {a L : ℕ} {to : ℕ → ℕ} {c
     pub same_byte : byte_at T2 (to p) ≡ byte_at T p
     same_byte = here_byte E.kept (seen s)
 
-    pub same_behind : past_byte T2 (to p) ≡ to (past_byte T p)
-    same_behind = here_behind E.kept (seen s)
+    pub same_after : past_byte T2 (to p) ≡ to (past_byte T p)
+    same_after = here_after E.kept (seen s)
 
     pub same_stands : (x : ℕ) → stands T2 (to p) x ≡ stands T p x
     unfolding stands
@@ -252,9 +252,9 @@ module _ {edition : Edition} {T T2 : List ℕ} {a L : ℕ} {to : ℕ → ℕ} {c
         ⊎_elim
         (λ (e : stands_in test T p ≡ true). let more = past_more test T p e in
         let rest = past_below n (past_byte T p)
-        (omega (arith, few, behind_low T p, stands_in_low test T p e, place_low T p)) (next_safe s e) in (
+        (omega (arith, few, after_low T p, stands_in_low test T p e, place_low T p)) (next_safe s e) in (
           subst (Safe T a L) (sym more) rest.0,
-          past_more test T2 (to p) (same_stands_in s test ∙ e) ∙ ap (past test T2) (same_behind s) ∙ rest.1
+          past_more test T2 (to p) (same_stands_in s test ∙ e) ∙ ap (past test T2) (same_after s) ∙ rest.1
               ∙ ap to (sym more),
         ))
         (λ (e : stands_in test T p ≡ false). let none = past_none test T p e in
@@ -274,9 +274,9 @@ module _ {edition : Edition} {T T2 : List ℕ} {a L : ℕ} {to : ℕ → ℕ} {c
     back_below (suc n) p few low s =
         ⊎_elim
         (λ (e : stands_in test T p ≡ true).
-        safe_behind K p low (raw_clear p e)
-        (back_below n (past_byte T p) (omega (arith, few, behind_low T p, stands_in_low test T p e, place_low T p))
-        (omega (arith, low, behind_low T p)) (subst (Safe T a L) (past_more test T p e) s)))
+        safe_after K p low (raw_clear p e)
+        (back_below n (past_byte T p) (omega (arith, few, after_low T p, stands_in_low test T p e, place_low T p))
+        (omega (arith, low, after_low T p)) (subst (Safe T a L) (past_more test T p e) s)))
         (λ (e : stands_in test T p ≡ false). subst (Safe T a L) (past_none test T p e) s)
         (cases_Bool (stands_in test T p))
 
@@ -347,7 +347,7 @@ module _ {edition : Edition} {T T2 : List ℕ} {a L : ℕ} {to : ℕ → ℕ} {c
       let here = and_parts _ _ e in
       let there = and_parts _ _ here.1 in
       spelled_more T2 (to p) x xs ∙ ap (λ b. b && is_word_at T2 (past_byte T2 (to p)) xs) (same_stands s x)
-      ∙ same_and (stands T p x) _ _ (λ f. ap (λ q. is_word_at T2 q xs) (same_behind s)
+      ∙ same_and (stands T p x) _ _ (λ f. ap (λ q. is_word_at T2 q xs) (same_after s)
       ∙ same_word xs (past_byte T p) there.1
       (next_safe (λ b. b == x) (goes_one c x here.0 (ender c x E.ender.ends_it (not_false (ends (Some x)) there.0)))
       s (stands_is p x f)))
@@ -394,7 +394,7 @@ module _ {edition : Edition} {T T2 : List ℕ} {a L : ℕ} {to : ℕ → ℕ} {c
       rw (same_stands s 60, same_stands s 38, same_stands s 62)
       (same_if (stands T q 60) _ _ _ _
       (λ e. let next = next_safe (λ x. x == 60) (goes_one c 60 refl E.ender.no_less) s (stands_is q 60 e) in
-      rw (same_behind s, same_stands next 45) refl)
+      rw (same_after s, same_stands next 45) refl)
       (λ e. refl))
 
   same_greater : {q : ℕ} → Safe T a L q → greater_at T2 (to q) ≡ greater_at T q
@@ -409,21 +409,21 @@ module _ {edition : Edition} {T T2 : List ℕ} {a L : ℕ} {to : ℕ → ℕ} {c
       same_if (is_newline b) _ _ _ _ (λ e. refl)
       (λ e. same_if (b == 59) _ _ _ _
       (λ f. let next = next_safe (λ x. x == 59) (goes_one c 59 refl E.ender.no_semicolon) s (rw is f) in
-      rw (same_behind s, same_stands next 59, same_stands next 38) refl)
+      rw (same_after s, same_stands next 59, same_stands next 38) refl)
       (λ f. same_if (b == 38) _ _ _ _
       (λ g. let next = next_safe (λ x. x == 38) (goes_one c 38 refl E.ender.no_ampersand) s (rw is g) in
-      rw (same_behind s, same_stands next 38) refl)
+      rw (same_after s, same_stands next 38) refl)
       (λ g. same_if (b == 124) _ _ _ _
       (λ h. let next = next_safe (λ x. x == 124) (goes_one c 124 refl E.ender.no_bar) s (rw is h) in
-      rw (same_behind s, same_stands next 124) refl)
+      rw (same_after s, same_stands next 124) refl)
       (λ h. same_if (b == 40) _ _ _ _ (λ i. refl)
       (λ i. same_if (b == 41) _ _ _ _ (λ j. refl)
       (λ j. same_if (b == 60) _ _ _ _
       (λ k. let next = next_safe (λ x. x == 60) (goes_one c 60 refl E.ender.no_less) s (rw is k) in
-      ap tokens.Redirect (ap (less_at T2) (same_behind s) ∙ same_less next))
+      ap tokens.Redirect (ap (less_at T2) (same_after s) ∙ same_less next))
       (λ k. same_if (b == 62) _ _ _ _
       (λ l. let next = next_safe (λ x. x == 62) (goes_one c 62 refl E.ender.no_greater) s (rw is l) in
-      ap tokens.Redirect (ap (greater_at T2) (same_behind s) ∙ same_greater next))
+      ap tokens.Redirect (ap (greater_at T2) (same_after s) ∙ same_greater next))
       (λ l. rw (same_number s, same_in_position position s) refl))))))))
 
   pub same_token : (position : Position) {p : ℕ} → Safe T a L p → token_at position T2 (to p) ≡ token_at position T p

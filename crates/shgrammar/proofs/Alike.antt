@@ -28,7 +28,7 @@ use Rattle.shgrammar.specs.Form.{raw, nothing_read, change, with_bytes, a_level,
 use Rattle.shgrammar.specs.Words.{single, escaped_turn, backquoted_text, Inner, WordSoFar, having, opened, piece_row, a_piece, contents, a_word}
 use Rattle.shgrammar.specs.Levels.{level}
 use Rattle.shgrammar.specs.Tokens.{is_end}
-use Rattle.shgrammar.specs.Commands.{pick, is_newline_token, is_semicolon, a_semicolon, a_join_of, is_pipe, is_bang, begins_simple, begins_word, begins_redirect, begins_pipeline, opener_of, compound_by, and_or_operator_of, next_token, Items, so_many, breaks, behind_word, is_number_token, redirect_operator_of, takes_here, is_long, is_strip, document_by, a_document, none_waits, nothing_waits, a_number, an_operator, operator_by, a_target, one_redirect, behind_redirect, redirect_turn, with_redirect_list, an_item, item_by, item_turn, a_simple, comment_by, a_comment, a_newline, what_is_wrong, unexpected, JoinSo, join_so, with_comment, join_turn, a_join, a_command, a_bang, Piped, piped, one_command, pipe_turn, a_pipeline, Joined, joined_so, one_pipeline, joined_by, join_pipeline, an_and_or, separator_of, separator_by, a_separator, Entered, an_entry, a_word_command, is_word, is_paren, named_function, ASeparator, past_separator, ends_item, falls_through}
+use Rattle.shgrammar.specs.Commands.{pick, is_newline_token, is_semicolon, a_semicolon, a_join_of, is_pipe, is_bang, begins_simple, begins_word, begins_redirect, begins_pipeline, opener_of, compound_by, and_or_operator_of, next_token, Items, so_many, breaks, after_word, is_number_token, redirect_operator_of, takes_here, is_long, is_strip, document_by, a_document, none_waits, nothing_waits, a_number, an_operator, operator_by, a_target, one_redirect, after_redirect, redirect_turn, with_redirect_list, an_item, item_by, item_turn, a_simple, comment_by, a_comment, a_newline, what_is_wrong, unexpected, JoinSo, join_so, with_comment, join_turn, a_join, a_command, a_bang, Piped, piped, one_command, pipe_turn, a_pipeline, Joined, joined_so, one_pipeline, joined_by, join_pipeline, an_and_or, separator_of, separator_by, a_separator, Entered, an_entry, a_word_command, is_word, is_paren, named_function, ASeparator, past_separator, ends_item, falls_through}
 use Rattle.shgrammar.specs.Lines.{end_of_line, an_open_line, a_line}
 use Rattle.shgrammar.specs.Lists.{Listed, ListSo, list_so, none_listed, with_command, next_line, one_entry, entry_turn, remark_by, a_remark, on_line, list_turn, a_list}
 use Rattle.shgrammar.specs.Compounds.{is_closing, is_open_paren, is_close_paren, reserved_or_paren, closing, Closed, closed, a_branch, Branched, branched, elif_turn, an_else, an_if, a_loop, a_group, a_for_name, a_linebreak, a_sequential_sep, Headed, word_turn, for_words, a_for_head, a_for, a_form, a_compound, a_function, a_case_word, begins_pattern, Patterned, a_pattern, one_pattern, pattern_turn, a_pattern_list, an_open_bracket, a_body, ItemEnd, an_ender, an_item_end, CasesSo, cases_so, one_case, case_turn, a_case_head, a_case}
@@ -456,15 +456,15 @@ module _ (g : Given) where
     alike_item_by i j (Some position) same = alike_item i j position
     alike_item_by i j None same =
         alike_pick _ _ (ap (λ (n : Next). begins_redirect n.token) same.1)
-        (alike_redirect_at (breaks i) (breaks j) (behind_redirect i.place)
-        (behind_redirect j.place) i.items j.items i.next j.next (ap behind_redirect same.0) same.1)
+        (alike_redirect_at (breaks i) (breaks j) (after_redirect i.place)
+        (after_redirect j.place) i.items j.items i.next j.next (ap after_redirect same.0) same.1)
         (alike_give same)
 
     alike_item_turn : (i j : Items) → SameItems i j → Alike (SameStep SameItems) (item_turn inner i) (item_turn inner j)
     unfolding item_turn
     alike_item_turn i j same = subst
-        (λ (n : Next). Alike (SameStep SameItems) (item_by inner i (behind_word i.next.token))
-        (item_by inner j (behind_word n.token))) same.1 (alike_item_by i j (behind_word i.next.token) same)
+        (λ (n : Next). Alike (SameStep SameItems) (item_by inner i (after_word i.next.token))
+        (item_by inner j (after_word n.token))) same.1 (alike_item_by i j (after_word i.next.token) same)
 
     alike_simple : (i j : Items) → SameItems i j → Alike SameNext (a_simple inner i) (a_simple inner j)
     unfolding a_simple

@@ -16,9 +16,9 @@ use Rattle.shgrammar.specs.Tokens.{past_digits, past_reserved}
 use Rattle.shgrammar.specs.Sights.{Move, continuations, one_taken, the_closer, the_parameter, a_quote_on, blanks, a_comment_on, the_reserved, the_digits, one_byte as byte_on, to as leads}
 use Rattle.shgrammar.specs.Form.{raw}
 use Rattle.shgrammar.proofs.Stretches.{place_low, joined_more, raw_more, get_drop, blanks_before, no_blanks_before}
-use Rattle.shgrammar.proofs.Places.{next_escaped_low, must_fail, place_same, behind_low, raw_past_low, raw_past_stops, raw_past_all, next_of_low, next_newline_low, parameter_low, reserved_low, digits_low, blanks_low}
+use Rattle.shgrammar.proofs.Places.{next_escaped_low, must_fail, place_same, after_low, raw_past_low, raw_past_stops, raw_past_all, next_of_low, next_newline_low, parameter_low, reserved_low, digits_low, blanks_low}
 use Rattle.shgrammar.proofs.SameBytes.{Safe, halts, one_byte, two_bytes, goes_on, safe_high, safe_low, safe_escape, safe_place, no_backslash, continued, raw_there, byte_other}
-use Rattle.shgrammar.proofs.Ahead.{ListEnds, ender, not_backslash, K, Goes, goes_name, goes_digit, goes_one, behind_is, same_if, same_and, seen, same_byte, same_behind, same_stands, same_stands_in, same_place, next_safe, past_safe, past_back, blanks_safe, blanks_back, same_raw_in}
+use Rattle.shgrammar.proofs.Ahead.{ListEnds, ender, not_backslash, K, Goes, goes_name, goes_digit, goes_one, behind_is, same_if, same_and, seen, same_byte, same_after, same_stands, same_stands_in, same_place, next_safe, past_safe, past_back, blanks_safe, blanks_back, same_raw_in}
 use Rattle.shgrammar.specs.declared.edition.Edition.{Edition}
 use Rattle.shgrammar.specs.Sights.{escaped_on}
 use Rattle.shgrammar.specs.Pieces.{closes_by, next_escaped}
@@ -84,21 +84,21 @@ module _ {edition : Edition} {T U : List ℕ} {a M : ℕ} {to : ℕ → ℕ} {li
   abbrev pub Moves : (List ℕ → ℕ → ℕ) → ℕ → Type 0
   Moves f p = Moves2 f f p
 
-  pub moves_behind : (p : ℕ) → Moves past_byte p
-  moves_behind p = (
-    omega (arith, behind_low T p),
+  pub moves_after : (p : ℕ) → Moves past_byte p
+  moves_after p = (
+    omega (arith, after_low T p),
     λ low s.
         let g : G p = good_over p (past_continuations T p) low (omega (arith, place_low T p)) (none_there T p)
         (subst G (behind_is T p) s) in
-        (g, same_behind E g),
+        (g, same_after E g),
   )
 
   pub moves_twice : (p : ℕ) → Moves (λ T p. past_byte T (past_byte T p)) p
   moves_twice p = (
-    omega (arith, behind_low T p, behind_low T (past_byte T p)),
+    omega (arith, after_low T p, after_low T (past_byte T p)),
     λ low s.
-        let w = (moves_behind (past_byte T p)).1 (omega (arith, low, behind_low T p)) s in
-        let v = (moves_behind p).1 low w.0 in (v.0, ap (past_byte U) v.1 ∙ w.1),
+        let w = (moves_after (past_byte T p)).1 (omega (arith, low, after_low T p)) s in
+        let v = (moves_after p).1 low w.0 in (v.0, ap (past_byte U) v.1 ∙ w.1),
   )
 
   pub moves_blanks : (p : ℕ) → Moves past_blanks p
@@ -106,9 +106,9 @@ module _ {edition : Edition} {T U : List ℕ} {a M : ℕ} {to : ℕ → ℕ} {li
 
   pub moves_closer : (mode : Mode) (p : ℕ) → Moves (λ T p. past_closer T mode p) p
   moves_closer Plain p = (omega arith, λ low s. (s, refl))
-  moves_closer Double p = moves_behind p
-  moves_closer Brace p = moves_behind p
-  moves_closer DoubleBrace p = moves_behind p
+  moves_closer Double p = moves_after p
+  moves_closer Brace p = moves_after p
+  moves_closer DoubleBrace p = moves_after p
   moves_closer Arith p = moves_twice p
 
   moves_past : (test : ℕ → Bool) → Goes limit test → (p : ℕ) → a ≤ p → G (past test T p) → G p
@@ -120,8 +120,8 @@ module _ {edition : Edition} {T U : List ℕ} {a M : ℕ} {to : ℕ → ℕ} {li
   moves_reserved p = (
     reserved_low T p,
     λ low s.
-        let w = moves_past is_name (goes_name limit E.ender) (past_byte T p) (omega (arith, low, behind_low T p)) s in
-        let v = (moves_behind p).1 low w.0 in (v.0, ap (past is_name U) v.1 ∙ w.1),
+        let w = moves_past is_name (goes_name limit E.ender) (past_byte T p) (omega (arith, low, after_low T p)) s in
+        let v = (moves_after p).1 low w.0 in (v.0, ap (past is_name U) v.1 ∙ w.1),
   )
 
   pub moves_digits : (p : ℕ) → Moves past_digits p
@@ -142,7 +142,7 @@ module _ {edition : Edition} {T U : List ℕ} {a M : ℕ} {to : ℕ → ℕ} {li
         moves_past is_digit (goes_digit limit E.ender) p low (rw (e, f) at s) in
         (w.0, rw (same_stands_in E w.0 is_letter, e, same_stands_in E w.0 is_digit, f) w.1))
         (λ (f : stands_in is_digit T p ≡ false). ⊎_elim
-        (λ (g : stands_in is_special T p ≡ true). let w = (moves_behind p).1 low (rw (e, f, g) at s) in (
+        (λ (g : stands_in is_special T p ≡ true). let w = (moves_after p).1 low (rw (e, f, g) at s) in (
           w.0,
           rw (
             same_stands_in E w.0 is_letter,
@@ -327,7 +327,7 @@ module _ {edition : Edition} {T U : List ℕ} {a M : ℕ} {to : ℕ → ℕ} {li
 
   same_next : (p b c x : ℕ) → G p → byte_at T p ≡ Some b → (b == c) ≡ true → goes_on c ≡ true → (limit == c) ≡ false →
       stands U (past_byte U (to p)) x ≡ stands T (past_byte T p) x
-  same_next p b c x s is e on other = rw (same_behind E s) (same_stands E (next_byte p b c s is e on other) x)
+  same_next p b c x s is e on other = rw (same_after E s) (same_stands E (next_byte p b c s is e on other) x)
 
   -- a bracket that may close arithmetic is not at the limit
   abbrev pub NoBracket : Mode → Type 0
@@ -344,7 +344,7 @@ module _ {edition : Edition} {T U : List ℕ} {a M : ℕ} {to : ℕ → ℕ} {li
   unfolding dollar_at
   dollar_same p b s is e =
       let next = next_byte p b 36 s is e refl (ender limit 36 E.ender.ends_it refl) in
-      rw (same_behind E s, same_byte E next) (dollar_by_same (past_byte T p) (byte_at T (past_byte T p)) next refl)
+      rw (same_after E s, same_byte E next) (dollar_by_same (past_byte T p) (byte_at T (past_byte T p)) next refl)
 
   byte_same : (mode : Mode) (p n b : ℕ) → NoBracket mode → G p → byte_at T p ≡ Some b →
       byte_by U (to p) mode n b ≡ byte_by T p mode n b
@@ -362,8 +362,8 @@ module _ {edition : Edition} {T U : List ℕ} {a M : ℕ} {to : ℕ → ℕ} {li
       same_if (b == 92) _ _ _ _
       (λ e. let clear = not_backslash limit E.ender in let other : (b == limit) ≡ false = grind (arith, nat_tests) in
       rw (
-        same_behind E s,
-        same_end (past_byte T p) (omega (arith, low_of s, behind_low T p))
+        same_after E s,
+        same_end (past_byte T p) (omega (arith, low_of s, after_low T p))
             (escape_in p b s is other),
       )
       refl)
@@ -473,7 +473,7 @@ module _ {edition : Edition} {T U : List ℕ} {a M : ℕ} {to : ℕ → ℕ} {li
 
   -- a move to a good place is one from a good place, and leads to the same
   pub moves : (m : Move) (p : ℕ) → a ≤ p → G (leads m T p) → G p × (leads m U (to p) ≡ to (leads m T p))
-  moves byte_on p = (moves_behind p).1
+  moves byte_on p = (moves_after p).1
   moves continuations p = (moves_joined p).1
   moves one_taken p = (moves_taken p).1
   moves (the_closer mode) p = (moves_closer mode p).1

@@ -240,8 +240,8 @@ module _ (edition : Edition) (T U Y Z : List ℕ) (o u : ℕ) where
       drop p T ≡ L ++ Y → drop r U ≡ L ++ Z → closed L ≡ true
       → bodies_from (given edition T o) ws bodies p ≡ Ok x → x.1 ≤ p + length L → Same ws bodies p r x
 
-  behind_in : (V W L : List ℕ) (p k : ℕ) → drop p V ≡ L ++ W → k ≤ length L → drop (p + k) V ≡ drop k L ++ W
-  behind_in V W L p k here le = sym (drop-drop k p V) ∙ ap (drop k) here ∙ drop-append-le k L W le
+  after_in : (V W L : List ℕ) (p k : ℕ) → drop p V ≡ L ++ W → k ≤ length L → drop (p + k) V ≡ drop k L ++ W
+  after_in V W L p k here le = sym (drop-drop k p V) ∙ ap (drop k) here ∙ drop-append-le k L W le
 
   one_alike : (w : Waiting) (ws : Row Waiting) (x : Row Span × ℕ) → Alike ws x →
       (bodies : Row Span) (L : List ℕ) (p r : ℕ) → p ≤ length T → r ≤ length U → o + p ≡ u + r
@@ -274,7 +274,7 @@ module _ (edition : Edition) (T U Y Z : List ℕ) (o u : ℕ) where
       ∙ ap (bodies_from (given edition U u) ws (bodies ++ span u r (r + q) ∷ [])) other.0
       ∙ more (bodies ++ span u r (r + q) ∷ []) (drop k L) (p + k) (r + k) (omega (arith, past, past_line_high T d))
       (omega (arith, other.0, past_line_high U (r + q))) (omega (arith, off))
-      (behind_in T Y L p k here mine.1) (behind_in U Z L r k there mine.1) (closed_drop k L so) read_on
+      (after_in T Y L p k here mine.1) (after_in U Z L r k there mine.1) (closed_drop k L so) read_on
       (omega (arith, low, left, mine.1))
       ∙ ap (λ (n : ℕ). done (x.0, n)) (omega (arith, high))
 

@@ -174,15 +174,15 @@ module _ {edition : Edition} {T U : List ℕ} {a M : ℕ} {to : ℕ → ℕ} {li
     abbrev pub over : State → State
     over s = record { at = to s.at; waiting = s.waiting; bodies = s.bodies }
 
-    abbrev behind_bodies : Row Span × ℕ → State
-    behind_bodies x = record { at = x.1; waiting = []; bodies = x.0 }
+    abbrev after_bodies : Row Span × ℕ → State
+    after_bodies x = record { at = x.1; waiting = []; bodies = x.0 }
 
     read_there : (s t : State) → a ≤ s.at → t.at ≤ M + 1 → (s.at < t.at → slice_get T (t.at - 1) ≡ Some 10) →
         (x : Result (Row Span × ℕ) Fault) → bodies_from (given edition T o) s.waiting s.bodies s.at ≡ x →
         state_by x ≡ Ok t
         → changed bodies_here (given edition U u) (over s) ≡ Ok (over t)
     read_there s t from high_t newline (Ok x) read is =
-        let same : behind_bodies x ≡ t = cc in
+        let same : after_bodies x ≡ t = cc in
         let at : x.1 ≡ t.at = ap (λ (v : State). v.at) same in
         let so = closed_raw T s.at x.1 (bodies_low (given edition T o) s.waiting s.bodies s.at x read)
         (λ lt. ap (λ n. slice_get T (n - 1)) at ∙ newline (omega (arith, at, lt))) in
@@ -203,7 +203,7 @@ module _ {edition : Edition} {T U : List ℕ} {a M : ℕ} {to : ℕ → ℕ} {li
         bodies_from (given edition T o) s.waiting s.bodies s.at ≡ x → state_by x ≡ Ok t
         → Good T a M s.at × (changed bodies_here (given edition U u) (over s) ≡ Ok (over t))
     good_by s t from good (Ok x) read is =
-        let same : behind_bodies x ≡ t = cc in
+        let same : after_bodies x ≡ t = cc in
         let at : x.1 ≡ t.at = ap (λ (v : State). v.at) same in
         let newline : s.at < t.at → slice_get T (t.at - 1) ≡ Some 10 = λ lt. ap (λ n. slice_get T (n - 1)) (sym at)
         ∙ newline_before (given edition T o) s.waiting s.bodies s.at x read (omega (arith, at, high E good, long))

@@ -20,9 +20,9 @@ get_front [] ys k lt = absurd (omega arith)
 get_front (x ∷ xs) ys zero lt = refl
 get_front (x ∷ xs) ys (suc k) lt = get_front xs ys k (omega arith)
 
-get_behind : (xs ys : List ℕ) → slice_get (xs ++ ys) (length xs) ≡ slice_get ys 0
-get_behind [] ys = refl
-get_behind (x ∷ xs) ys = get_behind xs ys
+get_after : (xs ys : List ℕ) → slice_get (xs ++ ys) (length xs) ≡ slice_get ys 0
+get_after [] ys = refl
+get_after (x ∷ xs) ys = get_after xs ys
 
 -- the text U goes on at q with w, and then with zs
 module _ (U : List ℕ) (q : ℕ) (w zs : List ℕ) (is : drop q U ≡ w ++ zs) where
@@ -31,8 +31,8 @@ module _ (U : List ℕ) (q : ℕ) (w zs : List ℕ) (is : drop q U ≡ w ++ zs) 
   byte_in i lt = sym (get_drop q U i) ∙ ap (λ B. slice_get B i) is ∙ get_front w zs i lt
 
   -- the one after it
-  pub byte_behind : slice_get U (q + length w) ≡ slice_get zs 0
-  byte_behind = sym (get_drop q U (length w)) ∙ ap (λ B. slice_get B (length w)) is ∙ get_behind w zs
+  pub byte_after : slice_get U (q + length w) ≡ slice_get zs 0
+  byte_after = sym (get_drop q U (length w)) ∙ ap (λ B. slice_get B (length w)) is ∙ get_after w zs
 
 -- n bytes of a text are n
 pub stretch_length : (T : List ℕ) (p n : ℕ) → p + n ≤ length T → length (take n (drop p T)) ≡ n
@@ -121,11 +121,11 @@ module _ (T : List ℕ) (p : ℕ) (sharp : raw_stands T p 35 ≡ true) where
     same_in test i lt = ap (passes test) (same_byte i lt)
 
     behind_it : slice_get U (q + (last - p)) ≡ Some 10
-    behind_it = ap (λ n. slice_get U (q + n)) (sym text_length) ∙ byte_behind U q text (10 ∷ zs) is
+    behind_it = ap (λ n. slice_get U (q + n)) (sym text_length) ∙ byte_after U q text (10 ∷ zs) is
 
-    at_behind : raw_in (λ b. not (b == 10)) U (q + (last - p)) ≡ false
+    at_after : raw_in (λ b. not (b == 10)) U (q + (last - p)) ≡ false
     unfolding raw_in
-    at_behind = ap (passes (λ b. not (b == 10))) behind_it
+    at_after = ap (passes (λ b. not (b == 10))) behind_it
 
     sharp_there : slice_get U q ≡ Some 35
     sharp_there =
@@ -141,7 +141,7 @@ module _ (T : List ℕ) (p : ℕ) (sharp : raw_stands T p 35 ≡ true) where
         subst (λ r. raw_in (λ b. not (b == 10)) U r ≡ true) is_k
         (same_in (λ b. not (b == 10)) i (omega (arith, low, lt))
         ∙ raw_past_all (λ b. not (b == 10)) T p (p + i) (omega arith) (omega (arith, low, lt, ended.1.0))))
-        at_behind
+        at_after
 
     no_blank_last : raw_in is_blank U (q + (last - p) - 1) ≡ false
     no_blank_last =

@@ -4,13 +4,13 @@ use Rattle.std.specs.Prelude.{◌&&◌}
 use Rattle.std.proofs.lemmas.List.{drop_more, length-drop}
 use Rattle.shgrammar.specs.Standing.{is_byte}
 use Rattle.shgrammar.specs.Bytes.{byte_at, stands}
-use Rattle.shgrammar.specs.HereDocuments.{Quoting, behind_quote, has_dollar_single, is_live, is_quote}
+use Rattle.shgrammar.specs.HereDocuments.{Quoting, after_quote, has_dollar_single, is_live, is_quote}
 use Rattle.shgrammar.proofs.Unquoted.{rest_stands}
 
 -- with these bytes after the next one
 abbrev turn : Quoting → Bool → ℕ → List ℕ → List ℕ → Bool
 turn q second b rest behind = cond (is_live q 92 b) (has_dollar_single q second behind)
-    (cond (is_quote q b) (has_dollar_single (behind_quote q b) false rest)
+    (cond (is_quote q b) (has_dollar_single (after_quote q b) false rest)
     (cond (is_live q 36 b) ((not second && is_quote q 39 && stands rest 0 39)
     || has_dollar_single q (not second && stands rest 0 36) rest)
     (has_dollar_single q second rest)))
@@ -39,7 +39,7 @@ module _ (q : Quoting) (second : Bool) (word : List ℕ) (at : ℕ) (lt : at + 1
 
   pub has_quote : is_live q 92 (get_or word at 0) ≡ false → is_quote q (get_or word at 0) ≡ true
       → has_dollar_single q second (drop at word)
-      ≡ has_dollar_single (behind_quote q (get_or word at 0)) false (drop (at + 1) word)
+      ≡ has_dollar_single (after_quote q (get_or word at 0)) false (drop (at + 1) word)
   has_quote none is = here ∙ rw (none, is) refl
 
   pub has_here : is_live q 92 (get_or word at 0) ≡ false → is_quote q (get_or word at 0) ≡ false →

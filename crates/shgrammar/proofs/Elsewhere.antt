@@ -22,12 +22,12 @@ use Rattle.shgrammar.specs.Sights.{Given, given, State, standing}
 use Rattle.shgrammar.specs.Form.{Read, again, as_it_stands, token, loop, many, leads_on, does}
 use Rattle.shgrammar.specs.Words.{WordSoFar, having, a_piece, contents, a_word}
 use Rattle.shgrammar.specs.Levels.{level, ReadsWord}
-use Rattle.shgrammar.specs.Commands.{behind_word}
+use Rattle.shgrammar.specs.Commands.{after_word}
 use Rattle.shgrammar.proofs.Stretches.{place_low, past_more, past_none, stands_in_low, raw_stays}
-use Rattle.shgrammar.proofs.Places.{must_fail, behind_low, word_longer}
+use Rattle.shgrammar.proofs.Places.{must_fail, after_low, word_longer}
 use Rattle.shgrammar.proofs.Turns.{turns_on}
 use Rattle.shgrammar.proofs.Holds.{Holds, holds_then}
-use Rattle.shgrammar.proofs.SameBytes.{Kept, WordEnds, Here, here_byte, here_behind, here_stands_in}
+use Rattle.shgrammar.proofs.SameBytes.{Kept, WordEnds, Here, here_byte, here_after, here_stands_in}
 use Rattle.shgrammar.proofs.Ahead.{same_and, spelled_none, spelled_more, behind_is}
 use Rattle.shgrammar.proofs.PiecesInside.{From, word_from}
 use Rattle.shgrammar.proofs.WordsElsewhere.{everywhere}
@@ -36,7 +36,7 @@ use Rattle.shgrammar.proofs.OneOutcome.{is}
 use Rattle.shgrammar.proofs.Anywhere.{WordOf, from_to, kept, padded, padded_is, same_word}
 use Rattle.shast.specs.Shape.{Shape, shape_of_word}
 use Rattle.shast.specs.Tree.{SubstsOf, word as shape_word}
-use Rattle.shgrammar.proofs.CommentsElsewhere.{byte_behind, stretch_length}
+use Rattle.shgrammar.proofs.CommentsElsewhere.{byte_after, stretch_length}
 use Rattle.shgrammar.proofs.WordsWithin.{word_ends}
 use Rattle.shgrammar.specs.declared.edition.Edition.{Edition}
 
@@ -191,7 +191,7 @@ module _ {edition : Edition} {T U : List ℕ} {a L : ℕ} {to : ℕ → ℕ} (K 
         (standing r) (standing (past_byte T r))
         (ordinary_turn r b w.opener w.start is b_plain) leads in (
           record {
-            low = omega (arith, w.low, behind_low T r);
+            low = omega (arith, w.low, after_low T r);
             opener = w.opener;
             start = w.start;
             found = w.found;
@@ -199,7 +199,7 @@ module _ {edition : Edition} {T U : List ℕ} {a L : ℕ} {to : ℕ → ℕ} (K 
             goes = sym more ∙ w.goes;
             there = w.there;
           },
-          here_behind K (inside_of w (ap ends is ∙ plain_stays b b_plain)),
+          here_after K (inside_of w (ap ends is ∙ plain_stays b b_plain)),
         )
 
     -- after such a byte
@@ -216,7 +216,7 @@ module _ {edition : Edition} {T U : List ℕ} {a L : ℕ} {to : ℕ → ℕ} (K 
         (λ (e : stands_in test T r ≡ true). let more = past_more test T r e in
         let next = next_goes w e in
         let rest = past_below n (past_byte T r)
-        (omega (arith, few, behind_low T r, stands_in_low test T r e, place_low T r)) next.0 in (
+        (omega (arith, few, after_low T r, stands_in_low test T r e, place_low T r)) next.0 in (
           subst Goes (sym more) rest.0,
           past_more test U (to r) (same_test w ∙ e) ∙ ap (past test U) next.1 ∙ rest.1 ∙ ap to (sym more),
         ))
@@ -302,7 +302,7 @@ abbrev Item : Token → Type 0
 Item t = is_a_word t ≡ true
 
 -- an item of a simple command is one
-pub item_is_word : (t : Token) → is_some (behind_word t) ≡ true → is_a_word t ≡ true
+pub item_is_word : (t : Token) → is_some (after_word t) ≡ true → is_a_word t ≡ true
 item_is_word tokens.End e = absurd cc
 item_is_word tokens.Newline e = absurd cc
 item_is_word tokens.Semicolon e = absurd cc
@@ -494,7 +494,7 @@ module _ (room : ℕ) (position : Position) (g : Given) (p n : ℕ) (word : Read
     next = follower zs following
 
     next_raw : slice_get h.text (q + n) ≡ Some next.byte
-    next_raw = ap (λ m. slice_get h.text (q + m)) (sym size) ∙ byte_behind h.text q w zs is_there ∙ next.is
+    next_raw = ap (λ m. slice_get h.text (q + m)) (sym size) ∙ byte_after h.text q w zs is_there ∙ next.is
 
     next_byte : byte_at h.text (q + n) ≡ Some next.byte
     unfolding raw_stands
@@ -589,7 +589,7 @@ token_anywhere room position _ g p n word place no_blank token_is item B stands_
 -- what is an item where it stands is one anywhere
 pub item_anywhere : (room : ℕ) (position : Position) (token : Token) (g : Given) (p n : ℕ) (word : ReadsWord room g p n)
     → past_continuations g.text p ≡ p → stands_in is_blank g.text p ≡ false → token_at position g.text p ≡ token →
-    is_some (behind_word token) ≡ true
+    is_some (after_word token) ≡ true
     → (B : List ℕ) → g.text ≡ drop g.offset B → (ss : Shape SubstsOf) →
     shape_of_word B word.0 ≡ shape_word (take n (drop p g.text)) ss →
     ItemAnywhere g.edition room position token (take n (drop p g.text)) ss
@@ -599,7 +599,7 @@ item_anywhere room position t g p n word place no_blank token_is item =
 -- and so is a NAME
 pub name_anywhere : (room : ℕ) (position : Position) (g : Given) (p n : ℕ) → ReadsWord room g p n
     → past_continuations g.text p ≡ p → stands_in is_blank g.text p ≡ false →
-    is_some (behind_word (token_at position g.text p)) ≡ true → is_name_at g.text p ≡ true
+    is_some (after_word (token_at position g.text p)) ≡ true → is_name_at g.text p ≡ true
     → NameAnywhere (take n (drop p g.text))
 name_anywhere room position g p n word place no_blank item name =
     names room position g p n word place no_blank (item_is_word _ item) name

@@ -21,7 +21,7 @@ use Rattle.shgrammar.specs.Form.{Spelled, does}
 use Rattle.shgrammar.specs.Words.{Inner}
 use Rattle.shgrammar.specs.Commands.{is_pipe, begins_word, opener_of, Items, so_many, is_word, ends_item, falls_through}
 use Rattle.shgrammar.specs.Lists.{list_so, none_listed, Listed}
-use Rattle.shgrammar.specs.Compounds.{held_apart, Branched, branched, Closed, is_closing, is_open_paren, is_close_paren, reserved_or_paren, closing, a_branch, elif_turn, an_else, an_if, a_loop, a_group, a_for_name, a_sequential_sep, Headed, word_turn, for_words, a_for_head, behind_remarks, a_for, a_form, a_compound, a_function, under_name, a_case_word, begins_pattern, Patterned, a_pattern, one_pattern, pattern_turn, a_pattern_list, a_body, body_end, ItemEnd, an_ender, an_item_end, CasesSo, cases_so, one_case, case_turn, a_case_head, a_case}
+use Rattle.shgrammar.specs.Compounds.{held_apart, Branched, branched, Closed, is_closing, is_open_paren, is_close_paren, reserved_or_paren, closing, a_branch, elif_turn, an_else, an_if, a_loop, a_group, a_for_name, a_sequential_sep, Headed, word_turn, for_words, a_for_head, after_remarks, a_for, a_form, a_compound, a_function, under_name, a_case_word, begins_pattern, Patterned, a_pattern, one_pattern, pattern_turn, a_pattern_list, a_body, body_end, ItemEnd, an_ender, an_item_end, CasesSo, cases_so, one_case, case_turn, a_case_head, a_case}
 use Rattle.shgrammar.specs.Substitutions.{substitution_list, a_substitution, one_substitution}
 use Rattle.shgrammar.specs.Levels.{most_open, level}
 use Rattle.shgrammar.specs.Lines.{AKind, an_open_line, a_line, ALine, IsLine, blank_line, entries_line, end_line, faulty_line, line_read, line_stops, kind_of, EntriesEverywhere}
@@ -127,7 +127,7 @@ module _ {g : Given} {limit : ℕ} where
         (λ l u so. picks _ (for_words_in l.join.comments u so) (gives (tt, so))))
 
     remarks_in : (cs : Row Span) (es : Entries) → AreIn limit cs → EntriesIn limit es →
-        EntriesIn limit (behind_remarks cs es)
+        EntriesIn limit (after_remarks cs es)
     remarks_in [] es all so = so
     remarks_in (c ∷ cs) es all so =
         ((All-head (IsSpanWithin limit) c cs all, tt), remarks_in cs es (All-tail (IsSpanWithin limit) c cs all) so)

@@ -51,9 +51,9 @@ pub pid : delimiter_of (codes "\"$\\\n$(a)\"") ≡ quoted (codes "$$(a)")
 unfolding unquoted stands past_continuations count_joined bare
 pid = refl
 
-pub behind_pid : delimiter_of (codes "\"$$$(a)\"") ≡ None
+pub after_pid : delimiter_of (codes "\"$$$(a)\"") ≡ None
 unfolding unquoted stands past_continuations count_joined bare
-behind_pid = refl
+after_pid = refl
 
 pub expansion : delimiter_of (codes "a$\\\n{b}") ≡ None
 unfolding unquoted stands past_continuations count_joined bare

@@ -16,7 +16,7 @@ use Rattle.shgrammar.specs.HereDocuments.{Change, waits, bodies_here, changed, b
 use Rattle.shgrammar.specs.declared.fault.Fault.{Fault}
 use Rattle.shgrammar.specs.Form.{Spelled, raw, nothing_read, change, with_bytes, a_level, Read, ◌▸◌, Form, give, see, move, push, stop, both, when, Telling, token, loop, many, ends_as, with_end, Step, again, done, leads_on, moved_on, turns, does, in_substitution, inside}
 use Rattle.shgrammar.proofs.Stretches.{place_low}
-use Rattle.shgrammar.proofs.Places.{behind_low, blanks_low, next_newline_low, next_of_low, parameter_low, reserved_low, digits_low}
+use Rattle.shgrammar.proofs.Places.{after_low, blanks_low, next_newline_low, next_of_low, parameter_low, reserved_low, digits_low}
 use Rattle.shgrammar.proofs.Delimiters.{bodies_low}
 use Rattle.shgrammar.proofs.Turns.{turns_on, turns_rest, turns_done, turns_fault}
 use Rattle.shgrammar.specs.Sights.{escaped_on}
@@ -221,10 +221,10 @@ tells_pushed g rest = record { told = rest.told }
 
 closer_low : (mode : Mode) (T : List ℕ) (p : ℕ) → p ≤ past_closer T mode p
 closer_low Plain T p = omega arith
-closer_low Double T p = omega (arith, behind_low T p)
-closer_low Brace T p = omega (arith, behind_low T p)
-closer_low DoubleBrace T p = omega (arith, behind_low T p)
-closer_low Arith T p = omega (arith, behind_low T p, behind_low T (past_byte T p))
+closer_low Double T p = omega (arith, after_low T p)
+closer_low Brace T p = omega (arith, after_low T p)
+closer_low DoubleBrace T p = omega (arith, after_low T p)
+closer_low Arith T p = omega (arith, after_low T p, after_low T (past_byte T p))
 
 taken_low : (T : List ℕ) (p : ℕ) → p ≤ past_taken T p
 unfolding past_taken
@@ -235,7 +235,7 @@ unfolding past_comment
 comment_low T p = cond_both (raw_stands T p 35) _ _ (λ n. p ≤ n) (λ e. next_newline_low T p) (λ e. omega arith)
 
 pub move_low : (m : Move) (T : List ℕ) (p : ℕ) → p ≤ to m T p
-move_low one_byte T p = omega (arith, behind_low T p)
+move_low one_byte T p = omega (arith, after_low T p)
 move_low continuations T p = place_low T p
 move_low one_taken T p = taken_low T p
 move_low (the_closer mode) T p = closer_low mode T p

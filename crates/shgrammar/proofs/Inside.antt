@@ -16,12 +16,12 @@ use Rattle.shgrammar.specs.Sights.{Given, given, State}
 use Rattle.shgrammar.specs.Form.{Read, Form, Step, again, done, step_if, loop, many, leads_on, turns, does}
 use Rattle.shgrammar.specs.Words.{single, escaped_turn, backquoted_text}
 use Rattle.shgrammar.proofs.Stretches.{place_low, past_more, past_none, stands_in_low}
-use Rattle.shgrammar.proofs.Places.{behind_low, next_of_low}
+use Rattle.shgrammar.proofs.Places.{after_low, next_of_low}
 use Rattle.shgrammar.proofs.Shifted.{state_from}
 use Rattle.shgrammar.proofs.Turns.{turns_on, turns_rest, turns_done, turns_fault}
 use Rattle.shgrammar.proofs.Holds.{Holds, Behind, low, holds_so}
 use Rattle.shgrammar.proofs.Alike.{SameStep}
-use Rattle.shgrammar.proofs.SameBytes.{Kept, Here, here, here_behind, here_stands, here_stands_in, raw_same, raw_there}
+use Rattle.shgrammar.proofs.SameBytes.{Kept, Here, here, here_after, here_stands, here_stands_in, raw_same, raw_there}
 use Rattle.shgrammar.proofs.Ahead.{behind_is}
 use Rattle.shgrammar.proofs.NoFurther.{less_same}
 use Rattle.shgrammar.proofs.OneOutcome.{is}
@@ -99,11 +99,11 @@ module _ {edition : Edition} {T U : List ℕ} {a L : ℕ} {to : ℕ → ℕ} (K 
       ⊎_elim
       (λ (e : stands_in test T p ≡ true). let more = past_more test T p e in
       let rest = stretch_of test n (past_byte T p)
-      (omega (arith, few, behind_low T p, stands_in_low test T p e, place_low T p))
-      (omega (arith, from, behind_low T p)) (subst In more i) in
+      (omega (arith, few, after_low T p, stands_in_low test T p e, place_low T p))
+      (omega (arith, from, after_low T p)) (subst In more i) in
       let start = before p from rest.0 in (
         start,
-        past_more test U (to p) (here_stands_in K start test ∙ e) ∙ ap (past test U) (here_behind K start)
+        past_more test U (to p) (here_stands_in K start test ∙ e) ∙ ap (past test U) (here_after K start)
             ∙ rest.1 ∙ ap to (sym more),
       ))
       (λ (e : stands_in test T p ≡ false). let none = past_none test T p e in
@@ -128,7 +128,7 @@ module _ {edition : Edition} {T U : List ℕ} {a L : ℕ} {to : ℕ → ℕ} (K 
       (λ (d : stands_in is_special T p ≡ true). let w = before p from (rw (e, f, d) at i) in (
         w,
         rw (here_stands_in K w is_letter, e, here_stands_in K w is_digit, f, here_stands_in K w is_special, d)
-            (here_behind K w),
+            (here_after K w),
       ))
       (λ (d : stands_in is_special T p ≡ false). let w : In p = rw (e, f, d) at i in (
         w,
@@ -273,13 +273,13 @@ module _ {edition : Edition} {T U : List ℕ} {a L : ℕ} {to : ℕ → ℕ} (K 
           let onward = next_of_low 39 T (past_byte T s.at) in
           let q_in : q < L = omega (arith, le, taken_low T q) in
           let i = clear K s.at from (omega (arith, onward, q_in, behind_is T s.at)) e in
-          let low_q : a ≤ past_byte T s.at = omega (arith, from, behind_low T s.at) in
+          let low_q : a ≤ past_byte T s.at = omega (arith, from, after_low T s.at) in
           let found = raw_there K (λ b. not (b == 39)) (past_byte T s.at) low_q q_in in (
             i,
             (
               tt,
               rw (
-                here_behind K i,
+                here_after K i,
                 found,
                 same_end K q (omega (arith, low_q, onward)) q_in,
                 f,
@@ -351,7 +351,7 @@ module _ {edition : Edition} {T U : List ℕ} {a L : ℕ} {to : ℕ → ℕ} (K 
       holds_so _ (Ends backquoted_text (In K) s) (does (loop (escaped_turn escapings.Backquotes b) tt) Whole g inside)
       (looped (λ (c d : Unit {0}). Unit {0}) (escaped_turn escapings.Backquotes b)
       (escaped_turn escapings.Backquotes b2) Below UpTo (λ p lt. omega (arith, lt)) (λ p le. le)
-      (escaped_each escapings.Backquotes b b2) tt inside (omega (arith, from, behind_low T s.at)))
+      (escaped_each escapings.Backquotes b b2) tt inside (omega (arith, from, after_low T s.at)))
       (λ x t ends le. let w = ends le in
       let i = clear K s.at from (omega (arith, w.0, behind_is T s.at)) e in
       let f = w.1 tt tt in (
@@ -359,7 +359,7 @@ module _ {edition : Edition} {T U : List ℕ} {a L : ℕ} {to : ℕ → ℕ} (K 
         (
           f.0,
           subst (λ (p : ℕ). turns h (λ u v. does (escaped_turn escapings.Backquotes b2 u) Whole h v) tt
-              (there_at p s) ≡ Ok (f.0, there t)) (sym (here_behind K i)) f.1.0,
+              (there_at p s) ≡ Ok (f.0, there t)) (sym (here_after K i)) f.1.0,
         ),
       ))
     where
@@ -382,17 +382,17 @@ module _ {edition : Edition} {T U : List ℕ} {a L : ℕ} {to : ℕ → ℕ} (K 
       (looped (λ (c d : Unit {0}). Unit {0}) (escaped_turn escapings.DollarSingle b)
       (escaped_turn escapings.DollarSingle b2) Below UpTo (λ p lt. omega (arith, lt)) (λ p le. le)
       (escaped_each escapings.DollarSingle b b2) tt inside
-      (omega (arith, from, behind_low T s.at, behind_low T (past_byte T s.at))))
+      (omega (arith, from, after_low T s.at, after_low T (past_byte T s.at))))
       (λ x t ends le. let w = ends le in
-      let j = clear K (past_byte T s.at) (omega (arith, from, behind_low T s.at))
+      let j = clear K (past_byte T s.at) (omega (arith, from, after_low T s.at))
       (omega (arith, w.0, behind_is T (past_byte T s.at))) e2 in
-      let i = clear K s.at from (omega (arith, w.0, behind_is T s.at, behind_low T (past_byte T s.at))) e in
+      let i = clear K s.at from (omega (arith, w.0, behind_is T s.at, after_low T (past_byte T s.at))) e in
       let f = w.1 tt tt in (
         (i, j),
         (
           f.0,
           subst (λ (p : ℕ). turns h (λ u v. does (escaped_turn escapings.DollarSingle b2 u) Whole h v) tt (there_at p s)
-              ≡ Ok (f.0, there t)) (sym (ap (past_byte U) (here_behind K i) ∙ here_behind K j)) f.1.0,
+              ≡ Ok (f.0, there t)) (sym (ap (past_byte U) (here_after K i) ∙ here_after K j)) f.1.0,
         ),
       ))
     where

@@ -23,7 +23,7 @@ use Rattle.shgrammar.specs.Lines.{line_end_by, end_of_line, an_open_line, a_line
 use Rattle.shgrammar.specs.Levels.{most_open}
 use Rattle.shgrammar.specs.Lists.{list_so, none_listed, entry_turn, a_remark, on_line}
 use Rattle.shgrammar.specs.Scripts.{AScript, SoFar, is_blank_line, with_line, the_line, line_from, script_by, script_below, script_on}
-use Rattle.shgrammar.proofs.Places.{behind_low}
+use Rattle.shgrammar.proofs.Places.{after_low}
 use Rattle.shgrammar.proofs.Holds.{Holds, holds_then, holds_so, Tells, Behind, change_low, tells_give, tells_level, tells_then, tells_so, low}
 use Rattle.shgrammar.specs.declared.edition.Edition.{Edition}
 
@@ -38,7 +38,7 @@ ended_by : (inner : Inner) (keep : Keep) (g : Given) (s : State) (newline end : 
 unfolding nothing_waits
 ended_by inner keep g s true end n =
     by_change (changed bodies_here g (past s))
-    (λ t is. omega (arith, behind_low g.text s.at, change_low bodies_here g (past s) t is))
+    (λ t is. omega (arith, after_low g.text s.at, change_low bodies_here g (past s) t is))
   where
     past : State → State
     past u = record { at = past_byte g.text u.at; waiting = u.waiting; bodies = u.bodies }

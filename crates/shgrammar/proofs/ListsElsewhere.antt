@@ -23,9 +23,9 @@ use Rattle.shgrammar.specs.Comments.{span, comment_at, past_comment}
 use Rattle.shgrammar.specs.Sights.{Given, given, State, Move, a_comment_on, here, is_a_name}
 use Rattle.shgrammar.specs.Form.{change, Telling, Read, Form, give, move, push, token, many, ◌>>=◌, ◌>>◌, Step, step_if, does, Spelled}
 use Rattle.shgrammar.specs.Words.{Inner, a_word}
-use Rattle.shgrammar.specs.Commands.{is_strip, document, document_by, a_document, is_empty, pick, next_token, is_newline_token, is_semicolon, a_semicolon, a_join_of, is_pipe, is_bang, begins_simple, begins_word, begins_redirect, begins_pipeline, opener_of, compound_by, and_or_operator_of, Items, so_many, breaks, behind_word, is_number_token, redirect_operator_of, takes_here, is_long, a_number, an_operator, operator_by, a_target, one_redirect, behind_redirect, redirect_turn, with_redirect_list, as_item, an_item, item_by, item_turn, a_simple, comment_by, a_comment, a_newline, unexpected, JoinSo, join_so, with_comment, join_turn, a_join, a_command, a_bang, Piped, piped, one_command, pipe_turn, a_pipeline, Joined, joined_so, one_pipeline, joined_by, join_pipeline, an_and_or, separator_of, separator_by, a_separator, is_background, ASeparator, past_separator, Entered, an_entry, is_word, is_paren, ends_item, falls_through, named_function, a_word_command}
+use Rattle.shgrammar.specs.Commands.{is_strip, document, document_by, a_document, is_empty, pick, next_token, is_newline_token, is_semicolon, a_semicolon, a_join_of, is_pipe, is_bang, begins_simple, begins_word, begins_redirect, begins_pipeline, opener_of, compound_by, and_or_operator_of, Items, so_many, breaks, after_word, is_number_token, redirect_operator_of, takes_here, is_long, a_number, an_operator, operator_by, a_target, one_redirect, after_redirect, redirect_turn, with_redirect_list, as_item, an_item, item_by, item_turn, a_simple, comment_by, a_comment, a_newline, unexpected, JoinSo, join_so, with_comment, join_turn, a_join, a_command, a_bang, Piped, piped, one_command, pipe_turn, a_pipeline, Joined, joined_so, one_pipeline, joined_by, join_pipeline, an_and_or, separator_of, separator_by, a_separator, is_background, ASeparator, past_separator, Entered, an_entry, is_word, is_paren, ends_item, falls_through, named_function, a_word_command}
 use Rattle.shgrammar.specs.Lists.{Listed, ListSo, list_so, none_listed, is_blank_next, with_command, next_line, one_entry, entry_turn, remark_by, a_remark, on_line, list_turn, a_list}
-use Rattle.shgrammar.specs.Compounds.{a_linebreak, is_closing, is_open_paren, is_close_paren, reserved_or_paren, closing, Closed, a_branch, Branched, branched, elif_turn, an_else, an_if, a_loop, a_group, a_for_name, a_sequential_sep, Headed, word_turn, for_words, a_for_head, behind_remarks, a_for, a_form, held_apart, a_compound, under_name, a_function, a_case_word, begins_pattern, Patterned, a_pattern, one_pattern, pattern_turn, a_pattern_list, an_open_bracket, a_body, ItemEnd, an_ender, an_item_end, CasesSo, cases_so, one_case, case_turn, a_case_head, a_case}
+use Rattle.shgrammar.specs.Compounds.{a_linebreak, is_closing, is_open_paren, is_close_paren, reserved_or_paren, closing, Closed, a_branch, Branched, branched, elif_turn, an_else, an_if, a_loop, a_group, a_for_name, a_sequential_sep, Headed, word_turn, for_words, a_for_head, after_remarks, a_for, a_form, held_apart, a_compound, under_name, a_function, a_case_word, begins_pattern, Patterned, a_pattern, one_pattern, pattern_turn, a_pattern_list, an_open_bracket, a_body, ItemEnd, an_ender, an_item_end, CasesSo, cases_so, one_case, case_turn, a_case_head, a_case}
 use Rattle.shgrammar.proofs.Holds.{Holds, move_low}
 use Rattle.shgrammar.proofs.Within.{before_blanks_low}
 use Rattle.shgrammar.proofs.Alike.{SameStep}
@@ -170,9 +170,9 @@ module _ {edition : Edition} {T U : List ℕ} {a M : ℕ} {to : ℕ → ℕ} {li
 
   -- ---- comments
 
-  comment_behind : (n : Next) (c d : Span) → text_at B c ≡ text_at B2 d →
+  comment_after : (n : Next) (c d : Span) → text_at B c ≡ text_at B2 d →
       Goes2 SameRemark (comment_by n (Some c)) (comment_by n (Some d))
-  comment_behind n c d same = then moves_on (λ x y all. then (next Command) (λ m k so. gives (ap Some same, so)))
+  comment_after n c d same = then moves_on (λ x y all. then (next Command) (λ m k so. gives (ap Some same, so)))
 
   module _ (n : Next) (s : State) (from : a ≤ s.at) where
     abbrev p : ℕ
@@ -233,7 +233,7 @@ module _ {edition : Edition} {T U : List ℕ} {a M : ℕ} {to : ℕ → ℕ} {li
           ∙ ap (λ (q : ℕ). text_at B2 (span o2 (to p) q)) (sym w.0) in
           let there = comment_is (same_raw_stands E p 35 from (high E here) ∙ hash.0) in
           let m = subst (Holds (Found E o o2 B B2 stands stands_there SameRemark (comment_by n (Some d)) s)) at
-          ((comment_behind n c d text).go s from) e in (
+          ((comment_after n c d text).go s from) e in (
             m.0,
             (
               subst (λ (z : Option Span). does (comment_by n z) Whole h (to_there s) ≡ Ok (m.0, to_there t))
@@ -509,15 +509,15 @@ module _ {edition : Edition} {T U : List ℕ} {a M : ℕ} {to : ℕ → ℕ} {li
     item_by_same i j (Some position) same = one_item i j position same
     item_by_same i j None same =
         picks _ _ (ap (λ (k : Next). begins_redirect k.token) same.1.1)
-        (redirect_at (breaks i) (breaks j) (behind_redirect i.place)
-        (behind_redirect j.place) i.items j.items i.next j.next (breaks_same i j same) same.0
-        (ap behind_redirect same.1.0) same.1.1) (gives same)
+        (redirect_at (breaks i) (breaks j) (after_redirect i.place)
+        (after_redirect j.place) i.items j.items i.next j.next (breaks_same i j same) same.0
+        (ap after_redirect same.1.0) same.1.1) (gives same)
 
     item_on : (i j : Items) → SameItems i j → Goes2 (SameStep SameItems) (item_turn inner i) (item_turn inner j)
     unfolding item_turn
     item_on i j same =
-        subst (λ (n : Next). Goes2 (SameStep SameItems) (item_by inner i (behind_word i.next.token))
-        (item_by inner j (behind_word n.token))) same.1.1 (item_by_same i j (behind_word i.next.token) same)
+        subst (λ (n : Next). Goes2 (SameStep SameItems) (item_by inner i (after_word i.next.token))
+        (item_by inner j (after_word n.token))) same.1.1 (item_by_same i j (after_word i.next.token) same)
 
     items_same : (i j : Items) → SameItems i j →
         shape_of_items B (items_of i.items) ≡ shape_of_items B2 (items_of j.items)
@@ -923,7 +923,7 @@ module _ {edition : Edition} {T U : List ℕ} {a M : ℕ} {to : ℕ → ℕ} {li
         (for_words_same l.join.comments k.join.comments is.1.0) (gives (refl, is.1))))
 
     remarks_shape : (cs ds : Row Span) (es fs : Entries) → SameComments cs ds → shape_of B es ≡ shape_of B2 fs →
-        shape_of B (behind_remarks cs es) ≡ shape_of B2 (behind_remarks ds fs)
+        shape_of B (after_remarks cs es) ≡ shape_of B2 (after_remarks ds fs)
     remarks_shape [] [] es fs all same = same
     remarks_shape [] (d ∷ ds) es fs all same = absurd cc
     remarks_shape (c ∷ cs) [] es fs all same = absurd cc

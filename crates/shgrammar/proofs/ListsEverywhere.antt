@@ -23,12 +23,12 @@ use Rattle.shgrammar.specs.Sights.{Given, State}
 use Rattle.shgrammar.specs.HereDocuments.{ADelimiter}
 use Rattle.shgrammar.specs.Form.{Spelled, push, many}
 use Rattle.shgrammar.specs.Words.{Inner, WordSoFar, having, opened, piece_row, a_piece, contents, a_word}
-use Rattle.shgrammar.specs.Commands.{is_pipe, is_bang, begins_simple, begins_redirect, begins_pipeline, behind_word, opener_of, compound_by, and_or_operator_of, breaks, Items, so_many, is_number_token, redirect_operator_of, is_strip, takes_here, document_by, a_document, a_number, an_operator, operator_by, a_target, one_redirect, behind_redirect, redirect_turn, with_redirect_list, as_item, an_item, item_by, item_turn, a_simple, a_bang, a_comment, comment_by, unexpected, with_comment, JoinSo, join_turn, a_join, a_command, Piped, piped, one_command, pipe_turn, a_pipeline, Joined, joined_so, one_pipeline, joined_by, join_pipeline, an_and_or, an_entry, a_word_command, is_word, is_paren, separator_of, separator_by, a_separator, past_separator}
+use Rattle.shgrammar.specs.Commands.{is_pipe, is_bang, begins_simple, begins_redirect, begins_pipeline, after_word, opener_of, compound_by, and_or_operator_of, breaks, Items, so_many, is_number_token, redirect_operator_of, is_strip, takes_here, document_by, a_document, a_number, an_operator, operator_by, a_target, one_redirect, after_redirect, redirect_turn, with_redirect_list, as_item, an_item, item_by, item_turn, a_simple, a_bang, a_comment, comment_by, unexpected, with_comment, JoinSo, join_turn, a_join, a_command, Piped, piped, one_command, pipe_turn, a_pipeline, Joined, joined_so, one_pipeline, joined_by, join_pipeline, an_and_or, an_entry, a_word_command, is_word, is_paren, separator_of, separator_by, a_separator, past_separator}
 use Rattle.shgrammar.specs.Lists.{ListSo, list_so, none_listed, one_entry, entry_turn, remark_by, a_remark, on_line, list_turn, a_list}
 use Rattle.shgrammar.specs.Compounds.{a_linebreak}
 use Rattle.shast.specs.Everywhere.{IsSome}
 use Rattle.shgrammar.proofs.Ahead.{behind_is}
-use Rattle.shgrammar.proofs.Places.{behind_low}
+use Rattle.shgrammar.proofs.Places.{after_low}
 use Rattle.shgrammar.proofs.UpToLimit.{UpTo, Stepped, adds, after, bare_token, comment_ends, first, follows, gives, grows, moves, picks, picks_by, pushes, repeats, sees, step_so, stepped, stops, tokens, unless, with_its_bytes}
 use Rattle.shgrammar.proofs.EachSpan.{AndOrIn, AreIn, CommandIn, EntriesIn, EntryIn, HereIn, ItemIn, PartIn, PipeIn, PipelineIn, SomeIn, SubstIn, WordIn, entries_in, items_in, parts_in, pipes_in, some_pushed, substs_in}
 
@@ -76,7 +76,7 @@ pub record Fine (g : Given) (limit : ℕ) (inner : Inner) : Type 0 where
       UpTo g limit (inner.function name) (λ c. CommandIn limit c.0) s
 
 -- a token begins no simple command where it begins neither a word nor a redirection
-none_begins : (t : Token) → behind_word t ≡ None → begins_redirect t ≡ false → begins_simple t ≡ false
+none_begins : (t : Token) → after_word t ≡ None → begins_redirect t ≡ false → begins_simple t ≡ false
 none_begins t no_word other = ap (λ (o : Option Position). is_some o || begins_redirect t) no_word ∙ other
 
 module _ {g : Given} {limit : ℕ} where
@@ -188,7 +188,7 @@ module _ {g : Given} {limit : ℕ} where
     piece_in_by mode b h pieces.Subst s so =
         let p = s.at in
         let low_p : g.offset + past_continuations g.text p ≤ g.offset + past_byte g.text (past_byte g.text p) =
-        omega (arith, behind_is g.text p, behind_low g.text (past_byte g.text p)) in
+        omega (arith, behind_is g.text p, after_low g.text (past_byte g.text p)) in
         sees (moves (moves (first (fine.substitution (g.offset + past_continuations g.text p) h.substs _ low_p so)
         (λ zs t good. gives good))))
     piece_in_by mode b h pieces.Arith s so =
@@ -252,18 +252,18 @@ module _ {g : Given} {limit : ℕ} where
 
     -- ---- simple commands
 
-    item_in_by : (i : Items) (o : Option Position) (s : State) → behind_word i.next.token ≡ o → ItemsBegin limit i →
+    item_in_by : (i : Items) (o : Option Position) (s : State) → after_word i.next.token ≡ o → ItemsBegin limit i →
         UpTo g limit (item_by inner i o) (Stepped (SomeItems limit)) s
     item_in_by i (Some position) s is so = one_item_in i position s so.0
     item_in_by i None s is so =
         picks_by (begins_redirect i.next.token)
-        (λ yes. redirect_in (breaks i) (behind_redirect i.place) i.items i.next s so.0)
+        (λ yes. redirect_in (breaks i) (after_redirect i.place) i.items i.next s so.0)
         (λ no. gives (so.0, so.1 (none_begins i.next.token is no)))
 
     item_turn_in : (i : Items) (s : State) → ItemsBegin limit i →
         UpTo g limit (item_turn inner i) (Stepped (SomeItems limit)) s
     unfolding item_turn
-    item_turn_in i s so = item_in_by i (behind_word i.next.token) s refl so
+    item_turn_in i s so = item_in_by i (after_word i.next.token) s refl so
 
     simple_in : (i : Items) (s : State) → ItemsBegin limit i →
         UpTo g limit (a_simple inner i) (λ c. CommandIn limit c.0) s

@@ -16,7 +16,7 @@ use Rattle.shgrammar.specs.declared.token.Separator.{Separator}
 use Rattle.shgrammar.specs.HereDocuments.{ADelimiter}
 use Rattle.shgrammar.specs.Form.{Spelled, give, many, Step, again, done, step_if}
 use Rattle.shgrammar.specs.Words.{Inner}
-use Rattle.shgrammar.specs.Commands.{is_empty, begins_redirect, begins_simple, behind_word, redirect_operator_of, Items, so_many, breaks, as_item, an_item, a_number, is_strip, an_operator, operator_by, a_target, document, document_by, a_document, one_redirect, behind_redirect, item_by, item_turn, a_simple, a_newline, a_semicolon, none_waits, nothing_waits, JoinSo, join_so, a_join_of, with_comment, join_turn, a_join, redirect_turn, with_redirect_list, compound_by, opener_of, named_function, a_word_command, a_command, a_bang, Piped, piped, one_command, pipe_turn, a_pipeline, Joined, joined_so, one_pipeline, joined_by, join_pipeline, and_or_operator_of, an_and_or, ASeparator, separator_by, separator_of, a_separator}
+use Rattle.shgrammar.specs.Commands.{is_empty, begins_redirect, begins_simple, after_word, redirect_operator_of, Items, so_many, breaks, as_item, an_item, a_number, is_strip, an_operator, operator_by, a_target, document, document_by, a_document, one_redirect, after_redirect, item_by, item_turn, a_simple, a_newline, a_semicolon, none_waits, nothing_waits, JoinSo, join_so, a_join_of, with_comment, join_turn, a_join, redirect_turn, with_redirect_list, compound_by, opener_of, named_function, a_word_command, a_command, a_bang, Piped, piped, one_command, pipe_turn, a_pipeline, Joined, joined_so, one_pipeline, joined_by, join_pipeline, and_or_operator_of, an_and_or, ASeparator, separator_by, separator_of, a_separator}
 use Rattle.shgrammar.proofs.Moved.{Place, Any, same, each, first, of_first, step, of_step, Moves, moves_give, moves_move, moves_stop, moves_so, moves_then, moves_see, moves_here, moves_see_waiting, moves_on, moves_pushed, moves_push, moves_pick_by, moves_pick, moves_token, moves_with_bytes, moves_many, moves_waits, moves_newline}
 use Rattle.shgrammar.proofs.MovedTrees.{is_empty_map, pushed_some, span_to, join_to, here_to, word_to, item_to, command_to, pipe_to, pipeline_to, part_to, and_or_to, items_row, pipes_row, parts_row, redirects_to, word_span_to, CommandEnds, simple_ends, redirects_end, PipeEnds, PipelineEnds, pipeline_ends, PartEnds, AndOrEnds, and_or_ends}
 use Rattle.shgrammar.proofs.MovedWords.{Fits, moves_next, moves_mark, moves_comment, moves_word, moves_unexpected}
@@ -195,19 +195,19 @@ module _ (z : Place) where
         (as_item_to (breaks (items_to i)) (breaks i) (breaks_to i) position w)
         (moves_then (moves_next z position) (λ n all. moves_give refl (pushed_some i.items _))))
 
-    moves_item_by : (i : Items) → Begun i → (o : Option Position) → behind_word i.next.token ≡ o →
+    moves_item_by : (i : Items) → Begun i → (o : Option Position) → after_word i.next.token ≡ o →
         Moves z (step items_to) (of_step SomeItems) (item_by inner i o) (item_by inner (items_to i) o)
     moves_item_by i begun (Some position) is = moves_item i position
     moves_item_by i begun None is =
         moves_pick_by _ (λ e. moves_redirect (breaks i) (breaks (items_to i)) (breaks_to i)
-        (behind_redirect i.place) i.items i.next)
-        (λ e. moves_give refl (begun_none (is_empty i.items) (behind_word i.next.token)
+        (after_redirect i.place) i.items i.next)
+        (λ e. moves_give refl (begun_none (is_empty i.items) (after_word i.next.token)
         (begins_redirect i.next.token) begun is e))
 
     moves_item_turn : (i : Items) → Begun i →
         Moves z (step items_to) (of_step SomeItems) (item_turn inner i) (item_turn inner (items_to i))
     unfolding item_turn
-    moves_item_turn i begun = moves_item_by i begun (behind_word i.next.token) refl
+    moves_item_turn i begun = moves_item_by i begun (after_word i.next.token) refl
 
     moves_simple : (i : Items) → Begun i →
         Moves z (first {Y = Next} (command_to k deep)) (of_first (CommandEnds k deep)) (a_simple inner i)

@@ -7,7 +7,7 @@ use Rattle.shast.specs.Tree.{AJoin, AHere, Entries, more_entries, entries_of, An
 use Rattle.shast.specs.Nodes.{placed_span, word_span, item_span, last_item, command_span, compound_span, last_command, pipeline_span, last_pipeline, and_or_span, commands_end}
 use Rattle.shast.specs.Moved.{placed_body, kept_substs, carried, carried_join, carried_here, carried_entry, carried_and_or, carried_and_or_parts, carried_and_or_part, carried_pipeline, carried_pipes, carried_pipe, carried_command, carried_compound, carried_form, carried_branch, carried_branches, carried_else, carried_for_words, carried_cases, carried_case, carried_patterns, carried_items, carried_item, carried_word, carried_substs, carried_subst}
 use Rattle.shgrammar.specs.Commands.{is_empty}
-use Rattle.shgrammar.specs.Compounds.{under_name, behind_remarks}
+use Rattle.shgrammar.specs.Compounds.{under_name, after_remarks}
 
 -- ---- rows and what may be there
 
@@ -141,7 +141,7 @@ module _ (k : ℕ) where
     patterns_row (w ∷ ws) = ap (more_patterns (word_to w)) (patterns_row ws)
 
     pub remarks_to : (cs : Row Span) (es : Entries) →
-        behind_remarks (map span_to cs) (list_to es) ≡ list_to (behind_remarks cs es)
+        after_remarks (map span_to cs) (list_to es) ≡ list_to (after_remarks cs es)
     remarks_to [] es = refl
     remarks_to (c ∷ cs) es = ap (more_entries (entry (remark (span_to c)) false false None)) (remarks_to cs es)
 

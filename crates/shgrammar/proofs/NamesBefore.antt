@@ -23,9 +23,9 @@ use Rattle.shgrammar.specs.Words.{WordSoFar, having, a_piece, contents, a_word}
 use Rattle.shgrammar.specs.Levels.{level, ReadsWord}
 use Rattle.shast.specs.Tree.{AWord, word, no_subst}
 use Rattle.shgrammar.proofs.Stretches.{past_more, past_none, stands_in_low, raw_stays}
-use Rattle.shgrammar.proofs.Places.{behind_low, past_low}
+use Rattle.shgrammar.proofs.Places.{after_low, past_low}
 use Rattle.shgrammar.proofs.Turns.{many_again, many_done}
-use Rattle.shgrammar.proofs.SameBytes.{Kept, Here, here, here_byte, here_behind, here_stands, here_stands_in}
+use Rattle.shgrammar.proofs.SameBytes.{Kept, Here, here, here_byte, here_after, here_stands, here_stands_in}
 use Rattle.shgrammar.proofs.Ahead.{same_and, spelled_none, spelled_more, behind_is, ender}
 use Rattle.shgrammar.proofs.PlainBytes.{plain_stays, ordinary_by, closer_at}
 use Rattle.shgrammar.proofs.WordsWithin.{word_ends}
@@ -34,7 +34,7 @@ use Rattle.shgrammar.proofs.OneOutcome.{is}
 use Rattle.shgrammar.proofs.Anywhere.{WordOf, from_to, kept, word_may}
 use Rattle.shgrammar.proofs.Spelling.{raw_at}
 use Rattle.shast.specs.Shape.{text_at}
-use Rattle.shgrammar.proofs.CommentsElsewhere.{byte_behind, stretch_length}
+use Rattle.shgrammar.proofs.CommentsElsewhere.{byte_after, stretch_length}
 use Rattle.shgrammar.specs.declared.edition.Edition.{Edition}
 
 -- ---- the word that a NAME is
@@ -81,8 +81,8 @@ module _ (edition : Edition) (room : ℕ) (T : List ℕ) (o opener : ℕ) where
       let high : past_byte T r ≤ length T = omega (arith, inside, behind_is T r) in
       many_again (a_piece (level room) Plain opener) Whole (given edition T o) c c (standing r)
       (standing (past_byte T r))
-      (name_turn r b.0 c b.1 b.2) (behind_low T r) high
-      ∙ names_on n (past_byte T r) c (omega (arith, few, high, behind_low T r))
+      (name_turn r b.0 c b.1 b.2) (after_low T r) high
+      ∙ names_on n (past_byte T r) c (omega (arith, few, high, after_low T r))
       (subst (λ q. ends_word T q ≡ true) more e)
       ∙ ap (λ (q : ℕ). Ok (c, standing q)) (sym more))
       (λ (f : stands_in is_name T r ≡ false). let none = past_none is_name T r f in
@@ -158,7 +158,7 @@ module _ (room : ℕ) (g : Given) (p n : ℕ) (read : ReadsWord room g p n) (sti
   begins_name = ap (passes is_name) first.1 ∙ letter_name first.0 first.2
 
   longer : p < p + n
-  longer = omega (arith, past_more is_name T p begins_name, past_low is_name T (past_byte T p), behind_low T p, end_is)
+  longer = omega (arith, past_more is_name T p begins_name, past_low is_name T (past_byte T p), after_low T p, end_is)
 
   -- the token and its first byte
   token_here : token_of Command T p (Some first.0) ≡ tokens.Word
@@ -190,7 +190,7 @@ module _ (room : ℕ) (g : Given) (p n : ℕ) (read : ReadsWord room g p n) (sti
 
     limit_raw : slice_get U (to L) ≡ Some 40
     limit_raw = ap (slice_get U) limit_is ∙ ap (λ m. slice_get U (q + m)) (sym size)
-        ∙ byte_behind U q w (40 ∷ zs) is_there
+        ∙ byte_after U q w (40 ∷ zs) is_there
 
     limit_byte : byte_at U (to L) ≡ Some 40
     unfolding raw_stands
@@ -220,7 +220,7 @@ module _ (room : ℕ) (g : Given) (p n : ℕ) (read : ReadsWord room g p n) (sti
 
     next_goes : {r : ℕ} → Goes r → stands_in is_name T r ≡ true → Goes (past_byte T r)
     next_goes {r = r} go e = record {
-      low = omega (arith, go.low, behind_low T r);
+      low = omega (arith, go.low, after_low T r);
       up = sym (past_more is_name T r e) ∙ go.up;
     }
 
@@ -237,8 +237,8 @@ module _ (room : ℕ) (g : Given) (p n : ℕ) (read : ReadsWord room g p n) (sti
         ⊎_elim
         (λ (e : stands_in is_name T r ≡ true). let h = inside_of go e in
         let inside = stands_in_low is_name T r e in
-        past_more is_name U (to r) (here_stands_in K h is_name ∙ e) ∙ ap (past is_name U) (here_behind K h)
-        ∙ past_there m (past_byte T r) (omega (arith, few, inside, behind_is T r, behind_low T r)) (next_goes go e))
+        past_more is_name U (to r) (here_stands_in K h is_name ∙ e) ∙ ap (past is_name U) (here_after K h)
+        ∙ past_there m (past_byte T r) (omega (arith, few, inside, behind_is T r, after_low T r)) (next_goes go e))
         (λ (e : stands_in is_name T r ≡ false). let end = at_limit go e in
         ap (λ x. past is_name U (to x)) end ∙ past_none is_name U (to L) limit_none)
         (cases_Bool (stands_in is_name T r))
@@ -282,7 +282,7 @@ module _ (room : ℕ) (g : Given) (p n : ℕ) (read : ReadsWord room g p n) (sti
     next_spelled : {r : ℕ} (c : ℕ) → is_plain Plain c ≡ true → Goes r → stands T r c ≡ true → Goes (past_byte T r)
         × (past_byte U (to r) ≡ to (past_byte T r))
     next_spelled {r = r} c plain go f =
-        ⊎_elim (λ (e : stands_in is_name T r ≡ true). (next_goes go e, here_behind K (inside_of go e)))
+        ⊎_elim (λ (e : stands_in is_name T r ≡ true). (next_goes go e, here_after K (inside_of go e)))
         (λ (e : stands_in is_name T r ≡ false). let end = at_limit go e in
         absurd (both_ways (stands T L c) (other c plain) (subst (λ x. stands T x c ≡ true) end f)))
         (cases_Bool (stands_in is_name T r))

@@ -19,9 +19,9 @@ use Rattle.shast.specs.Normal.{is_blank_entry, is_broken, is_command, holds_comm
 use Rattle.shgrammar.specs.Sights.{Given, given, State, standing}
 use Rattle.shgrammar.specs.Form.{Read, Form, push, both, step_if}
 use Rattle.shgrammar.specs.Words.{Inner, WordSoFar, having, opened, piece_row, a_piece, contents, a_word}
-use Rattle.shgrammar.specs.Commands.{is_empty, pick, is_pipe, begins_simple, begins_word, begins_redirect, begins_pipeline, opener_of, compound_by, and_or_operator_of, breaks, Items, so_many, behind_word, a_target, one_redirect, behind_redirect, redirect_turn, with_redirect_list, as_item, an_item, item_by, item_turn, a_simple, unexpected, with_comment, JoinSo, join_turn, a_join, a_command, Piped, piped, one_command, pipe_turn, a_pipeline, Joined, joined_so, one_pipeline, joined_by, join_pipeline, an_and_or, an_entry, a_word_command, is_word, is_paren}
+use Rattle.shgrammar.specs.Commands.{is_empty, pick, is_pipe, begins_simple, begins_word, begins_redirect, begins_pipeline, opener_of, compound_by, and_or_operator_of, breaks, Items, so_many, after_word, a_target, one_redirect, after_redirect, redirect_turn, with_redirect_list, as_item, an_item, item_by, item_turn, a_simple, unexpected, with_comment, JoinSo, join_turn, a_join, a_command, Piped, piped, one_command, pipe_turn, a_pipeline, Joined, joined_so, one_pipeline, joined_by, join_pipeline, an_and_or, an_entry, a_word_command, is_word, is_paren}
 use Rattle.shgrammar.specs.Lists.{Listed, ListSo, list_so, none_listed, is_blank_next, with_command, with_remark, next_line, one_entry, entry_turn, remark_by, a_remark, on_line, list_turn, a_list}
-use Rattle.shgrammar.specs.Compounds.{Branched, branched, Closed, is_closing, a_branch, elif_turn, an_else, an_if, a_loop, a_group, a_for_name, word_turn, for_words, a_for_head, behind_remarks, a_for, a_form, a_compound, a_function, under_name, a_case_word, begins_pattern, Patterned, a_pattern, one_pattern, pattern_turn, a_pattern_list, a_body, CasesSo, cases_so, one_case, case_turn, a_case_head, a_case}
+use Rattle.shgrammar.specs.Compounds.{Branched, branched, Closed, is_closing, a_branch, elif_turn, an_else, an_if, a_loop, a_group, a_for_name, word_turn, for_words, a_for_head, after_remarks, a_for, a_form, a_compound, a_function, under_name, a_case_word, begins_pattern, Patterned, a_pattern, one_pattern, pattern_turn, a_pattern_list, a_body, CasesSo, cases_so, one_case, case_turn, a_case_head, a_case}
 use Rattle.shgrammar.specs.Substitutions.{substitution_list, a_substitution, one_substitution}
 use Rattle.shgrammar.specs.Levels.{most_open, level}
 use Rattle.shgrammar.specs.Lines.{an_open_line, a_line}
@@ -197,17 +197,17 @@ cases_more [] c all one = and_from _ _ one refl
 cases_more (d ∷ cs) c all one = let parts = and_parts _ _ all in and_from _ _ parts.0 (cases_more cs c parts.1 one)
 
 -- comments before a list
-remarks_hold : (cs : Row Span) (es : Entries) → holds_command es ≡ true → holds_command (behind_remarks cs es) ≡ true
+remarks_hold : (cs : Row Span) (es : Entries) → holds_command es ≡ true → holds_command (after_remarks cs es) ≡ true
 remarks_hold [] es so = so
 remarks_hold (c ∷ cs) es so = remarks_hold cs es so
 
-whole_behind : (cs : Row Span) (es : Entries) → is_whole es ≡ true → is_whole (behind_remarks cs es) ≡ true
-whole_behind [] es so = so
-whole_behind (c ∷ cs) es so = and_from _ _ (remarks_hold cs es (and_parts _ _ so).0) refl
+whole_after : (cs : Row Span) (es : Entries) → is_whole es ≡ true → is_whole (after_remarks cs es) ≡ true
+whole_after [] es so = so
+whole_after (c ∷ cs) es so = and_from _ _ (remarks_hold cs es (and_parts _ _ so).0) refl
 
-normal_behind : (cs : Row Span) (es : Entries) → are_normal es ≡ true → are_normal (behind_remarks cs es) ≡ true
-normal_behind [] es so = so
-normal_behind (c ∷ cs) es so = normal_behind cs es so
+normal_after : (cs : Row Span) (es : Entries) → are_normal es ≡ true → are_normal (after_remarks cs es) ≡ true
+normal_after [] es so = so
+normal_after (c ∷ cs) es so = normal_after cs es so
 
 -- ---- scripts
 
@@ -345,12 +345,12 @@ module _ (g : Given) where
     normal_item_by i (Some position) s so = normal_item i position s so
     normal_item_by i None s so =
         normal_pick (begins_redirect i.next.token)
-        (λ e. normal_redirect ItemsSo (breaks i) (behind_redirect i.place) i.items i.next s
+        (λ e. normal_redirect ItemsSo (breaks i) (after_redirect i.place) i.items i.next s
         (λ x m t good is. row_more i.items x i.next.broken so good is)) (tells_give Whole g so)
 
     normal_item_turn : (i : Items) (s : State) → NormalRow i.items → N (item_turn inner i) (Turned Whole g ItemsSo) s
     unfolding item_turn
-    normal_item_turn i s so = normal_item_by i (behind_word i.next.token) s so
+    normal_item_turn i s so = normal_item_by i (after_word i.next.token) s so
 
     normal_simple : (i : Items) (s : State) → NormalRow i.items →
         N (a_simple inner i) (λ c t. is_normal_command c.0 ≡ true) s
@@ -649,8 +649,8 @@ module _ (g : Given) where
         (λ x t one. tells_then Whole g (normal_for_head x.1 t)
         (λ h u two. after (λ d v. tells_then Whole g (normal_group closings.Done d.1 v)
         (λ b w body. tells_give Whole g
-        (and_from _ _ (and_from _ _ (and_from _ _ one two) (whole_behind h.comments b.what body.0))
-        (normal_behind h.comments b.what body.1))))))
+        (and_from _ _ (and_from _ _ (and_from _ _ one two) (whole_after h.comments b.what body.0))
+        (normal_after h.comments b.what body.1))))))
 
     normal_case_word : (n : Next) (s : State) → N (a_case_word inner n) (λ x t. is_normal_word x.0 ≡ true) s
     unfolding a_case_word

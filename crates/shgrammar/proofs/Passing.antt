@@ -50,9 +50,9 @@ line_there edition T U n es t ends newline same read =
     sym ((is_form (a_line inner false) (given edition U 0) (standing 0)).only (Ok ((es, true), t)) again.1.0 again.1.1)
 
 -- bytes that are the same after the first p of them
-same_behind : (p n : ℕ) (B D : List ℕ) → take (p + n) D ≡ take (p + n) B → (r : ℕ) → r < n →
+same_after : (p n : ℕ) (B D : List ℕ) → take (p + n) D ≡ take (p + n) B → (r : ℕ) → r < n →
     slice_get (drop p D) r ≡ slice_get (drop p B) r
-same_behind p n B D same r lt = get_drop p D r ∙ same_front (p + n) B D same (p + r) (omega (arith, lt))
+same_after p n B D same r lt = get_drop p D r ∙ same_front (p + n) B D same (p + r) (omega (arith, lt))
     ∙ sym (get_drop p B r)
 
 -- a line that is read by itself leads on where it stands
@@ -89,7 +89,7 @@ passed_more edition bytes p q so line script same_q =
     let kept = passed_alone edition bytes p q line in
     let again : line_told edition script Whole false p 0 ≡ Ok ((kept.0, true), t) =
     line_there edition T (drop p script) n kept.0 t (omega (arith, some)) (newline_at T n line.6)
-    (λ r lt. same_behind p t.at bytes script same r (omega (arith, lt, some))) kept.1 in
+    (λ r lt. same_after p t.at bytes script same r (omega (arith, lt, some))) kept.1 in
     let low : take p script ≡ take p bytes =
     sym (take-take p (p + t.at) script (omega arith)) ∙ ap (take p) same ∙ take-take p (p + t.at) bytes (omega arith) in
     so script low ∙ leads_by edition script p t kept.0 (line_from edition script Whole false p)
@@ -97,15 +97,15 @@ passed_more edition bytes p q so line script same_q =
     ∙ ap (first_fault_from edition script) (sym line.3)
 
 -- the last byte of a line that is passed
-pub newline_behind : (bytes : List ℕ) (p q len : ℕ) → q ≡ p + len → 0 < len →
+pub newline_after : (bytes : List ℕ) (p q len : ℕ) → q ≡ p + len → 0 < len →
     raw_stands (drop p bytes) (len - 1) 10 ≡ true → slice_get bytes (q - 1) ≡ Some 10
-newline_behind bytes p q len ends some stands =
+newline_after bytes p q len ends some stands =
     let is : q - 1 ≡ p + (len - 1) = omega (arith, ends, some) in
     ap (slice_get bytes) is ∙ sym (get_drop p bytes (len - 1)) ∙ newline_at (drop p bytes) (len - 1) stands
 
 pub newline_before : (edition : Edition) → (bytes : List ℕ) (p q : ℕ) → LineBefore edition bytes p q →
     slice_get bytes (q - 1) ≡ Some 10
-newline_before edition bytes p q line = newline_behind bytes p q line.1.at line.3 line.4 line.6
+newline_before edition bytes p q line = newline_after bytes p q line.1.at line.3 line.4 line.6
 
 -- what was read there tells that it is none
 pub stops_unended : (edition : Edition) → (bytes : List ℕ) (p len : ℕ) (blank newline : Bool) (es : Row AnEntry) →

@@ -19,10 +19,10 @@ use Rattle.shgrammar.specs.Sights.{Given, given, State}
 use Rattle.shgrammar.specs.Form.{Read, ◌▸◌, Form, Step, again, done, loop, many, leads_on, does}
 use Rattle.shgrammar.specs.Words.{single, backquoted_text, Inner, WordSoFar, having, opened, piece_row, a_piece, contents}
 use Rattle.shgrammar.proofs.Stretches.{place_low}
-use Rattle.shgrammar.proofs.Places.{behind_low, parameter_low}
+use Rattle.shgrammar.proofs.Places.{after_low, parameter_low}
 use Rattle.shgrammar.proofs.Holds.{Holds, holds_then, holds_so}
 use Rattle.shgrammar.proofs.Alike.{SameStep, SameHeld}
-use Rattle.shgrammar.proofs.SameBytes.{Kept, Here, here, here_byte, here_behind, here_stands, byte_other}
+use Rattle.shgrammar.proofs.SameBytes.{Kept, Here, here, here_byte, here_after, here_stands, byte_other}
 use Rattle.shgrammar.proofs.Ahead.{behind_is}
 use Rattle.shgrammar.proofs.Inside.{there_at, clear, before, high, taken_two, same_taken, same_end, parameter_in, rest_in, there, at, Ends, quote_in, backquotes_in, Turned, Looped, Goal, looped}
 use Rattle.shgrammar.proofs.OneOutcome.{is}
@@ -127,7 +127,7 @@ module _ {edition : Edition} {T U : List ℕ} {a L : ℕ} {to : ℕ → ℕ} (K 
       → piece_in edition mode (piece_at U mode n (to p))
       ≡ piece_in edition mode (dollar_by U (to (past_byte T p)) (byte_at U (to (past_byte T p))))
   unfolding piece_at dollar_at
-  dollar_piece mode n p b is e f d i = rw (here_byte K i, is, e, f, d, here_behind K i) refl
+  dollar_piece mode n p b is e f d i = rw (here_byte K i, is, e, f, d, here_after K i) refl
 
   -- before the limit, where the next byte is no `(`, unless it is one in the first text
   module _ (ender : ends (byte_at U (to L)) ≡ true)
@@ -162,7 +162,7 @@ module _ {edition : Edition} {T U : List ℕ} {a L : ℕ} {to : ℕ → ℕ} (K 
       n = c.nested
 
       q_low : a ≤ q
-      q_low = omega (arith, from, behind_low T p)
+      q_low = omega (arith, from, after_low T p)
 
       -- a turn, as it is elsewhere
       abbrev Turn : Step WordSoFar → State → Type 0
@@ -209,7 +209,7 @@ module _ {edition : Edition} {T U : List ℕ} {a L : ℕ} {to : ℕ → ℕ} (K 
           let next = goal.1 (leads_byte lt) in (
             inl i,
             λ d so. row_there x (told i next) d so (SameStep Agree (again (w c))) (placed q s)
-                (again (w d), (row d ∙ rw (here_behind K i) refl, same d so)),
+                (again (w d), (row d ∙ rw (here_after K i) refl, same d so)),
           )
 
       ordinary : is_byte (byte_at T p) 92 ≡ false → past_continuations T p < length T →
@@ -248,7 +248,7 @@ module _ {edition : Edition} {T U : List ℕ} {a L : ℕ} {to : ℕ → ℕ} (K 
 
           escape_told : (v : ℕ) → byte_at T p ≡ Some v → (v == 92) ≡ true → Inside p → at_end T q ≡ false → q < L →
               Told pieces.Escape
-          escape_told v is e i some lt = rw (here_byte K i, is, e, here_behind K i, same_end K q q_low lt, some) refl
+          escape_told v is e i some lt = rw (here_byte K i, is, e, here_after K i, same_end K q q_low lt, some) refl
 
       -- text that is not read
       text_row : (x : Piece) (r : Form (Unit {0})) → Holds (Ends K o o2 r Inside s) (does r Whole g s) →
@@ -303,19 +303,19 @@ module _ {edition : Edition} {T U : List ℕ} {a L : ℕ} {to : ℕ → ℕ} (K 
 
       string : (Inside p → Told pieces.Double) → Again pieces.Double
       string told = open_row pieces.Double Double tt _ (o2 + past_continuations U (to p)) q q_low
-          (λ i. let j = before K p from i in (j, (told j, λ d. rw (here_behind K j) refl)))
+          (λ i. let j = before K p from i in (j, (told j, λ d. rw (here_after K j) refl)))
 
       q2_low : a ≤ past_byte T q
-      q2_low = omega (arith, q_low, behind_low T q)
+      q2_low = omega (arith, q_low, after_low T q)
 
       arithmetic : (Inside p → Inside q → Inside (past_byte T q) → Told pieces.Arith) → Again pieces.Arith
       arithmetic told =
           open_row pieces.Arith Arith tt _ (o2 + past_continuations U (to p)) (past_byte T (past_byte T q))
-          (omega (arith, q2_low, behind_low T (past_byte T q)))
+          (omega (arith, q2_low, after_low T (past_byte T q)))
           (λ i. let l = before K (past_byte T q) q2_low i in
           let k = before K q q_low l in
           let j = before K p from k in
-          (j, (told j k l, λ d. rw (here_behind K j, here_behind K k, here_behind K l) refl)))
+          (j, (told j k l, λ d. rw (here_after K j, here_after K k, here_after K l) refl)))
 
       braces_closed : (m : Mode) → Closed (braces_in m)
       braces_closed Plain = tt
@@ -336,7 +336,7 @@ module _ {edition : Edition} {T U : List ℕ} {a L : ℕ} {to : ℕ → ℕ} (K 
           (λ i. let w = parameter_in K (past_byte T q) q2_low i in
           let k = before K q q_low w.0 in
           let j = before K p from k in
-          (j, (told j k, λ d. rw (here_behind K j, here_behind K k, w.1, rest_in K mode r i) refl)))
+          (j, (told j k, λ d. rw (here_after K j, here_after K k, w.1, rest_in K mode r i) refl)))
 
       -- a substitution, from just after its opener on
       substitution : (Inside p → Inside q → Inside (past_byte T q) → Told pieces.Subst) → Again pieces.Subst
@@ -353,7 +353,7 @@ module _ {edition : Edition} {T U : List ℕ} {a L : ℕ} {to : ℕ → ℕ} (K 
             inl j,
             λ d so. let v = w.1 d.substs so.1 in
                 row_there pieces.Subst (told j k w.0) d so (SameStep Agree (again (having c.nested x))) t
-                (again (having d.nested v.0), (rw (here_behind K j, here_behind K k, v.1.0) refl, (so.0, v.1.1))),
+                (again (having d.nested v.0), (rw (here_after K j, here_after K k, v.1.0) refl, (so.0, v.1.1))),
           ))
 
       twice : is_byte (byte_at T q) 92 ≡ false → (Inside p → Inside q → Told pieces.Pid) → Again pieces.Pid
@@ -362,7 +362,7 @@ module _ {edition : Edition} {T U : List ℕ} {a L : ℕ} {to : ℕ → ℕ} (K 
           let i = before K p from j in (
             inl i,
             λ d so. row_there pieces.Pid (told i j) d so (SameStep Agree (again c)) (placed (past_byte T q) s)
-                (again d, (rw (here_behind K i, here_behind K j) refl, so)),
+                (again d, (rw (here_after K i, here_after K j) refl, so)),
           )
 
       -- what closes a construct
@@ -373,7 +373,7 @@ module _ {edition : Edition} {T U : List ℕ} {a L : ℕ} {to : ℕ → ℕ} (K 
           let i = clear K p from (omega (arith, le, one T p, behind_is T p)) e in (
             inl i,
             λ d so. row_there pieces.Closer (told i) d so (SameStep Agree (done c))
-                (placed (past_closer T mode p) s) (done d, (rw (one U (to p), one T p, here_behind K i) refl, so)),
+                (placed (past_closer T mode p) s) (done d, (rw (one U (to p), one T p, here_after K i) refl, so)),
           )
 
       closer_two : ((V : List ℕ) (r : ℕ) → past_closer V mode r ≡ past_byte V (past_byte V r)) →
@@ -385,7 +385,7 @@ module _ {edition : Edition} {T U : List ℕ} {a L : ℕ} {to : ℕ → ℕ} (K 
             inl i,
             λ d so. row_there pieces.Closer (told i j) d so (SameStep Agree (done c))
                 (placed (past_closer T mode p) s)
-                (done d, (rw (two U (to p), two T p, here_behind K i, here_behind K j) refl, so)),
+                (done d, (rw (two U (to p), two T p, here_after K i, here_after K j) refl, so)),
           )
 
       -- ---- by the byte
@@ -421,9 +421,9 @@ module _ {edition : Edition} {T U : List ℕ} {a L : ℕ} {to : ℕ → ℕ} (K 
               (λ m. cond_both (w == 40) _ _ Known
               (λ k. cond_both (stands T (past_byte T q) 40) _ _ Known
               (λ z. arithmetic (λ i j l. dollar_piece mode n p v is e f d i
-              ∙ rw (here_byte K j, is2, m, k, here_behind K j, here_stands K l 40, z) refl))
+              ∙ rw (here_byte K j, is2, m, k, here_after K j, here_stands K l 40, z) refl))
               (λ z. substitution (λ i j l. dollar_piece mode n p v is e f d i
-              ∙ rw (here_byte K j, is2, m, k, here_behind K j, here_stands K l 40, z) refl)))
+              ∙ rw (here_byte K j, is2, m, k, here_after K j, here_stands K l 40, z) refl)))
               (λ k. cond_both (w == 123) _ _ Known
               (λ z. parameter (λ i j. dollar_piece mode n p v is e f d i ∙ rw (here_byte K j, is2, m, k, z) refl))
               (λ z. cond_both (w == 39) _ _ Known
@@ -497,7 +497,7 @@ module _ {edition : Edition} {T U : List ℕ} {a L : ℕ} {to : ℕ → ℕ} (K 
             KnownIn Arith (bracket_by m two)
         bracket_row zero none true follows e =
             closer_two inner local Arith b b2 c s from (λ V r. refl) (bracket_clear (past_byte T s.at) follows)
-            (λ i j. told Arith i ∙ rw (e, none, here_behind K i, here_stands K j 41, follows) refl)
+            (λ i j. told Arith i ∙ rw (e, none, here_after K i, here_stands K j 41, follows) refl)
         bracket_row zero none false follows e = tt
         bracket_row (suc m) some_open x follows e =
             closing inner local Arith b b2 c s from clear_here some (λ i next. told Arith i ∙ rw (e, some_open) refl)

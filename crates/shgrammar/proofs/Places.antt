@@ -99,24 +99,24 @@ end_high T p e = high (slice_get T p) refl e
     high (Some b) is end = absurd cc
 
 -- the place after a byte is to the right of it
-pub behind_low : (T : List ℕ) (p : ℕ) → p < past_byte T p
+pub after_low : (T : List ℕ) (p : ℕ) → p < past_byte T p
 unfolding past_byte
-behind_low T p = omega (arith, place_low T p)
+after_low T p = omega (arith, place_low T p)
 
 -- the place past continuations is before the one after the byte
-pub behind_place : (T : List ℕ) (p : ℕ) → past_continuations T p < past_byte T p
+pub after_place : (T : List ℕ) (p : ℕ) → past_continuations T p < past_byte T p
 unfolding past_byte
-behind_place T p = omega arith
+after_place T p = omega arith
 
 -- where a byte is read, the place after it is within the text
-pub behind_high : (T : List ℕ) (p : ℕ) → past_continuations T p < length T → past_byte T p ≤ length T
+pub after_high : (T : List ℕ) (p : ℕ) → past_continuations T p < length T → past_byte T p ≤ length T
 unfolding past_byte
-behind_high T p lt = omega arith
+after_high T p lt = omega arith
 
 -- the byte that was read is the last one
-pub behind_back : (T : List ℕ) (p : ℕ) → past_byte T p - 1 ≡ past_continuations T p
+pub after_back : (T : List ℕ) (p : ℕ) → past_byte T p - 1 ≡ past_continuations T p
 unfolding past_byte
-behind_back T p = omega arith
+after_back T p = omega arith
 
 -- ---- stretches of the text as it stands
 
@@ -202,7 +202,7 @@ unfolding past_below
 below_low zero test T p = omega arith
 below_low (suc n) test T p =
     cond_both (stands_in test T p) _ _ (λ q. p ≤ q)
-    (λ e. omega (arith, below_low n test T (past_byte T p), behind_low T p)) (λ e. omega arith)
+    (λ e. omega (arith, below_low n test T (past_byte T p), after_low T p)) (λ e. omega arith)
 
 -- a stretch does not end before it begins
 pub past_low : (test : ℕ → Bool) (T : List ℕ) (p : ℕ) → p ≤ past test T p
@@ -215,7 +215,7 @@ unfolding past_below
 below_high zero test T p within = within
 below_high (suc n) test T p within =
     cond_both (stands_in test T p) _ _ (λ q. q ≤ length T)
-    (λ e. below_high n test T (past_byte T p) (behind_high T p (stands_in_low test T p e))) (λ e. within)
+    (λ e. below_high n test T (past_byte T p) (after_high T p (stands_in_low test T p e))) (λ e. within)
 
 -- nor past the end of the text
 pub past_high : (test : ℕ → Bool) (T : List ℕ) (p : ℕ) → p ≤ length T → past test T p ≤ length T
@@ -231,7 +231,7 @@ below_stops zero test T p low =
     (λ e. let lt = stands_in_low test T p e in let at = place_low T p in absurd (omega arith))
 below_stops (suc n) test T p low =
     cond_both (stands_in test T p) _ _ (λ q. stands_in test T q ≡ false)
-    (λ e. below_stops n test T (past_byte T p) (omega (arith, behind_low T p))) (λ e. e)
+    (λ e. below_stops n test T (past_byte T p) (omega (arith, after_low T p))) (λ e. e)
 
 -- after a stretch no byte of its kind is read
 pub past_stops : (test : ℕ → Bool) (T : List ℕ) (p : ℕ) → stands_in test T (past test T p) ≡ false
@@ -256,7 +256,7 @@ blanks_stop T p = stands_in_past is_blank T (past is_blank T p) ∙ past_stops i
 -- after a reserved word
 pub reserved_low : (T : List ℕ) (p : ℕ) → p ≤ past_reserved T p
 unfolding past_reserved
-reserved_low T p = omega (arith, behind_low T p, past_low is_name T (past_byte T p))
+reserved_low T p = omega (arith, after_low T p, past_low is_name T (past_byte T p))
 
 -- after digits
 pub digits_low : (T : List ℕ) (p : ℕ) → p ≤ past_digits T p
@@ -270,7 +270,7 @@ parameter_low T p =
     let P : ℕ → Type 0 = λ q. p ≤ q in
     cond_both (stands_in is_letter T p) _ _ P (λ e. past_low is_name T p)
     (λ e. cond_both (stands_in is_digit T p) _ _ P (λ f. past_low is_digit T p)
-    (λ f. cond_both (stands_in is_special T p) _ _ P (λ g. omega (arith, behind_low T p)) (λ g. omega arith)))
+    (λ f. cond_both (stands_in is_special T p) _ _ P (λ g. omega (arith, after_low T p)) (λ g. omega arith)))
 
 -- it is not past the end of the text
 pub parameter_high : (T : List ℕ) (p : ℕ) → p ≤ length T → past_parameter T p ≤ length T
@@ -279,7 +279,7 @@ parameter_high T p within =
     let P : ℕ → Type 0 = λ q. q ≤ length T in
     cond_both (stands_in is_letter T p) _ _ P (λ e. past_high is_name T p within)
     (λ e. cond_both (stands_in is_digit T p) _ _ P (λ f. past_high is_digit T p within)
-    (λ f. cond_both (stands_in is_special T p) _ _ P (λ g. behind_high T p (stands_in_low is_special T p g))
+    (λ f. cond_both (stands_in is_special T p) _ _ P (λ g. after_high T p (stands_in_low is_special T p g))
     (λ g. within)))
 
 -- two words do not end where only one does

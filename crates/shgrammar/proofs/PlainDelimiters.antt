@@ -11,7 +11,7 @@ use Rattle.shgrammar.specs.declared.mode.Mode.TheVariants.{Plain}
 use Rattle.shgrammar.specs.Plain.{is_plain, is_special_in}
 use Rattle.shgrammar.specs.Bytes.{ends}
 use Rattle.shgrammar.specs.Classes.{is_blank, is_operator}
-use Rattle.shgrammar.specs.HereDocuments.{Quoting, not_quoted, in_single, in_double, behind_quote, delimiter_of, is_live, is_quote, is_quoted, left_before, unquoted}
+use Rattle.shgrammar.specs.HereDocuments.{Quoting, not_quoted, in_single, in_double, after_quote, delimiter_of, is_live, is_quote, is_quoted, left_before, unquoted}
 use Rattle.shgrammar.specs.Unquoting.{a_delimiter, is_escaped, is_wrapped, left_of, unwrapped}
 use Rattle.shgrammar.proofs.Unquoted.{unquoted_byte, unquoted_escape, bare_one}
 
@@ -125,12 +125,12 @@ quote_quotes : (b : ℕ) → is_quote not_quoted b ≡ true → (b == 92) ≡ fa
 quote_quotes b e = quote_is b (b == 39) refl e
 
 last_by : (b : ℕ) (t : Bool) → (b == 39) ≡ t → (t || b == 34) ≡ true →
-    unquoted (behind_quote not_quoted b) false (b ∷ []) ≡ Some []
+    unquoted (after_quote not_quoted b) false (b ∷ []) ≡ Some []
 unfolding unquoted
 last_by b true is e = rw (is, is) refl
 last_by b false is e = rw (is, e) refl
 
-last_quote : (b : ℕ) → is_quote not_quoted b ≡ true → unquoted (behind_quote not_quoted b) false (b ∷ []) ≡ Some []
+last_quote : (b : ℕ) → is_quote not_quoted b ≡ true → unquoted (after_quote not_quoted b) false (b ∷ []) ≡ Some []
 last_quote b e = last_by b (b == 39) refl e
 
 quoted_left : (b : ℕ) (xs : List ℕ) → is_quote not_quoted b ≡ true → list_all (is_plain Plain) xs ≡ true →
@@ -138,7 +138,7 @@ quoted_left : (b : ℕ) (xs : List ℕ) → is_quote not_quoted b ≡ true → l
 quoted_left b xs is all =
     unquoted_byte not_quoted false b (xs ++ b ∷ []) (both_false _ _ (quote_quotes b is))
     ∙ rw is refl
-    ∙ plain_on (behind_quote not_quoted b) false xs (b ∷ []) all
+    ∙ plain_on (after_quote not_quoted b) false xs (b ∷ []) all
     ∙ ap (left_of xs) (last_quote b is)
     ∙ ap (λ (l : List ℕ). Some l) (append-nil xs)
 

@@ -6,7 +6,7 @@ use Rattle.shast.specs.declared.tree.Command.TheViews.{out-List}
 use Rattle.shast.specs.declared.tree.Command.TheFolds.{fold_out-List}
 use Rattle.shast.specs.Tree.{AnEntry, entries_of, entry, more_entries, remark}
 use Rattle.shast.specs.View.{view_comment, view_entry, view_list}
-use Rattle.shgrammar.specs.Compounds.{behind_remarks}
+use Rattle.shgrammar.specs.Compounds.{after_remarks}
 
 pub list_seen : (l : the_list.List) → view_list l ≡ entries_of (map view_entry (out-List l).entries.items)
 list_seen l = search (rules, fold_out-List)
@@ -16,6 +16,6 @@ abbrev pub as_remark : Comment → AnEntry
 as_remark c = entry (remark (view_comment c)) false false None
 
 pub remarks_row : (cs : Row Comment) (es : Row AnEntry) →
-    behind_remarks (map view_comment cs) (entries_of es) ≡ entries_of (map as_remark cs ++ es)
+    after_remarks (map view_comment cs) (entries_of es) ≡ entries_of (map as_remark cs ++ es)
 remarks_row [] es = refl
 remarks_row (c ∷ cs) es = ap (more_entries (as_remark c)) (remarks_row cs es)

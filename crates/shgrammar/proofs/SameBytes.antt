@@ -5,7 +5,7 @@ use Rattle.std.proofs.lemmas.Bool.Decides.{nat_tests}
 use Rattle.shgrammar.specs.Standing.{is_byte, passes, raw_stands, raw_in, raw_past, continues}
 use Rattle.shgrammar.specs.Bytes.{ends, past_continuations, byte_at, past_byte, stands, stands_in}
 use Rattle.shgrammar.proofs.Stretches.{joined_more, joined_none, place_low, raw_is}
-use Rattle.shgrammar.proofs.Places.{must_fail, behind_low, raw_past_low, raw_past_all, raw_past_stops}
+use Rattle.shgrammar.proofs.Places.{must_fail, after_low, raw_past_low, raw_past_all, raw_past_stops}
 use Rattle.shgrammar.specs.declared.edition.Edition.{Edition}
 
 -- `to` says where the places of the first text from `a` on are in the second; the bytes are the same below L
@@ -235,9 +235,9 @@ module _ {edition : Edition} {T T2 : List ℕ} {a L : ℕ} {to : ℕ → ℕ} (K
     unfolding stands_in
     here_stands_in test = ap (passes test) here_byte
 
-    pub here_behind : past_byte T2 (to p) ≡ to (past_byte T p)
+    pub here_after : past_byte T2 (to p) ≡ to (past_byte T p)
     unfolding past_byte
-    here_behind = let low = place_low T p in
+    here_after = let low = place_low T p in
         ap (λ q. q + 1) h.there ∙ sym (K.on (past_continuations T p) 1 (omega (arith, h.low)))
 
     pub here_high : past_byte T p ≤ L
@@ -245,13 +245,13 @@ module _ {edition : Edition} {T T2 : List ℕ} {a L : ℕ} {to : ℕ → ℕ} (K
     here_high = omega (arith, h.inside)
 
     pub here_low : a ≤ past_byte T p
-    here_low = omega (arith, h.low, behind_low T p)
+    here_low = omega (arith, h.low, after_low T p)
 
   -- before a byte that is read and is no backslash
-  pub safe_behind : (p : ℕ) → a ≤ p → raw_stands T (past_continuations T p) 92 ≡ false → Safe T a L (past_byte T p) →
+  pub safe_after : (p : ℕ) → a ≤ p → raw_stands T (past_continuations T p) 92 ≡ false → Safe T a L (past_byte T p) →
       Safe T a L p
   unfolding past_byte
-  safe_behind p low e rest =
+  safe_after p low e rest =
       let lt = place_low T p in safe_place p low (safe_byte (past_continuations T p) (omega (arith, low)) e rest)
 
   -- ---- stretches as they stand

@@ -26,7 +26,7 @@ use Rattle.shgrammar.proofs.OneOutcome.{is as is_form}
 use Rattle.shgrammar.proofs.Holds.{Holds, Tells, change_low}
 use Rattle.shgrammar.proofs.Lined.{line_ended_low}
 use Rattle.shgrammar.proofs.SameBytes.{at_limit, byte_other, goes_on, halts, no_backslash}
-use Rattle.shgrammar.proofs.Ahead.{ListEnds, newline_ends, same_behind}
+use Rattle.shgrammar.proofs.Ahead.{ListEnds, newline_ends, same_after}
 use Rattle.shgrammar.proofs.BodiesThere.{read_to_limit}
 use Rattle.shgrammar.proofs.TokensShown.{Begins, Fine, newline_here, shown_level, shown_next, shown_on_line}
 use Rattle.shgrammar.proofs.Asked.{Good}
@@ -111,7 +111,7 @@ module _ {edition : Edition} {T U : List ℕ} {a M : ℕ} {to : ℕ → ℕ} (E 
       let one = (is_form (ending inner es true end n) h (there E o o2 off s)).some in
       let read : does (ending inner es true end n) Whole h (there E o o2 off s) ≡ Ok ((es, true), there E o o2 off t) =
       ap (λ (p : ℕ). line_true es (changed bodies_here h (record { at = p; waiting = s.waiting; bodies = s.bodies })))
-      (same_behind E good) ∙ ap (line_true es) there_is in (
+      (same_after E good) ∙ ap (line_true es) there_is in (
         good,
         (
           one.0,

@@ -20,9 +20,9 @@ use Rattle.shgrammar.specs.Comments.{span}
 use Rattle.shgrammar.specs.Sights.{Given, given, State, standing, Sight, Move}
 use Rattle.shgrammar.specs.Form.{change, with_bytes, a_level, Changed, changes, cannot, WithBytes, with_its_bytes, without_bytes, OwnLevel, level_read, level_stops, Spelled, Read, Step, again, done, step_if, Form, give, see, move, push, stop, both, Telling, by, tell, token, many, Just, just, Halts, halted, Then, and_then, or_stops, OneToken, whole, broken_off, Turns, last, rests, more, halts, raw, may}
 use Rattle.shgrammar.specs.Words.{Inner, a_word}
-use Rattle.shgrammar.specs.Commands.{pick, next_token, is_newline_token, is_semicolon, a_semicolon, is_pipe, is_bang, begins_simple, begins_word, begins_redirect, begins_pipeline, opener_of, compound_by, and_or_operator_of, Items, so_many, behind_word, is_number_token, redirect_operator_of, takes_here, is_strip, document_by, a_document, none_waits, nothing_waits, a_number, an_operator, operator_by, a_target, one_redirect, behind_redirect, redirect_turn, with_redirect_list, as_item, breaks, an_item, item_by, item_turn, a_simple, unexpected, comment_by, a_comment, a_newline, with_comment, JoinSo, join_turn, a_join, a_command, a_bang, Piped, piped, one_command, pipe_turn, a_pipeline, Joined, joined_so, one_pipeline, joined_by, join_pipeline, an_and_or, separator_of, told_separator, separator_by, a_separator, is_background, an_entry, a_word_command, is_word, is_paren, ends_item, falls_through}
+use Rattle.shgrammar.specs.Commands.{pick, next_token, is_newline_token, is_semicolon, a_semicolon, is_pipe, is_bang, begins_simple, begins_word, begins_redirect, begins_pipeline, opener_of, compound_by, and_or_operator_of, Items, so_many, after_word, is_number_token, redirect_operator_of, takes_here, is_strip, document_by, a_document, none_waits, nothing_waits, a_number, an_operator, operator_by, a_target, one_redirect, after_redirect, redirect_turn, with_redirect_list, as_item, breaks, an_item, item_by, item_turn, a_simple, unexpected, comment_by, a_comment, a_newline, with_comment, JoinSo, join_turn, a_join, a_command, a_bang, Piped, piped, one_command, pipe_turn, a_pipeline, Joined, joined_so, one_pipeline, joined_by, join_pipeline, an_and_or, separator_of, told_separator, separator_by, a_separator, is_background, an_entry, a_word_command, is_word, is_paren, ends_item, falls_through}
 use Rattle.shgrammar.specs.Lists.{ListSo, list_so, none_listed, is_blank_next, one_entry, entry_turn, remark_by, a_remark, on_line, list_turn, a_list}
-use Rattle.shgrammar.specs.Compounds.{Branched, branched, is_closing, opener_text, closing_text, reserved_or_paren, closing, a_group, a_branch, elif_turn, an_else, an_if, a_loop, a_for_name, a_linebreak, a_sequential_sep, Headed, word_turn, for_words, a_for_head, behind_remarks, a_for, a_form, a_compound, a_function, under_name, a_case_word, begins_pattern, Patterned, a_pattern, one_pattern, pattern_turn, a_pattern_list, an_open_bracket, a_body, an_ender, an_item_end, CasesSo, cases_so, one_case, case_turn, a_case_head, a_case}
+use Rattle.shgrammar.specs.Compounds.{Branched, branched, is_closing, opener_text, closing_text, reserved_or_paren, closing, a_group, a_branch, elif_turn, an_else, an_if, a_loop, a_for_name, a_linebreak, a_sequential_sep, Headed, word_turn, for_words, a_for_head, after_remarks, a_for, a_form, a_compound, a_function, under_name, a_case_word, begins_pattern, Patterned, a_pattern, one_pattern, pattern_turn, a_pattern_list, an_open_bracket, a_body, an_ender, an_item_end, CasesSo, cases_so, one_case, case_turn, a_case_head, a_case}
 use Rattle.shgrammar.specs.Levels.{most_open, level}
 use Rattle.shgrammar.specs.Tokens.{is_end}
 use Rattle.shgrammar.specs.Lines.{an_open_line, a_line, end_of_line}
@@ -116,7 +116,7 @@ module _ (B : List ℕ) where
 
   -- a comment is no token
   remarks_spelled : (cs : Row Span) (es : Entries) →
-      spelling (shape_of B (behind_remarks cs es)) ≡ spelling (shape_of B es)
+      spelling (shape_of B (after_remarks cs es)) ≡ spelling (shape_of B es)
   remarks_spelled [] es = refl
   remarks_spelled (c ∷ cs) es = remarks_spelled cs es
 
@@ -133,10 +133,10 @@ of_so P Q (Ok (x, t)) k one so = so x one
 of_so P Q (Err f) k one so = tt
 
 -- after the tokens k
-of_behind : {X : Type 0} (Q : X → Row Spelled → Type 0) (k : Row Spelled) (y : Read X) (l : Row Spelled) →
+of_after : {X : Type 0} (Q : X → Row Spelled → Type 0) (k : Row Spelled) (y : Read X) (l : Row Spelled) →
     Of (λ x m. Q x (k ++ m)) y l → Of Q y (k ++ l)
-of_behind Q k (Ok (x, t)) l so = so
-of_behind Q k (Err f) l so = tt
+of_after Q k (Ok (x, t)) l so = so
+of_after Q k (Err f) l so = tt
 
 -- what a step goes on with, or ends with
 abbrev held : {A : Type 0} → Step A → A
@@ -175,7 +175,7 @@ module _ (g : Given) where
       → ((x : X) (t : State) (k : Row Spelled) → P x k → Passing (q x) (λ y l. Q y (k ++ l)) t) →
       (y : Read Y) (m : Row Spelled) → Then (may r g) (λ x. may (q x) g) s y m → Of Q y m
   then_of P Q r q s first rest y m (and_then {x = x} {t = t} {k = k} {l = l} one two) =
-      of_behind Q k y l ((rest x t k (first.passing (Ok (x, t)) k one)).passing y l two)
+      of_after Q k y l ((rest x t k (first.passing (Ok (x, t)) k one)).passing y l two)
   then_of P Q r q s first rest y m (or_stops one) = tt
 
   pass_then : {X Y : Type 0} {P : X → Row Spelled → Type 0} {Q : Y → Row Spelled → Type 0} {r : Form X} {q : X → Form Y}
@@ -474,11 +474,11 @@ module _ (B : List ℕ) (g : Given) (stands : g.text ≡ drop g.offset B) where
         Passing g (item_by inner i o) (Grows g spelled_items i) s
     pass_item_by i (Some position) s = pass_item i position s
     pass_item_by i None s = pass_pick g (begins_redirect i.next.token)
-        (pass_redirect i (breaks i) (behind_redirect i.place) i.next s) (pass_give g (grows_none g spelled_items i))
+        (pass_redirect i (breaks i) (after_redirect i.place) i.next s) (pass_give g (grows_none g spelled_items i))
 
     pass_item_turn : (i : Items) (s : State) → Passing g (item_turn inner i) (Grows g spelled_items i) s
     unfolding item_turn
-    pass_item_turn i s = pass_item_by i (behind_word i.next.token) s
+    pass_item_turn i s = pass_item_by i (after_word i.next.token) s
 
     pass_simple : (i : Items) (s : State) →
         Passing g (a_simple inner i) (λ c k. spelled_items i ++ k ≡ spell_command (shape_of_command B c.0)) s

@@ -24,7 +24,7 @@ use Rattle.shgrammar.specs.Tokens.{begins_assignment, first_word, is_number, res
 use Rattle.shgrammar.specs.Sights.{Given, State}
 use Rattle.shgrammar.specs.Form.{Spelled, Form, push, both, many, step_if}
 use Rattle.shgrammar.specs.Words.{Inner}
-use Rattle.shgrammar.specs.Commands.{pick, next_token, is_newline_token, is_semicolon, a_semicolon, is_pipe, is_bang, begins_simple, begins_word, begins_redirect, begins_pipeline, opener_of, compound_by, and_or_operator_of, Items, so_many, breaks, behind_word, one_redirect, behind_redirect, redirect_turn, with_redirect_list, an_item, item_by, item_turn, a_simple, unexpected, comment_by, a_comment, a_newline, with_comment, JoinSo, join_turn, a_join, a_command, a_bang, Piped, piped, one_command, pipe_turn, a_pipeline, Joined, joined_so, one_pipeline, joined_by, join_pipeline, an_and_or, separator_of, separator_by, a_separator, an_entry, is_paren, is_word, a_word_command, ends_item, falls_through}
+use Rattle.shgrammar.specs.Commands.{pick, next_token, is_newline_token, is_semicolon, a_semicolon, is_pipe, is_bang, begins_simple, begins_word, begins_redirect, begins_pipeline, opener_of, compound_by, and_or_operator_of, Items, so_many, breaks, after_word, one_redirect, after_redirect, redirect_turn, with_redirect_list, an_item, item_by, item_turn, a_simple, unexpected, comment_by, a_comment, a_newline, with_comment, JoinSo, join_turn, a_join, a_command, a_bang, Piped, piped, one_command, pipe_turn, a_pipeline, Joined, joined_so, one_pipeline, joined_by, join_pipeline, an_and_or, separator_of, separator_by, a_separator, an_entry, is_paren, is_word, a_word_command, ends_item, falls_through}
 use Rattle.shgrammar.specs.Lists.{ListSo, list_so, none_listed, one_entry, entry_turn, remark_by, a_remark, on_line, list_turn, a_list}
 use Rattle.shgrammar.specs.Compounds.{Branched, branched, Closed, is_closing, is_open_paren, is_close_paren, reserved_or_paren, closing, a_branch, elif_turn, an_else, an_if, a_loop, a_group, a_for_name, a_linebreak, a_sequential_sep, Headed, word_turn, for_words, a_for_head, a_for, a_form, a_compound, a_function, a_case_word, begins_pattern, Patterned, a_pattern, one_pattern, pattern_turn, a_pattern_list, a_body, ItemEnd, an_ender, an_item_end, CasesSo, cases_so, one_case, case_turn, a_case_head, a_case}
 use Rattle.shgrammar.specs.Levels.{level}
@@ -152,11 +152,11 @@ module _ (g : Given) where
     shown_item_by i (Some position) s so =
         after (λ w t. after (λ is u. tells_then Whole g (shown_next position u) (λ n v good. tells_give Whole g good)))
     shown_item_by i None s so = picked (begins_redirect i.next.token)
-        (shown_redirect (breaks i) (behind_redirect i.place) i.items i.next s) (tells_give Whole g so)
+        (shown_redirect (breaks i) (after_redirect i.place) i.items i.next s) (tells_give Whole g so)
 
     shown_item_turn : (i : Items) (s : State) → Begins i.next s → N (item_turn inner i) (Turned Whole g ItemsShown) s
     unfolding item_turn
-    shown_item_turn i s so = shown_item_by i (behind_word i.next.token) s so
+    shown_item_turn i s so = shown_item_by i (after_word i.next.token) s so
 
     shown_simple : (i : Items) (s : State) → Begins i.next s → N (a_simple inner i) Behind s
     unfolding a_simple

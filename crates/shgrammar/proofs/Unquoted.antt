@@ -9,7 +9,7 @@ use Rattle.std.proofs.lemmas.List.{append_assoc, drop_more, append-nil, drop_all
 use Rattle.shast.specs.Shape.{bare}
 use Rattle.shgrammar.specs.Standing.{is_byte, continues, raw_stands}
 use Rattle.shgrammar.specs.Bytes.{byte_at, count_joined, past_continuations, stands}
-use Rattle.shgrammar.specs.HereDocuments.{Quoting, behind_quote, byte_left, dollar_left, escape_left, is_live, is_quote, left_before, stays_before, unquoted}
+use Rattle.shgrammar.specs.HereDocuments.{Quoting, after_quote, byte_left, dollar_left, escape_left, is_live, is_quote, left_before, stays_before, unquoted}
 use Rattle.shgrammar.specs.Unquoting.{escapes, left_of}
 use Rattle.shgrammar.proofs.Stretches.{get_drop, joined_more, joined_none}
 
@@ -105,7 +105,7 @@ dollar_on text word p left other =
 
 module _ (q : Quoting) (second : Bool) (text bs : List ℕ) (b : ℕ) (left : Quoting → Bool → Option (List ℕ)) where
   pub byte_quote : is_quote q b ≡ true →
-      left_of text (byte_left q second b bs left) ≡ left_of text (left (behind_quote q b) false)
+      left_of text (byte_left q second b bs left) ≡ left_of text (left (after_quote q b) false)
   byte_quote is = rw is refl
 
   pub byte_backquote : is_quote q b ≡ false → is_live q 96 b ≡ true → left_of text (byte_left q second b bs left) ≡ None

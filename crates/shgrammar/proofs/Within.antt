@@ -33,9 +33,9 @@ use Rattle.shgrammar.specs.Sights.{Given, given, State, standing, here, one_byte
 use Rattle.shgrammar.specs.HereDocuments.{own_level}
 use Rattle.shgrammar.specs.Form.{with_bytes, a_level, Spelled, Telling, Read, Form, give, move, push, both, many, token, ends_as, does, Step, again, done, step_if, pushed, see, grows, inside}
 use Rattle.shgrammar.specs.Words.{Inner, WordSoFar, having, opened, piece_row, a_piece, contents, a_word}
-use Rattle.shgrammar.specs.Commands.{pick, is_pipe, is_bang, begins_simple, begins_word, begins_redirect, begins_pipeline, opener_of, compound_by, and_or_operator_of, breaks, Items, so_many, behind_word, is_number_token, redirect_operator_of, is_strip, a_number, an_operator, operator_by, a_target, one_redirect, behind_redirect, redirect_turn, with_redirect_list, as_item, an_item, item_by, item_turn, a_simple, a_bang, a_comment, comment_by, unexpected, with_comment, JoinSo, join_turn, a_join, a_command, Piped, piped, one_command, pipe_turn, a_pipeline, Joined, joined_so, one_pipeline, joined_by, join_pipeline, an_and_or, is_background, an_entry, a_word_command, is_word, is_paren, separator_of, separator_by, a_separator, past_separator, ends_item, falls_through}
+use Rattle.shgrammar.specs.Commands.{pick, is_pipe, is_bang, begins_simple, begins_word, begins_redirect, begins_pipeline, opener_of, compound_by, and_or_operator_of, breaks, Items, so_many, after_word, is_number_token, redirect_operator_of, is_strip, a_number, an_operator, operator_by, a_target, one_redirect, after_redirect, redirect_turn, with_redirect_list, as_item, an_item, item_by, item_turn, a_simple, a_bang, a_comment, comment_by, unexpected, with_comment, JoinSo, join_turn, a_join, a_command, Piped, piped, one_command, pipe_turn, a_pipeline, Joined, joined_so, one_pipeline, joined_by, join_pipeline, an_and_or, is_background, an_entry, a_word_command, is_word, is_paren, separator_of, separator_by, a_separator, past_separator, ends_item, falls_through}
 use Rattle.shgrammar.specs.Lists.{ListSo, list_so, none_listed, is_blank_next, one_entry, entry_turn, remark_by, a_remark, on_line, list_turn, a_list, Listed}
-use Rattle.shgrammar.specs.Compounds.{Branched, branched, Closed, is_closing, is_open_paren, is_close_paren, reserved_or_paren, closing, a_branch, elif_turn, an_else, an_if, a_loop, a_group, a_for_name, a_linebreak, a_sequential_sep, Headed, word_turn, for_words, a_for_head, behind_remarks, a_for, a_form, held_apart, a_compound, a_function, under_name, a_case_word, begins_pattern, Patterned, a_pattern, one_pattern, pattern_turn, a_pattern_list, a_body, body_end, ItemEnd, an_ender, an_item_end, CasesSo, cases_so, one_case, case_turn, a_case_head, a_case}
+use Rattle.shgrammar.specs.Compounds.{Branched, branched, Closed, is_closing, is_open_paren, is_close_paren, reserved_or_paren, closing, a_branch, elif_turn, an_else, an_if, a_loop, a_group, a_for_name, a_linebreak, a_sequential_sep, Headed, word_turn, for_words, a_for_head, after_remarks, a_for, a_form, held_apart, a_compound, a_function, under_name, a_case_word, begins_pattern, Patterned, a_pattern, one_pattern, pattern_turn, a_pattern_list, a_body, body_end, ItemEnd, an_ender, an_item_end, CasesSo, cases_so, one_case, case_turn, a_case_head, a_case}
 use Rattle.shgrammar.specs.Substitutions.{substitution_list, a_substitution, one_substitution}
 use Rattle.shgrammar.specs.Levels.{most_open, level}
 use Rattle.shgrammar.specs.Lines.{an_open_line, a_line, ALine, IsLine, line_read, line_stops, kind_of}
@@ -43,7 +43,7 @@ use Rattle.shgrammar.specs.Scripts.{SoFar, the_line, with_line}
 use Rattle.shgrammar.specs.Lines.{EntriesWithin}
 use Rattle.shgrammar.proofs.OneOutcome.{is}
 use Rattle.shgrammar.proofs.Ahead.{behind_is}
-use Rattle.shgrammar.proofs.Places.{behind_low, next_newline_low}
+use Rattle.shgrammar.proofs.Places.{after_low, next_newline_low}
 use Rattle.shgrammar.proofs.Holds.{Holds, Tells, Turned, tells_with_bytes, tells_level, tells_give, tells_then, tells_token, tells_many, tells_so, tells_ending, tells_seen, tells_moved, low, tells_inside}
 use Rattle.shgrammar.specs.declared.keep.Keep.TheVariants.{Whole}
 use Rattle.shgrammar.specs.declared.edition.Edition.{Edition}
@@ -199,7 +199,7 @@ module _ (keep : Keep) (g : Given) (limit : ℕ) where
     piece_fits_by mode b h pieces.Subst s so =
         let p = s.at in
         let low_p : g.offset + past_continuations g.text p ≤ g.offset + past_byte g.text (past_byte g.text p) =
-        omega (arith, behind_is g.text p, behind_low g.text (past_byte g.text p)) in
+        omega (arith, behind_is g.text p, after_low g.text (past_byte g.text p)) in
         tells_seen keep g (tells_moved keep g
         (tells_moved keep g (first (fine.substitution (g.offset + past_continuations g.text p) h.substs _ low_p so)
         (λ zs t good. gives good))))
@@ -289,11 +289,11 @@ module _ (keep : Keep) (g : Given) (limit : ℕ) where
         R (item_by inner i position) (Stepped ItemsFit) s
     item_fits_by i (Some position) s so = one_item_fits i position s so
     item_fits_by i None s so = picks (begins_redirect i.next.token)
-        (redirect_fits (breaks i) (behind_redirect i.place) i.items i.next s so) (gives so)
+        (redirect_fits (breaks i) (after_redirect i.place) i.items i.next s so) (gives so)
 
     item_turn_fits : (i : Items) (s : State) → ItemsFit i → R (item_turn inner i) (Stepped ItemsFit) s
     unfolding item_turn
-    item_turn_fits i s so = item_fits_by i (behind_word i.next.token) s so
+    item_turn_fits i s so = item_fits_by i (after_word i.next.token) s so
 
     simple_fits : (i : Items) (s : State) → ItemsFit i → R (a_simple inner i) (λ c. CommandFits limit c.0) s
     unfolding a_simple
@@ -613,10 +613,10 @@ module _ (keep : Keep) (g : Given) (limit : ℕ) where
         (λ l u so. picks _ (for_words_fit l.join.comments u so) (gives (All-nil _, so))))
 
     remarks_fit : (cs : Row Span) (es : Entries) → All (CommentFits limit) cs → AreWithin limit es →
-        AreWithin limit (behind_remarks cs es)
+        AreWithin limit (after_remarks cs es)
     remarks_fit [] es all so = so
     remarks_fit (c ∷ cs) es all so =
-        fits_both limit (entry_nodes (entry (remark c) false false None)) (entries_nodes (behind_remarks cs es))
+        fits_both limit (entry_nodes (entry (remark c) false false None)) (entries_nodes (after_remarks cs es))
         (fits_remark limit c false false (All-head (CommentFits limit) c cs all))
         (remarks_fit cs es (All-tail (CommentFits limit) c cs all) so)
 
@@ -629,7 +629,7 @@ module _ (keep : Keep) (g : Given) (limit : ℕ) where
         (fits_word limit x.0 one) two.0 in
         gives (
           fits_both limit (word_nodes x.0 ++ for_words_nodes h.words)
-              (entries_nodes (behind_remarks h.comments b.what)) head (remarks_fit h.comments b.what two.1 body.0),
+              (entries_nodes (after_remarks h.comments b.what)) head (remarks_fit h.comments b.what two.1 body.0),
           body.1,
         )))))
 

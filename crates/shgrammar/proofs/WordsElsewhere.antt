@@ -27,7 +27,7 @@ use Rattle.shgrammar.specs.Substitutions.{substitution_list, a_substitution, one
 use Rattle.shgrammar.specs.Levels.{level}
 use Rattle.shgrammar.proofs.Holds.{Holds, Behind, low}
 use Rattle.shgrammar.proofs.SameBytes.{Kept, Here, at_limit}
-use Rattle.shgrammar.proofs.Ahead.{ListEnds, bracket_ends, behind_is, same_behind, same_byte, seen}
+use Rattle.shgrammar.proofs.Ahead.{ListEnds, bracket_ends, behind_is, same_after, same_byte, seen}
 use Rattle.shgrammar.proofs.Asked.{Good, high}
 use Rattle.shgrammar.proofs.PiecesInside.{Local, Holding, SameSubsts, Ended, construct_in, word_in}
 use Rattle.shgrammar.specs.HereDocuments.{first_waiting, own_level, outer_level}
@@ -264,7 +264,7 @@ module _ (room : ℕ) (all : Everywhere (level room)) where
               ap (λ (w : Option ℕ). ◌▸◌ {Y = Entries} (does (none_waits w) Whole h (over_there u))
               (λ x t. Ok (entries_of k.list.entries, moved_on one_byte h t))) none_there
               ∙ ap (λ (p : ℕ). Ok (entries_of k.list.entries, state_from (o + a) (o2 + to a) p u))
-              (same_behind E at_limit)
+              (same_after E at_limit)
 
           -- what stands in it, and its `)`
           same_inside : does (substitution_list inner) Whole h (over_there s)

@@ -124,16 +124,16 @@ module _ (g : Given) where
     step_by n more s t (done c) u = refl
     step_by n more s t (again c) u = on_by n more t (leads_on g s u) c u
 
-    behind_by : (n : ℕ) → Below n → (s t : State) (y : Read (Step A)) →
+    after_by : (n : ℕ) → Below n → (s t : State) (y : Read (Step A)) →
         (onto t y ▸ next g (place_of t s.at) (below_n n)) ≡ onto t (y ▸ next g s (below_n n))
-    behind_by n more s t (Ok x) = step_by n more s t x.0 x.1
-    behind_by n more s t (Err f) = refl
+    after_by n more s t (Ok x) = step_by n more s t x.0 x.1
+    after_by n more s t (Err f) = refl
 
     below : (n : ℕ) → Below n
     unfolding turns_below
     below zero a s t = refl
     below (suc n) a s t = ap (λ y. y ▸ next g (place_of t s.at) (below_n n)) ((each a).alike s t)
-        ∙ behind_by n (below n) s t (does (turn a) Whole g s)
+        ∙ after_by n (below n) s t (does (turn a) Whole g s)
 
     blind_many : (a : A) → Blind (many turn a)
     unfolding many turns

@@ -25,7 +25,7 @@ use Rattle.shgrammar.specs.Compounds.{is_closing}
 use Rattle.shgrammar.specs.Substitutions.{substitution_list, a_substitution, one_substitution}
 use Rattle.shgrammar.specs.Levels.{level, ReadsWord}
 use Rattle.shgrammar.proofs.Stretches.{place_low}
-use Rattle.shgrammar.proofs.Places.{behind_low, behind_high, stands_low, not_end_low, next_of_low, parameter_low, parameter_high, quote_clear}
+use Rattle.shgrammar.proofs.Places.{after_low, after_high, stands_low, not_end_low, next_of_low, parameter_low, parameter_high, quote_clear}
 use Rattle.shgrammar.proofs.Turns.{turns_fault, many_again, many_done}
 use Rattle.shgrammar.proofs.Holds.{tells_level, Holds, holds_then, Tells, Turned, tells_then, tells_many, tells_after, tells_seen, tells_ending, Behind, low, tells_inside}
 use Rattle.shgrammar.proofs.TokensShown.{Begins, Fine, paren_here, shown_level, shown_lines, shown_next}
@@ -98,7 +98,7 @@ module _ (g : Given) where
       (λ e. let lt = not_end_low T q e in
       let clear = quote_clear T (past_byte T s.at) in
       let w = taken_on T q lt (λ f. absurd (let no : true ≡ false = sym f ∙ clear in cc)) in
-      (omega (arith, w.0, behind_low T s.at, next_of_low 39 T (past_byte T s.at)), w.1))
+      (omega (arith, w.0, after_low T s.at, next_of_low 39 T (past_byte T s.at)), w.1))
     where
       q : ℕ
       q = next_quote T (past_byte T s.at)
@@ -131,7 +131,7 @@ module _ (g : Given) where
   backquoted_text_on s lt =
       let b = g.offset + past_continuations T s.at in
       (tells_many Whole g (escaped_turn escapings.Backquotes b) (On s) (escaped_each s escapings.Backquotes b) tt
-      (placed (past_byte T s.at) s) (behind_low T s.at, behind_high T s.at lt)).told
+      (placed (past_byte T s.at) s) (after_low T s.at, after_high T s.at lt)).told
 
   dollar_single_on : (s : State) → past_continuations T (past_byte T s.at) < length T →
       Holds (On s) (does dollar_single Whole g s)
@@ -140,7 +140,7 @@ module _ (g : Given) where
       let b = g.offset + past_continuations T s.at in
       (tells_many Whole g (escaped_turn escapings.DollarSingle b) (On s) (escaped_each s escapings.DollarSingle b) tt
       (placed (past_byte T (past_byte T s.at)) s)
-      (omega (arith, behind_low T s.at, behind_low T (past_byte T s.at)), behind_high T (past_byte T s.at) lt)).told
+      (omega (arith, after_low T s.at, after_low T (past_byte T s.at)), after_high T (past_byte T s.at) lt)).told
 
   -- ---- pieces
 
@@ -265,10 +265,10 @@ module _ (g : Given) where
   closer_last : (mode : Mode) (p : ℕ) → p ≤ length T → Closes mode p → (past_closer T mode p ≤ length T)
       × (mode ≡ Plain → ends_word T (past_closer T mode p) ≡ true)
   closer_last Plain p le so = (le, λ e. so)
-  closer_last Double p le so = (behind_high T p so, λ e. absurd cc)
-  closer_last Brace p le so = (behind_high T p so, λ e. absurd cc)
-  closer_last DoubleBrace p le so = (behind_high T p so, λ e. absurd cc)
-  closer_last Arith p le so = (behind_high T (past_byte T p) so, λ e. absurd cc)
+  closer_last Double p le so = (after_high T p so, λ e. absurd cc)
+  closer_last Brace p le so = (after_high T p so, λ e. absurd cc)
+  closer_last DoubleBrace p le so = (after_high T p so, λ e. absurd cc)
+  closer_last Arith p le so = (after_high T (past_byte T p) so, λ e. absurd cc)
 
   module _ (inner : Inner) (stays : Stays inner) (mode : Mode) (b : ℕ) (c : WordSoFar) (s : State)
       (le : s.at ≤ length T) where
@@ -295,29 +295,29 @@ module _ (g : Given) where
         (λ u t on. on)
     row pieces.DollarSingle so = holds_then (On s) Turn (does dollar_single Whole g s) (λ u t. Ok (again c, t))
         (dollar_single_on s so) (λ u t on. on)
-    row pieces.Double so = opens Double _ (placed (past_byte T p) s) (behind_low T p) (behind_high T p so)
+    row pieces.Double so = opens Double _ (placed (past_byte T p) s) (after_low T p) (after_high T p so)
     row pieces.Backquote so = holds_then (On s) Turn (does backquoted_text Whole g s) (λ u t. Ok (again c, t))
         (backquoted_text_on s so) (λ u t on. on)
-    row pieces.Pid so = (omega (arith, behind_low T p, behind_low T (past_byte T p)), behind_high T (past_byte T p) so)
+    row pieces.Pid so = (omega (arith, after_low T p, after_low T (past_byte T p)), after_high T (past_byte T p) so)
     row pieces.Subst so =
         holds_then (λ x t. (past_byte T (past_byte T p) ≤ t.at) × (t.at ≤ length T)) Turn
         (does (inner.substitution _ c.substs) Whole g (placed (past_byte T (past_byte T p)) s))
         (λ x t. Ok (again (having c.nested x), t))
         (stays.substitution _ c.substs (placed (past_byte T (past_byte T p)) s))
-        (λ x t on. (omega (arith, on.0, behind_low T p, behind_low T (past_byte T p)), on.1))
+        (λ x t on. (omega (arith, on.0, after_low T p, after_low T (past_byte T p)), on.1))
     row pieces.Arith so =
         opens Arith _ (placed (past_byte T (past_byte T (past_byte T p))) s)
-        (omega (arith, behind_low T p, behind_low T (past_byte T p), behind_low T (past_byte T (past_byte T p))))
-        (behind_high T (past_byte T (past_byte T p)) so)
+        (omega (arith, after_low T p, after_low T (past_byte T p), after_low T (past_byte T (past_byte T p))))
+        (after_high T (past_byte T (past_byte T p)) so)
     row pieces.Param so =
         opens (rest_mode T mode (past_parameter T (past_byte T (past_byte T p)))) _
         (placed (past_parameter T (past_byte T (past_byte T p))) s)
-        (omega (arith, behind_low T p, behind_low T (past_byte T p), parameter_low T (past_byte T (past_byte T p))))
-        (parameter_high T (past_byte T (past_byte T p)) (behind_high T (past_byte T p) so))
-    row pieces.Open so = (behind_low T p, behind_high T p so)
-    row pieces.Close so = (behind_low T p, behind_high T p so)
+        (omega (arith, after_low T p, after_low T (past_byte T p), parameter_low T (past_byte T (past_byte T p))))
+        (parameter_high T (past_byte T (past_byte T p)) (after_high T (past_byte T p) so))
+    row pieces.Open so = (after_low T p, after_high T p so)
+    row pieces.Close so = (after_low T p, after_high T p so)
     row pieces.BadClose so = tt
-    row pieces.Ordinary so = (behind_low T p, behind_high T p so)
+    row pieces.Ordinary so = (after_low T p, after_high T p so)
 
     piece_turn : Holds Turn (does (a_piece inner mode b c) Whole g s)
     unfolding a_piece
@@ -370,7 +370,7 @@ module _ (g : Given) where
             → Tells Whole g (pick b (nothing_waits >> move one_byte >> give (entries_of l.list.entries))
             (unexpected inner l.next)) (λ x t. t.at ≤ length T) u
         closed_by true l u e so =
-            let high = behind_high T u.at
+            let high = after_high T u.at
             (slice_get_within T (past_continuations T u.at) 41 (paren_here g l.next u so e).0) in
             tells_then Whole g (still u)
             (λ w t same. record { told = subst (λ (v : State). past_byte T v.at ≤ length T) (sym same) high })

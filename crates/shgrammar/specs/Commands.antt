@@ -81,13 +81,13 @@ is_bang _ = false
 
 -- The position after the word that this token begins, if it begins one: an assignment, or a word, which in a
 -- simple command is its name or an argument. After a word none is an assignment.
-abbrev pub behind_word : Token → Option Position
-behind_word tokens.Assignment = Some Prefix
-behind_word tokens.Word = Some Suffix
-behind_word _ = None
+abbrev pub after_word : Token → Option Position
+after_word tokens.Assignment = Some Prefix
+after_word tokens.Word = Some Suffix
+after_word _ = None
 
 abbrev pub begins_word : Token → Bool
-begins_word t = is_some (behind_word t)
+begins_word t = is_some (after_word t)
 
 abbrev pub is_number_token : Token → Bool
 is_number_token tokens.Number = true
@@ -250,20 +250,20 @@ one_redirect inner broken position is n =
 
 -- After a redirection no word is reserved. One may be an assignment, if the command's
 -- name does not stand before it.
-abbrev pub behind_redirect : Position → Position
-behind_redirect Suffix = Suffix
-behind_redirect _ = Prefix
+abbrev pub after_redirect : Position → Position
+after_redirect Suffix = Suffix
+after_redirect _ = Prefix
 
 -- ---- simple commands (XCU 2.9.1)
 
 abbrev pub item_by : Inner → Items → Option Position → Form (Step Items)
 item_by inner i (Some position) = an_item inner i position
 item_by inner i None = pick (begins_redirect i.next.token)
-    (one_redirect inner (breaks i) (behind_redirect i.place) i.items i.next) (give (done i))
+    (one_redirect inner (breaks i) (after_redirect i.place) i.items i.next) (give (done i))
 
 -- one more item, or none
 unfoldable pub item_turn : Inner → Items → Form (Step Items)
-item_turn inner i = item_by inner i (behind_word i.next.token)
+item_turn inner i = item_by inner i (after_word i.next.token)
 
 -- The simple command that has these items so far, and the token after it. It is not
 -- empty: where it has none yet, the token here begins one.

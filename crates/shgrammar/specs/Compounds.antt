@@ -199,9 +199,9 @@ a_for_head inner n =
     pick (begins_words s.0 l.next.token) (for_words inner l.join.comments) (give (headed no_in l))
 
 -- comments before a list, as its first entries
-abbrev pub behind_remarks : Row Span → Entries → Entries
-behind_remarks [] es = es
-behind_remarks (c ∷ cs) es = more_entries (entry (remark c) false false None) (behind_remarks cs es)
+abbrev pub after_remarks : Row Span → Entries → Entries
+after_remarks [] es = es
+after_remarks (c ∷ cs) es = more_entries (entry (remark c) false false None) (after_remarks cs es)
 
 -- the comments of the head stand in the body
 unfoldable pub a_for : Inner → Next → Form (Closed AForm)
@@ -210,7 +210,7 @@ a_for inner n =
     a_for_head inner x.1 >>= λ h.
     closing inner closings.Do h.next >>= λ d.
     a_group inner closings.Done d.1 >>= λ b.
-    give (closed (for_in x.0 h.words (behind_remarks h.comments b.what)) (b.closer, b.next))
+    give (closed (for_in x.0 h.words (after_remarks h.comments b.what)) (b.closer, b.next))
 
 -- ---- `case` (XCU 2.9.4.3)
 

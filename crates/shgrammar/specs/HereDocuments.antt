@@ -29,9 +29,9 @@ is_quote in_single b = b == apostrophe
 is_quote in_double b = b == quotation_mark
 
 -- how the bytes after this quote are quoted
-abbrev pub behind_quote : Quoting → ℕ → Quoting
-behind_quote not_quoted b = if b == apostrophe then in_single else in_double
-behind_quote q b = not_quoted
+abbrev pub after_quote : Quoting → ℕ → Quoting
+after_quote not_quoted b = if b == apostrophe then in_single else in_double
+after_quote q b = not_quoted
 
 -- a backslash, where it quotes, and a `$` and a backquote, where they are special
 abbrev pub is_live : Quoting → ℕ → ℕ → Bool
@@ -61,7 +61,7 @@ dollar_left false bs left = if stands bs 0 left_parenthesis || stands bs 0 left_
 
 -- a byte that is not after a backslash, and the bytes after it; text in backquotes leaves nothing
 abbrev pub byte_left : Quoting → Bool → ℕ → List ℕ → (Quoting → Bool → Option (List ℕ)) → Option (List ℕ)
-byte_left q second b bs left = if is_quote q b then left (behind_quote q b) false
+byte_left q second b bs left = if is_quote q b then left (after_quote q b) false
     else (if is_live q grave_accent b then None
     else (if is_live q dollar_sign b then dollar_left second bs (left q)
     else left_before b (left q second)))
@@ -94,7 +94,7 @@ unfoldable pub has_dollar_single : Quoting → Bool → List ℕ → Bool
 has_dollar_single q second [] = false
 has_dollar_single q second (b ∷ []) = false
 has_dollar_single q second (b ∷ c ∷ bs) = if is_live q backslash b then has_dollar_single q second bs
-    else (if is_quote q b then has_dollar_single (behind_quote q b) false (c ∷ bs)
+    else (if is_quote q b then has_dollar_single (after_quote q b) false (c ∷ bs)
     else (if is_live q dollar_sign b then (not second && is_quote q apostrophe && stands (c ∷ bs) 0 apostrophe)
     || has_dollar_single q (not second && stands (c ∷ bs) 0 dollar_sign) (c ∷ bs)
     else has_dollar_single q second (c ∷ bs)))

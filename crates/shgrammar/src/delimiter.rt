@@ -2,7 +2,7 @@
 ghost use Rattle.std.specs.List.{list_all};
 ghost use Rattle.std.specs.Prelude.{◌≡◌, ◌+◌, ◌<◌, ◌≤◌, ◌==◌, ◌||◌, ℕ, Option, Some, true, get_or, IfOk, IfSome, List as Row, drop, false, length, nat_lt, option_map};
 ghost use Rattle.shgrammar.specs.Bytes.{byte_at};
-ghost use Rattle.shgrammar.specs.HereDocuments.{behind_quote, byte_left, delimiter_in, delimiter_of, dollar_left, escape_left, has_dollar_single, is_live, is_quote, is_quoted, not_quoted, stays_before, unquoted};
+ghost use Rattle.shgrammar.specs.HereDocuments.{after_quote, byte_left, delimiter_in, delimiter_of, dollar_left, escape_left, has_dollar_single, is_live, is_quote, is_quoted, not_quoted, stays_before, unquoted};
 ghost use Rattle.shgrammar.specs.Plain.{is_plain};
 ghost use Rattle.shgrammar.specs.Standing.{continues, is_byte, raw_stands};
 ghost use Rattle.shgrammar.specs.Unquoting.{a_delimiter, escapes, is_escaped, is_wrapped, left_by, left_of, plain_part, rest_of, unwrapped, view_delimiter, view_quoting};
@@ -41,7 +41,7 @@ impl Quoting {
 
     /// How the bytes after this quote are quoted.
     fn behind(self, quote: u8) -> Quoting
-        ensures { view_quoting result ≡ behind_quote (view_quoting self) quote }
+        ensures { view_quoting result ≡ after_quote (view_quoting self) quote }
     {
         match self {
             Quoting::Outside => {

@@ -1,6 +1,6 @@
 //! Tokens: what may begin where one begins (XCU 2.3, 2.4, 2.10.1).
 ghost use Rattle.std.specs.Prelude.{◌≡◌, IfSome, false, true};
-ghost use Rattle.shgrammar.specs.Commands.{and_or_operator_of, begins_pipeline, begins_redirect, begins_simple, begins_word, behind_redirect, behind_word, ends_item, falls_through, opener_of, redirect_operator_of, separator_of};
+ghost use Rattle.shgrammar.specs.Commands.{and_or_operator_of, begins_pipeline, begins_redirect, begins_simple, begins_word, after_redirect, after_word, ends_item, falls_through, opener_of, redirect_operator_of, separator_of};
 ghost use Rattle.shgrammar.specs.Compounds.{begins_pattern, position_after, is_closing};
 ghost use Rattle.shgrammar.specs.Tokens.{is_end};
 
@@ -47,8 +47,8 @@ pub enum Token {
 impl Token {
     /// The position after the word that this token begins, if it begins one.
     #[inline(always)]
-    pub fn behind_word(self) -> Option<Position>
-        ensures { result ≡ behind_word self }
+    pub fn after_word(self) -> Option<Position>
+        ensures { result ≡ after_word self }
     {
         match self {
             Token::Assignment => Some(Position::Prefix),
@@ -62,7 +62,7 @@ impl Token {
     pub fn begins_word(self) -> bool
         ensures { result ≡ begins_word self }
     {
-        self.behind_word().is_some()
+        self.after_word().is_some()
     }
 
     /// The operator of a redirection that this token is, if it is one.
@@ -291,8 +291,8 @@ pub enum Separator {
 
 impl Position {
     /// The position after a redirection that stands here.
-    pub fn behind_redirect(self) -> Position
-        ensures { result ≡ behind_redirect self }
+    pub fn after_redirect(self) -> Position
+        ensures { result ≡ after_redirect self }
     {
         match self {
             Position::Suffix => Position::Suffix,

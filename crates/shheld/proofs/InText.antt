@@ -22,7 +22,7 @@ use Rattle.shgrammar.specs.declared.token.Token.{Token}
 use Rattle.shgrammar.specs.declared.token.Token.TheVariants as tokens
 use Rattle.shgrammar.specs.Bytes.{past_byte}
 use Rattle.shgrammar.specs.Classes.{is_digit, is_name}
-use Rattle.shgrammar.specs.Commands.{pick, next_token, is_newline_token, is_semicolon, a_semicolon, is_pipe, is_bang, begins_simple, begins_word, begins_redirect, begins_pipeline, opener_of, compound_by, and_or_operator_of, Items, so_many, breaks, behind_word, one_redirect, behind_redirect, redirect_turn, with_redirect_list, an_item, item_by, item_turn, a_simple, unexpected, comment_by, a_comment, a_newline, with_comment, JoinSo, join_turn, a_join, a_command, a_bang, Piped, piped, one_command, pipe_turn, a_pipeline, Joined, one_pipeline, joined_by, join_pipeline, an_and_or, separator_of, separator_by, a_separator, an_entry, is_paren, is_word, a_word_command, ends_item, falls_through, is_long, is_number_token, is_strip, redirect_operator_of, a_number, an_operator, operator_by, a_target, a_document, document_by, takes_here}
+use Rattle.shgrammar.specs.Commands.{pick, next_token, is_newline_token, is_semicolon, a_semicolon, is_pipe, is_bang, begins_simple, begins_word, begins_redirect, begins_pipeline, opener_of, compound_by, and_or_operator_of, Items, so_many, breaks, after_word, one_redirect, after_redirect, redirect_turn, with_redirect_list, an_item, item_by, item_turn, a_simple, unexpected, comment_by, a_comment, a_newline, with_comment, JoinSo, join_turn, a_join, a_command, a_bang, Piped, piped, one_command, pipe_turn, a_pipeline, Joined, one_pipeline, joined_by, join_pipeline, an_and_or, separator_of, separator_by, a_separator, an_entry, is_paren, is_word, a_word_command, ends_item, falls_through, is_long, is_number_token, is_strip, redirect_operator_of, a_number, an_operator, operator_by, a_target, a_document, document_by, takes_here}
 use Rattle.shgrammar.specs.Comments.{comment_at, past_comment}
 use Rattle.shgrammar.specs.Compounds.{Branched, branched, Closed, is_closing, is_open_paren, is_close_paren, past_opener, reserved_or_paren, closing, a_branch, elif_turn, an_else, an_if, a_loop, a_group, a_for_name, a_linebreak, a_sequential_sep, begins_words, Headed, word_turn, for_words, a_for_head, a_for, a_form, a_compound, a_function, a_case_word, begins_pattern, Patterned, a_pattern, one_pattern, pattern_turn, a_pattern_list, an_open_bracket, a_body, ItemEnd, an_ender, an_item_end, CasesSo, cases_so, one_case, case_turn, a_case_head, a_case}
 use Rattle.shgrammar.specs.Form.{Form, Spelled, Telling, give, see, move, push, both, change, many, step_if, token}
@@ -36,7 +36,7 @@ use Rattle.shgrammar.specs.Tokens.{is_end, past_digits, past_reserved}
 use Rattle.shgrammar.specs.Words.{Inner, a_word}
 use Rattle.shgrammar.proofs.Delimiters.{bodies_go}
 use Rattle.shgrammar.proofs.Holds.{Tells, Turned, tells_after, tells_change, tells_give, tells_many, tells_pushed, tells_seen, tells_then, tells_token, tells_with_bytes}
-use Rattle.shgrammar.proofs.Places.{behind_high, blanks_high, next_newline_high, past_high}
+use Rattle.shgrammar.proofs.Places.{after_high, blanks_high, next_newline_high, past_high}
 use Rattle.shgrammar.proofs.Shown.{shown_in}
 use Rattle.shgrammar.proofs.WordsWithin.{contents_end, stays_in}
 
@@ -104,7 +104,7 @@ module _ (g : Given) where
 
   two_on : {how : Telling} (s : State) → IsRead T (past_byte T s.at)
       → N (token how (both (move one_byte) (λ x. move one_byte))) InText s
-  two_on s is = token_on (record { told = behind_high T (past_byte T s.at) is })
+  two_on s is = token_on (record { told = after_high T (past_byte T s.at) is })
 
   -- a byte is read where the token is not the end
   read : (n : Next) (s : State) → Handed n s → (test : Token → Bool) → test tokens.End ≡ false
@@ -113,7 +113,7 @@ module _ (g : Given) where
 
   pub read_on : (n : Next) (s : State) → Handed n s → (test : Token → Bool) → test tokens.End ≡ false
       → test n.token ≡ true → past_byte T s.at ≤ length T
-  read_on n s so test none e = behind_high T s.at (read n s so test none e)
+  read_on n s so test none e = after_high T s.at (read n s so test none e)
 
   -- on to the next token
   pub next_here : (position : Position) (s : State) → s.at ≤ length T → N (next_token position) Handed s
@@ -231,11 +231,11 @@ module _ (g : Given) where
       → (is_strip o ≡ true → IsRead T (past_byte T (past_byte T s.at)))
       → N (an_operator o) InText s
   unfolding an_operator
-  operator_ends redirects.Input s one two three = token_on (record { told = behind_high T s.at one })
-  operator_ends redirects.Output s one two three = token_on (record { told = behind_high T s.at one })
+  operator_ends redirects.Input s one two three = token_on (record { told = after_high T s.at one })
+  operator_ends redirects.Output s one two three = token_on (record { told = after_high T s.at one })
   operator_ends redirects.HereStripped s one two three =
-      token_on (record { told = behind_high T (past_byte T (past_byte T s.at)) (three refl) })
-  operator_ends _ s one two three = token_on (record { told = behind_high T (past_byte T s.at) (two refl) })
+      token_on (record { told = after_high T (past_byte T (past_byte T s.at)) (three refl) })
+  operator_ends _ s one two three = token_on (record { told = after_high T (past_byte T s.at) (two refl) })
 
   operator_in : (p : ℕ) (n : Next) (s : State) → Handed n s
       → N (operator_by p (redirect_operator_of n.token)) InText s
@@ -300,13 +300,13 @@ module _ (g : Given) where
     item_by_in i (Some position) s so = an_item_in i position s so.within
     item_by_in i None s so =
         picked (begins_redirect i.next.token)
-        (λ e. redirect_in (breaks i) (behind_redirect i.place) i.items i.next s so)
+        (λ e. redirect_in (breaks i) (after_redirect i.place) i.items i.next s so)
         (gives so)
 
     item_turn_in : (i : Items) (s : State) → Handed i.next s
         → N (item_turn inner i) (Turned Whole g ItemsHanded) s
     unfolding item_turn
-    item_turn_in i s so = item_by_in i (behind_word i.next.token) s so
+    item_turn_in i s so = item_by_in i (after_word i.next.token) s so
 
     simple_in : (i : Items) (s : State) → Handed i.next s → N (a_simple inner i) Behind s
     unfolding a_simple
@@ -458,10 +458,10 @@ module _ (g : Given) where
 
     reserved_high : (p : ℕ) → IsRead T p → past_reserved T p ≤ length T
     unfolding past_reserved
-    reserved_high p is = past_high is_name T (past_byte T p) (behind_high T p is)
+    reserved_high p is = past_high is_name T (past_byte T p) (after_high T p is)
 
     opener_high : (paren : Bool) (p : ℕ) → IsRead T p → to (past_opener paren) T p ≤ length T
-    opener_high true p is = behind_high T p is
+    opener_high true p is = after_high T p is
     opener_high false p is = reserved_high p is
 
     reserved_or_paren_in : (text : Spelled) (paren : Bool) (position : Position) (s : State) → IsRead T s.at

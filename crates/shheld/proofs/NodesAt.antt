@@ -57,12 +57,12 @@ none_yet : (base at : ℕ) (ns : Row NodeLine) → at < base → filter (holds a
 none_yet base at [] low = refl
 none_yet base at (n ∷ ns) low = rw (not_yet base at n.start n.«end» low) (none_yet base at ns low)
 
-none_behind : (base at : ℕ) (ls : Row (HeldLine AKind)) → at < base → filter (holds at) (lines_nodes base ls) ≡ []
-none_behind base at [] low = refl
-none_behind base at (l ∷ ls) low =
+none_after : (base at : ℕ) (ls : Row (HeldLine AKind)) → at < base → filter (holds at) (lines_nodes base ls) ≡ []
+none_after base at [] low = refl
+none_after base at (l ∷ ls) low =
     filter-append (holds at) (line_nodes base l) (lines_nodes (base + l.len) ls)
     ∙ ap (λ ns. ns ++ filter (holds at) (lines_nodes (base + l.len) ls)) (none_yet base at (kind_nodes l.kind) low)
-    ∙ none_behind (base + l.len) at ls (omega arith)
+    ∙ none_after (base + l.len) at ls (omega arith)
 
 -- of the lines from the base on, none of which begins past the byte, those that stand before one that holds
 -- it
@@ -75,7 +75,7 @@ unfolding extent
 held_by edition T [] l rest row base at low high =
     let same : base ≡ base + 0 = omega arith in
     filter-append (holds at) (line_nodes base l) (lines_nodes (base + l.len) rest)
-    ∙ ap (λ ns. filter (holds at) (line_nodes base l) ++ ns) (none_behind (base + l.len) at rest (omega arith))
+    ∙ ap (λ ns. filter (holds at) (line_nodes base l) ++ ns) (none_after (base + l.len) at rest (omega arith))
     ∙ append-nil (filter (holds at) (line_nodes base l))
     ∙ ap (λ b. filter (holds at) (line_nodes b l)) same
 held_by edition T (x ∷ xs) l rest row base at low high =

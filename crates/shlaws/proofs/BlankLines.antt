@@ -19,19 +19,19 @@ same_entries zero l = refl
 same_entries (suc n) l = same_entries n l
 
 -- after an entry of this line
-pub behind_entry : (l : Listed) (n : ℕ) → l.begun ≡ true → is_empty l.entries ≡ false
+pub after_entry : (l : Listed) (n : ℕ) → l.begun ≡ true → is_empty l.entries ≡ false
     → (is_blank_next (past_newlines n l) ≡ true) ↔ (2 ≤ n)
-behind_entry l zero begun some =
+after_entry l zero begun some =
     let no : is_blank_next l ≡ false = rw begun (never l.blank) in
     (λ is. absurd (let both : true ≡ false = sym is ∙ no in cc), λ le. absurd (omega arith))
   where
     never : (b : Bool) → (b && false) ≡ false
     never true = refl
     never false = refl
-behind_entry l (suc zero) begun some =
+after_entry l (suc zero) begun some =
     let no : is_blank_next (next_line l) ≡ false = rw begun refl in
     (λ is. absurd (let both : true ≡ false = sym is ∙ no in cc), λ le. absurd (omega arith))
-behind_entry l (suc (suc n)) begun some = (λ is. omega arith, λ le. rw (same_entries n l, some) refl)
+after_entry l (suc (suc n)) begun some = (λ is. omega arith, λ le. rw (same_entries n l, some) refl)
 
 pub before_all : (n : ℕ) → is_blank_next (past_newlines n (none_listed false)) ≡ false
 before_all zero = refl
@@ -42,13 +42,13 @@ before_all (suc n) =
     never true = refl
     never false = refl
 
-pub behind_command : (l : Listed) (es : Row AnEntry) (e : AnEntry) (parted : Option ℕ) (n : ℕ)
+pub after_command : (l : Listed) (es : Row AnEntry) (e : AnEntry) (parted : Option ℕ) (n : ℕ)
     → (is_blank_next (past_newlines n (with_command l (es ++ e ∷ []) parted)) ≡ true) ↔ (2 ≤ n)
-behind_command l es e parted n = behind_entry (with_command l (es ++ e ∷ []) parted) n refl (not_empty es e)
+after_command l es e parted n = after_entry (with_command l (es ++ e ∷ []) parted) n refl (not_empty es e)
 
-pub behind_remark : (l : Listed) (es : Row AnEntry) (e : AnEntry) (n : ℕ)
+pub after_remark : (l : Listed) (es : Row AnEntry) (e : AnEntry) (n : ℕ)
     → (is_blank_next (past_newlines n (with_remark l (es ++ e ∷ []))) ≡ true) ↔ (2 ≤ n)
-behind_remark l es e n = behind_entry (with_remark l (es ++ e ∷ [])) n refl (not_empty es e)
+after_remark l es e n = after_entry (with_remark l (es ++ e ∷ [])) n refl (not_empty es e)
 
 -- ---- scripts
 

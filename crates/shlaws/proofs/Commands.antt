@@ -20,8 +20,8 @@ use Rattle.shgrammar.specs.Shows.{IsRead}
 use Rattle.shgrammar.specs.Sights.{Given, State, one_byte}
 use Rattle.shgrammar.specs.Tokens.{is_end}
 use Rattle.shgrammar.specs.Words.{Inner}
-use Rattle.shgrammar.specs.Commands.{ASeparator, Items, Joined, JoinSo, Piped, a_bang, a_command, a_comment, a_document, a_join, a_newline, a_number, a_pipeline, a_semicolon, a_separator, a_simple, a_target, a_word_command, an_and_or, an_entry, an_item, an_operator, and_or_operator_of, begins_redirect, begins_simple, begins_word, behind_redirect, behind_word, breaks, comment_by, compound_by, document_by, is_bang, is_long, is_newline_token, is_number_token, is_paren, is_pipe, is_semicolon, is_strip, is_word, item_by, item_turn, join_pipeline, join_turn, joined_by, joined_so, next_token, none_waits, nothing_waits, one_command, one_pipeline, one_redirect, opener_of, operator_by, past_separator, pipe_turn, piped, redirect_operator_of, redirect_turn, with_redirect_list, separator_by, separator_of, so_many, takes_here, unexpected, what_is_wrong, with_comment}
-use Rattle.shgrammar.proofs.Places.{behind_low}
+use Rattle.shgrammar.specs.Commands.{ASeparator, Items, Joined, JoinSo, Piped, a_bang, a_command, a_comment, a_document, a_join, a_newline, a_number, a_pipeline, a_semicolon, a_separator, a_simple, a_target, a_word_command, an_and_or, an_entry, an_item, an_operator, and_or_operator_of, begins_redirect, begins_simple, begins_word, after_redirect, after_word, breaks, comment_by, compound_by, document_by, is_bang, is_long, is_newline_token, is_number_token, is_paren, is_pipe, is_semicolon, is_strip, is_word, item_by, item_turn, join_pipeline, join_turn, joined_by, joined_so, next_token, none_waits, nothing_waits, one_command, one_pipeline, one_redirect, opener_of, operator_by, past_separator, pipe_turn, piped, redirect_operator_of, redirect_turn, with_redirect_list, separator_by, separator_of, so_many, takes_here, unexpected, what_is_wrong, with_comment}
+use Rattle.shgrammar.proofs.Places.{after_low}
 use Rattle.shgrammar.proofs.Shown.{shown_in}
 use Rattle.shlaws.proofs.Forms.{Goes, Steps, ahead, beyond, changing, first, follows, gives, leads_byte, leads_far, leads_from, led, led_on, moves, moves_to, picks, picks_by, pushes, repeats, sees, step_by, stops, tokens as one_token, with_the_bytes}
 use Rattle.shlaws.proofs.Words.{All, Begins, Fine, word_on}
@@ -68,13 +68,13 @@ module _ (g : Given) where
   read_here test none n s so is = so.1 (no_end test none n.token is)
 
   byte_leads : (s : State) → IsRead T s.at → leads_on g s (moved_on one_byte g s) ≡ true
-  byte_leads s read = leads_byte g s (moved_on one_byte g s) read (behind_low T s.at)
+  byte_leads s read = leads_byte g s (moved_on one_byte g s) read (after_low T s.at)
 
   two_lead : (s : State) → IsRead T s.at → leads_on g s (moved_on one_byte g (moved_on one_byte g s)) ≡ true
   two_lead s read =
       let t = moved_on one_byte g s in
       let on = byte_leads s read in
-      leads_far g s s t (moved_on one_byte g t) (omega arith) (omega (arith, behind_low T t.at)) on
+      leads_far g s s t (moved_on one_byte g t) (omega arith) (omega (arith, after_low T t.at)) on
 
   pub byte_passed : {how : Telling} (s : State) → IsRead T s.at
       → Goes g (token how (move one_byte)) (λ x t. leads_on g s t ≡ true) s
@@ -181,7 +181,7 @@ module _ (g : Given) where
     operator_on : (o : RedirectOperator) (s : State) → Goes g (an_operator o) (λ x t. s.at < t.at) s
     unfolding an_operator
     operator_on o s =
-        one_token g {P = λ x t. s.at < t.at} (moves g (beyond g s.at (behind_low T s.at)
+        one_token g {P = λ x t. s.at < t.at} (moves g (beyond g s.at (after_low T s.at)
         (first g (picks g {P = All g} (is_long o) (moves_to g tt) (gives g tt))
         (λ x t one. picks g {P = All g} (is_strip o) (moves_to g tt) (gives g tt)))))
 
@@ -224,16 +224,16 @@ module _ (g : Given) where
     -- ---- simple commands
 
     item_on_by : (i : Items) (s : State) → Begins g i.next s → (o : Option Position)
-        → behind_word i.next.token ≡ o → Goes g (item_by inner i o) (Steps g ItemsShown s) s
+        → after_word i.next.token ≡ o → Goes g (item_by inner i o) (Steps g ItemsShown s) s
     item_on_by i s so (Some position) is = item_on i position s so (ap is_some is)
     item_on_by i s so None is =
         picks g (begins_redirect i.next.token)
-        (redirect_on (breaks i) (behind_redirect i.place) i.items i.next s so) (gives g so)
+        (redirect_on (breaks i) (after_redirect i.place) i.items i.next s so) (gives g so)
 
     item_turn_on : (i : Items) (s : State) → Begins g i.next s
         → Goes g (item_turn inner i) (Steps g ItemsShown s) s
     unfolding item_turn
-    item_turn_on i s so = item_on_by i s so (behind_word i.next.token) refl
+    item_turn_on i s so = item_on_by i s so (after_word i.next.token) refl
 
     simple_on : (i : Items) (s : State) → Begins g i.next s → Goes g (a_simple inner i) Behind s
     unfolding a_simple

@@ -22,7 +22,7 @@ use Rattle.shgrammar.specs.Commands.{Items, begins_pipeline, begins_word, ends_i
 use Rattle.shgrammar.specs.Lists.{ListSo, a_list, a_remark, entry_turn, list_so, list_turn, none_listed, on_line, one_entry, remark_by}
 use Rattle.shgrammar.specs.Compounds.{Branched, CasesSo, Closed, Headed, ItemEnd, Patterned, a_body, a_branch, a_case, a_case_head, a_case_word, a_compound, a_for, a_for_head, a_for_name, a_form, a_function, a_group, a_linebreak, a_loop, a_pattern, a_pattern_list, a_sequential_sep, an_else, an_ender, an_if, an_item_end, an_open_bracket, begins_pattern, branched, case_turn, cases_so, closing, elif_turn, for_words, is_close_paren, is_closing, is_open_paren, one_case, one_pattern, past_opener, pattern_turn, reserved_or_paren, word_turn}
 use Rattle.shgrammar.specs.Substitutions.{a_substitution, one_substitution, substitution_list}
-use Rattle.shgrammar.proofs.Places.{behind_low, past_low}
+use Rattle.shgrammar.proofs.Places.{after_low, past_low}
 use Rattle.shgrammar.specs.Classes.{is_name}
 use Rattle.shlaws.proofs.Forms.{Goes, Steps, ahead, ending, first, follows, gives, in_level, in_subst, leads_byte, leads_from, led, moves, moves_to, picks, picks_by, pushes, pushes_to, repeats, sees, step_by, stops, tokens as one_token}
 use Rattle.shlaws.proofs.Words.{All, Begins, Fine, word_on}
@@ -30,10 +30,10 @@ use Rattle.shlaws.proofs.Commands.{Behind, Further, ItemsShown, JoinShown, byte_
 
 reserved_far : (T : List ℕ) (p : ℕ) → p < past_reserved T p
 unfolding past_reserved
-reserved_far T p = omega (arith, behind_low T p, past_low is_name T (past_byte T p))
+reserved_far T p = omega (arith, after_low T p, past_low is_name T (past_byte T p))
 
 opener_far : (paren : Bool) (T : List ℕ) (p : ℕ) → p < to (past_opener paren) T p
-opener_far true T p = behind_low T p
+opener_far true T p = after_low T p
 opener_far false T p = reserved_far T p
 
 -- the end of the text closes nothing

@@ -63,14 +63,14 @@ members (n ∷ ns) =
 
 -- ---- in order
 
-behind_first : (n : NodeLine) (ns : Row NodeLine) → AreInOrder (n ∷ ns) → All (MayPrecede n) ns
-behind_first n ns sorted k d lt = sorted 0 (suc k) d (omega arith) (omega arith)
+after_first : (n : NodeLine) (ns : Row NodeLine) → AreInOrder (n ∷ ns) → All (MayPrecede n) ns
+after_first n ns sorted k d lt = sorted 0 (suc k) d (omega arith) (omega arith)
 
 without_first : (n : NodeLine) (ns : Row NodeLine) → AreInOrder (n ∷ ns) → AreInOrder ns
 without_first n ns sorted i j d lt within = sorted (suc i) (suc j) d (omega arith) (omega arith)
 
-none_behind : (n : NodeLine) → All (MayPrecede n) []
-none_behind n k d lt = absurd (omega arith)
+none_after : (n : NodeLine) → All (MayPrecede n) []
+none_after n k d lt = absurd (omega arith)
 
 pub none_sorted : AreInOrder []
 none_sorted i j d lt within = absurd (omega arith)
@@ -85,17 +85,17 @@ sorted_by : (n m : NodeLine) (ms : Row NodeLine) (b : Bool) → is_lt (by_place 
     → AreInOrder (inserted n ms) → AreInOrder (cond b (m ∷ inserted n ms) (n ∷ m ∷ ms))
 sorted_by n m ms true is sorted rest =
     let before : MayPrecede m n = before_precedes m.start m.«end» n.start n.«end» is in
-    let all : All (MayPrecede m) (n ∷ ms) = All-cons (MayPrecede m) n ms before (behind_first m ms sorted) in
+    let all : All (MayPrecede m) (n ∷ ms) = All-cons (MayPrecede m) n ms before (after_first m ms sorted) in
     AllPairs-cons MayPrecede m (inserted n ms)
     (All-permutation (MayPrecede m) (n ∷ ms) (inserted n ms) (has_members n ms) all) rest
 sorted_by n m ms false is sorted rest =
     let before : MayPrecede n m = other_precedes m.start m.«end» n.start n.«end» is in
     let all : All (MayPrecede n) (m ∷ ms) =
-    All-cons (MayPrecede n) m ms before (precedes_all n m ms before (behind_first m ms sorted)) in
+    All-cons (MayPrecede n) m ms before (precedes_all n m ms before (after_first m ms sorted)) in
     AllPairs-cons MayPrecede n (m ∷ ms) all sorted
 
 inserted_sorted : (n : NodeLine) (ms : Row NodeLine) → AreInOrder ms → AreInOrder (inserted n ms)
-inserted_sorted n [] sorted = AllPairs-cons MayPrecede n [] (none_behind n) none_sorted
+inserted_sorted n [] sorted = AllPairs-cons MayPrecede n [] (none_after n) none_sorted
 inserted_sorted n (m ∷ ms) sorted =
     sorted_by n m ms (is_lt (by_place m n)) refl sorted (inserted_sorted n ms (without_first m ms sorted))
 
@@ -159,14 +159,14 @@ found_first P test m (n ∷ ns) rest all is =
     ] is
 
 -- the first of one row stands at no place after that of the other
-not_behind : (m n : NodeLine) (ns rest : Row NodeLine) (b : Bool) → stands_from m.start m.«end» n ≡ b
+not_after : (m n : NodeLine) (ns rest : Row NodeLine) (b : Bool) → stands_from m.start m.«end» n ≡ b
     → AreInOrder (n ∷ ns)
     → cond b (n ∷ filter (stands_from m.start m.«end») ns)
     (filter (stands_from m.start m.«end») ns) ≡ m ∷ rest
     → MayPrecede n m
-not_behind m n ns rest true is sorted found = let same : n ≡ m = cc in rw same (inr (refl, omega arith))
-not_behind m n ns rest false is sorted found =
-    found_first (MayPrecede n) (stands_from m.start m.«end») m ns rest (behind_first n ns sorted) found
+not_after m n ns rest true is sorted found = let same : n ≡ m = cc in rw same (inr (refl, omega arith))
+not_after m n ns rest false is sorted found =
+    found_first (MayPrecede n) (stands_from m.start m.«end») m ns rest (after_first n ns sorted) found
 
 first_here : (m : NodeLine) (ms : Row NodeLine)
     → filter (stands_from m.start m.«end») (m ∷ ms) ≡ m ∷ filter (stands_from m.start m.«end») ms
@@ -175,7 +175,7 @@ first_here m ms = rw (at_its_place m) refl
 place_found : (m n : NodeLine) (ms ns : Row NodeLine) → AreInOrder (n ∷ ns)
     → HaveTheSameAtEachPlace (m ∷ ms) (n ∷ ns) → MayPrecede n m
 place_found m n ms ns sorted same =
-    not_behind m n ns (filter (stands_from m.start m.«end») ms) (stands_from m.start m.«end» n) refl sorted
+    not_after m n ns (filter (stands_from m.start m.«end») ms) (stands_from m.start m.«end» n) refl sorted
     (sym (same m.start m.«end») ∙ first_here m ms)
 
 without : (b : Bool) (m : NodeLine) (ms ns : Row NodeLine) → cond b (m ∷ ms) ms ≡ cond b (m ∷ ns) ns → ms ≡ ns

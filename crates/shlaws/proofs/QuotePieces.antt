@@ -15,7 +15,7 @@ use Rattle.shgrammar.specs.HereDocuments.{unquoted}
 use Rattle.shgrammar.specs.Pieces.{next_quote, past_closer}
 use Rattle.shgrammar.specs.Standing.{at_end}
 use Rattle.shgrammar.specs.Tokens.{is_later}
-use Rattle.shgrammar.proofs.Places.{behind_high, behind_low, next_of_low, not_end_low}
+use Rattle.shgrammar.proofs.Places.{after_high, after_low, next_of_low, not_end_low}
 use Rattle.shgrammar.proofs.Stretches.{place_low}
 use Rattle.shlaws.specs.Quotes.{Leaves, double, ended, escape, escape_leaves, ordinary, pid, piece_by_edition}
 use Rattle.shlaws.specs.Quotes.{single}
@@ -159,14 +159,14 @@ module _ (edition : Edition) (W : List ℕ) where
   -- ---- how far they go
 
   within_byte : (p b : ℕ) → byte_at W p ≡ Some b → past_byte W p ≤ length W
-  within_byte p b is = behind_high W p (slice_get_within W (past_continuations W p) b is)
+  within_byte p b is = after_high W p (slice_get_within W (past_continuations W p) b is)
 
   closer_far : (mode : Mode) (p : ℕ) → is_unquoted mode ≡ true
       → piece_by_edition edition W mode p ≡ pieces.Closer → p ≤ length W
       → (p ≤ past_closer W mode p) × (past_closer W mode p ≤ length W)
   closer_far Plain p read is within = (omega arith, within)
   closer_far Double p read is within =
-      (omega (arith, behind_low W p), within_byte p 34 (closer_there edition W p is))
+      (omega (arith, after_low W p), within_byte p 34 (closer_there edition W p is))
   closer_far Brace p read is within = absurd cc
   closer_far DoubleBrace p read is within = absurd cc
   closer_far Arith p read is within = absurd cc
@@ -182,10 +182,10 @@ module _ (edition : Edition) (W : List ℕ) where
   far mode p q text read (ended is) within = closer_far mode p read is within
   far mode p q text read (ordinary {left = left} b is byte rest) within =
       let r = far mode (past_byte W p) q left read rest (within_byte p b byte) in
-      (omega (arith, r.0, behind_low W p), r.1)
+      (omega (arith, r.0, after_low W p), r.1)
   far mode p q text read (pid {left = left} is rest) within =
       let r = far mode (past_byte W (past_byte W p)) q left read rest (pid_within mode p read is) in
-      (omega (arith, r.0, behind_low W p, behind_low W (past_byte W p)), r.1)
+      (omega (arith, r.0, after_low W p, after_low W (past_byte W p)), r.1)
   far mode p q text read (escape {left = left} c is next rest) within =
       let lt = slice_get_within W (past_continuations W p + 1) c next in
       let r = far mode (past_continuations W p + 2) q left read rest (omega (arith, lt)) in
@@ -193,12 +193,12 @@ module _ (edition : Edition) (W : List ℕ) where
   far mode p q text read (single {left = left} is more rest) within =
       let lt = not_end_low W (next_quote W (past_byte W p)) more in
       let r = far mode (next_quote W (past_byte W p) + 1) q left read rest (omega (arith, lt)) in
-      (omega (arith, r.0, behind_low W p, next_of_low 39 W (past_byte W p)), r.1)
+      (omega (arith, r.0, after_low W p, next_of_low 39 W (past_byte W p)), r.1)
   far mode p q text read (double {m = m} {inside = inside} {left = left} is held rest) within =
       let there = double_there mode p read is in
       let one = far Double (past_byte W p) m inside refl held (within_byte p 34 there.0) in
       let two = far mode m q left read rest one.1 in
-      (omega (arith, one.0, two.0, behind_low W p), two.1)
+      (omega (arith, one.0, two.0, after_low W p), two.1)
 
   -- ---- the whole word
 

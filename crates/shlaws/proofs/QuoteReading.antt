@@ -32,7 +32,7 @@ use Rattle.shgrammar.specs.Words.{WordSoFar, a_piece, a_word, contents, having, 
 use Rattle.shgrammar.proofs.Anywhere.{anywhere}
 use Rattle.shgrammar.proofs.Levels.{level_below, level_closed}
 use Rattle.shgrammar.proofs.OneOutcome.{is}
-use Rattle.shgrammar.proofs.Places.{behind_low, next_of_low, not_end_low, quote_clear}
+use Rattle.shgrammar.proofs.Places.{after_low, next_of_low, not_end_low, quote_clear}
 use Rattle.shgrammar.proofs.Stretches.{place_low}
 use Rattle.shgrammar.proofs.Turns.{many_again, many_done, turns_fault}
 use Rattle.shlaws.specs.Quotes.{Leaves, double, ended, escape, ordinary, pid, piece_by_edition}
@@ -51,15 +51,15 @@ record Clear (later : Bool) (W : List ℕ) (q : Quoting) (p : ℕ) : Type 0 wher
   some : is_some (unquoted q false (drop p W)) ≡ true
   none : later ≡ true → has_dollar_single q false (drop p W) ≡ false
 
-some_behind : (text : List ℕ) (left : Option (List ℕ)) → is_some (left_of text left) ≡ true
+some_after : (text : List ℕ) (left : Option (List ℕ)) → is_some (left_of text left) ≡ true
     → is_some left ≡ true
-some_behind text None e = absurd cc
-some_behind text (Some bs) e = refl
+some_after text None e = absurd cc
+some_after text (Some bs) e = refl
 
 clear_on : (later : Bool) (W : List ℕ) (q r : Quoting) (p m : ℕ) (text : List ℕ) → Leads later W q p text r m
     → Clear later W q p → Clear later W r m
 clear_on later W q r p m text leads clear = record {
-  some = some_behind text (unquoted r false (drop m W)) (sym (ap is_some leads.left) ∙ clear.some);
+  some = some_after text (unquoted r false (drop m W)) (sym (ap is_some leads.left) ∙ clear.some);
   none = λ e. sym (leads.found e) ∙ clear.none e;
 }
 
@@ -200,7 +200,7 @@ module _ (edition : Edition) (W : List ℕ) (o : ℕ) where
         let there = byte_there edition W mode s.at pieces.Ordinary read is refl in
         let rest =
         goes_on h (place s (past_byte W s.at)) _ (row_is room mode b h s pieces.Ordinary read is)
-        (behind_low W s.at) (byte_within s.at there.0 there.1)
+        (after_low W s.at) (byte_within s.at there.0 there.1)
         (byte_leads edition W mode s.at there.0 read is there.1) in
         (_, ordinary there.0 is there.1 rest.1)
 
@@ -208,7 +208,7 @@ module _ (edition : Edition) (W : List ℕ) (o : ℕ) where
     pid_here is =
         let rest =
         goes_on h (place s (past_byte W (past_byte W s.at))) _ (row_is room mode b h s pieces.Pid read is)
-        (omega (arith, behind_low W s.at, behind_low W (past_byte W s.at)))
+        (omega (arith, after_low W s.at, after_low W (past_byte W s.at)))
         (pid_within edition W mode s.at read is) (both_leads edition W mode s.at read is) in
         (_, pid is rest.1)
 
@@ -270,7 +270,7 @@ module _ (edition : Edition) (W : List ℕ) (o : ℕ) where
         let lt = not_end_low W e more in
         let rest =
         goes_on h (place s (e + 1)) _ turn
-        (omega (arith, behind_low W s.at, next_of_low 39 W (past_byte W s.at))) (omega (arith, lt))
+        (omega (arith, after_low W s.at, next_of_low 39 W (past_byte W s.at))) (omega (arith, lt))
         (quoted_leads edition W mode s.at read is more) in
         (_, quoted is more rest.1)
 
@@ -308,7 +308,7 @@ module _ (edition : Edition) (W : List ℕ) (o : ℕ) where
         let opens = opened_leads edition W mode s.at read is in
         let held =
         finds (room - 1) Double (o + past_continuations W s.at) (having 0 h.substs) k inside_at u refl
-        (omega (arith, few, near, behind_low W s.at)) near
+        (omega (arith, few, near, after_low W s.at)) near
         (clear_on (is_later edition) W (quoting_in mode) in_double s.at (past_byte W s.at) [] opens clear)
         inner in
         let bounds = far edition W Double (past_byte W s.at) u.at held.0 refl held.1 near in
@@ -318,7 +318,7 @@ module _ (edition : Edition) (W : List ℕ) (o : ℕ) where
         leads_on (is_later edition) W (quoting_in mode) in_double not_quoted s.at (past_byte W s.at) u.at
         [] held.0 opens (walk edition W Double (past_byte W s.at) u.at held.0 refl held.1) in
         let rest =
-        goes_on (having h.nested k.substs) u held.0 turn (omega (arith, bounds.0, behind_low W s.at)) bounds.1
+        goes_on (having h.nested k.substs) u held.0 turn (omega (arith, bounds.0, after_low W s.at)) bounds.1
         (subst (λ (r : Quoting). Leads (is_later edition) W (quoting_in mode) s.at held.0 r u.at) plain leads)
         in
         (held.0 ++ rest.0, double {inside = held.0} {left = rest.0} is held.1 rest.1)

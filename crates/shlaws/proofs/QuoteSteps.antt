@@ -10,7 +10,7 @@ use Rattle.shgrammar.specs.declared.mode.Mode.{Mode}
 use Rattle.shgrammar.specs.declared.mode.Mode.TheVariants.{Plain, Double, Brace, DoubleBrace, Arith}
 use Rattle.shgrammar.specs.Bytes.{byte_at, count_joined, past_byte, past_continuations, stands}
 use Rattle.shgrammar.specs.Form.{raw}
-use Rattle.shgrammar.specs.HereDocuments.{Quoting, behind_quote, byte_left, escape_left, has_dollar_single}
+use Rattle.shgrammar.specs.HereDocuments.{Quoting, after_quote, byte_left, escape_left, has_dollar_single}
 use Rattle.shgrammar.specs.HereDocuments.{in_double, in_single, is_live, is_quote, left_before, not_quoted}
 use Rattle.shgrammar.specs.HereDocuments.{unquoted}
 use Rattle.shgrammar.specs.Pieces.{next_quote}
@@ -120,7 +120,7 @@ read_on f same W p b is =
 
 -- and what is looked for after it
 abbrev turn : Quoting → Bool → ℕ → List ℕ → Bool
-turn q second b rest = cond (is_quote q b) (has_dollar_single (behind_quote q b) false rest)
+turn q second b rest = cond (is_quote q b) (has_dollar_single (after_quote q b) false rest)
     (cond (is_live q 36 b)
     ((not second && is_quote q 39 && stands rest 0 39) || has_dollar_single q
     (not second && stands rest 0 36) rest)

@@ -20,7 +20,7 @@ use Rattle.shgrammar.specs.Form.{Step, again, give, leads_on, ◌>>=◌}
 use Rattle.shgrammar.specs.Shows.{IsRead, Shows}
 use Rattle.shgrammar.specs.Sights.{Given, State}
 use Rattle.shgrammar.specs.Words.{Inner, WordSoFar, a_piece, a_word, backquoted_text, contents, dollar_single, escaped_turn, having, opened, piece_row, single}
-use Rattle.shgrammar.proofs.Places.{behind_low, next_escaped_low, next_of_low, not_end_low, parameter_low, word_longer}
+use Rattle.shgrammar.proofs.Places.{after_low, next_escaped_low, next_of_low, not_end_low, parameter_low, word_longer}
 use Rattle.shgrammar.proofs.Stretches.{place_low}
 use Rattle.shlaws.proofs.Forms.{Goes, Stepped, Steps, ahead, beyond, first, follows, gives, leads_byte, led_until, moves, moves_to, repeats, repeats_until, sees, step_by, stops, tokens, whens, whens_by}
 
@@ -42,7 +42,7 @@ module _ (g : Given) where
   single_on s =
       let q = past_byte T s.at in
       sees g (moves g (moves g (whens g (stops g)
-      (moves_to g (omega (arith, behind_low T s.at, next_of_low 39 T q, taken_low T (next_quote T q)))))))
+      (moves_to g (omega (arith, after_low T s.at, next_of_low 39 T q, taken_low T (next_quote T q)))))))
 
   escaped_on : (how : Escaping) (b : ℕ) (u : Unit {0}) (s : State)
       → Goes g (escaped_turn how b u) (Steps g All s) s
@@ -62,13 +62,13 @@ module _ (g : Given) where
   backquoted_text_on : (s : State) → Goes g backquoted_text (λ u t. s.at < t.at) s
   unfolding backquoted_text
   backquoted_text_on s =
-      sees g (moves g (beyond g s.at (behind_low T s.at)
+      sees g (moves g (beyond g s.at (after_low T s.at)
       (repeats g All (λ u t so. escaped_on escapings.Backquotes _ u t) tt _ tt)))
 
   dollar_single_on : (s : State) → Goes g dollar_single (λ u t. s.at < t.at) s
   unfolding dollar_single
   dollar_single_on s =
-      sees g (moves g (moves g (beyond g s.at (omega (arith, behind_low T s.at, behind_low T (past_byte T s.at)))
+      sees g (moves g (moves g (beyond g s.at (omega (arith, after_low T s.at, after_low T (past_byte T s.at)))
       (repeats g All (λ u t so. escaped_on escapings.DollarSingle _ u t) tt _ tt))))
 
   -- ---- pieces
@@ -184,13 +184,13 @@ module _ (g : Given) where
       Turn x t = Stepped g All (Last mode) s x t
 
       one : p < past_byte T p
-      one = behind_low T p
+      one = after_low T p
 
       two : p < past_byte T (past_byte T p)
-      two = omega (arith, one, behind_low T (past_byte T p))
+      two = omega (arith, one, after_low T (past_byte T p))
 
       three : p < past_byte T (past_byte T (past_byte T p))
-      three = omega (arith, two, behind_low T (past_byte T (past_byte T p)))
+      three = omega (arith, two, after_low T (past_byte T (past_byte T p)))
 
       -- a piece that is read in one go
       at_once : {k : WordSoFar} {t : State} → IsRead T p → p < t.at → Goes g (give (again k)) Turn t

@@ -13,10 +13,10 @@ ghost use Rattle.shlaws.specs.Blank.{HasMore, past_empty_lines, past_newlines};
 /// The next entry of a list is blank exactly where an entry stands before it and at least two newline tokens
 /// are between the two.
 pub fn blank_entries()
-    ensures behind_command { (l : Listed) (es : Row AnEntry) (e : AnEntry) (parted : Option ℕ)
+    ensures after_command { (l : Listed) (es : Row AnEntry) (e : AnEntry) (parted : Option ℕ)
         (n : ℕ) →
         (is_blank_next (past_newlines n (with_command l (es ++ e ∷ []) parted)) ≡ true) ↔ (2 ≤ n) }
-    ensures behind_remark { (l : Listed) (es : Row AnEntry) (e : AnEntry) (n : ℕ) →
+    ensures after_remark { (l : Listed) (es : Row AnEntry) (e : AnEntry) (n : ℕ) →
         (is_blank_next (past_newlines n (with_remark l (es ++ e ∷ []))) ≡ true) ↔ (2 ≤ n) }
     ensures first { (n : ℕ) → is_blank_next (past_newlines n (none_listed false)) ≡ false }
 {}

@@ -54,10 +54,10 @@ unfolding raw_in
 such_end test B at end = raw_none (λ c. not (test c)) B at (rw (slice_get_past B at end) refl)
 
 -- the same in the text from an offset on
-such_behind : (test : ℕ → Bool) (B : List ℕ) (base p : ℕ) →
+such_after : (test : ℕ → Bool) (B : List ℕ) (base p : ℕ) →
     next_such test (drop base B) p ≡ next_such test B (base + p) - base
 unfolding raw_past
-such_behind test B base p =
+such_after test B base p =
     let same : count_front (λ c. not (test c)) (drop p (drop base B))
     ≡ count_front (λ c. not (test c)) (drop (base + p) B) =
     ap (count_front (λ c. not (test c))) (drop-drop p base B) in
@@ -69,7 +69,7 @@ pub such_on : (test : ℕ → Bool) (B : List ℕ) (base begin p r : ℕ) → r 
     → begin + (r - (base + begin)) ≡ next_such test (drop base B) (begin + p)
 such_on test B base begin p r is low =
     let there : base + (begin + p) ≡ base + begin + p = omega arith in
-    let found = such_behind test B base (begin + p) ∙ ap (λ (q : ℕ). next_such test B q - base) there
+    let found = such_after test B base (begin + p) ∙ ap (λ (q : ℕ). next_such test B q - base) there
     ∙ ap (λ (q : ℕ). q - base) (sym is) in
     let back : begin + (r - (base + begin)) ≡ r - base = omega (arith, low) in
     back ∙ sym found

@@ -64,7 +64,7 @@ same_kind (compound c) redirects = refl
 same_kind (function f cs b) redirects = refl
 
 -- what stands after a place stands in the text
-pub seen_behind : (T : List ℕ) (n : ℕ) → list_any (λ b. b == 60) (drop n T) ≡ true → list_any (λ b. b == 60) T ≡ true
-seen_behind T zero so = so
-seen_behind [] (suc n) so = absurd cc
-seen_behind (b ∷ T) (suc n) so = or_right _ _ (seen_behind T n so)
+pub seen_after : (T : List ℕ) (n : ℕ) → list_any (λ b. b == 60) (drop n T) ≡ true → list_any (λ b. b == 60) T ≡ true
+seen_after T zero so = so
+seen_after [] (suc n) so = absurd cc
+seen_after (b ∷ T) (suc n) so = or_right _ _ (seen_after T n so)

@@ -2,7 +2,7 @@
 ghost use Rattle.std.specs.Prelude.{◌≡◌, ◌<◌, ◌==◌, [], false, IfErr, IfOk, Some, true};
 ghost use Rattle.shgrammar.specs.Bytes.{ends_word};
 ghost use Rattle.shline.specs.Clauses.{keep_of, Keeps, start_of, Takes, text_of, Turns};
-ghost use Rattle.shgrammar.specs.Commands.{a_command, a_simple, a_word_command, an_item, as_item, behind_word, item_turn, so_many};
+ghost use Rattle.shgrammar.specs.Commands.{a_command, a_simple, a_word_command, an_item, as_item, after_word, item_turn, so_many};
 ghost use Rattle.shgrammar.specs.declared.token.Position.TheVariants.{Command as AsCommand, Suffix};
 ghost use Rattle.shgrammar.specs.declared.token.Position.{Position};
 ghost use Rattle.shgrammar.specs.Form.{again, grows, many, pushed};
@@ -81,7 +81,7 @@ impl<'a, S: Source, const KEEP: u8> Cursor<'a, S, KEEP> {
             self.old.next)) result (so_many (view_items items.new) place.new
             self.new.next) self.new }
     {
-        if let Some(position) = self.next.token.behind_word() {
+        if let Some(position) = self.next.token.after_word() {
             *place = position;
             self.item(items, position, room)?;
             return Ok(true);
@@ -90,7 +90,7 @@ impl<'a, S: Source, const KEEP: u8> Cursor<'a, S, KEEP> {
             return Ok(false);
         }
         let broken = !items.is_empty() && self.next.broken;
-        *place = place.behind_redirect();
+        *place = place.after_redirect();
         self.redirect(items, broken, *place, room)?;
         Ok(true)
     }
@@ -149,7 +149,7 @@ impl<'a, S: Source, const KEEP: u8> Cursor<'a, S, KEEP> {
     #[cycle(commands)]
     #[tactic(auto, unfolding(shgrammar::specs::Commands::a_word_command, shgrammar::specs::Commands::a_simple, shgrammar::specs::Commands::next_token, crate::specs::InHand::InHand))]
     fn word_command(&mut self, room: usize) -> Result<Command, Stop>
-        requires { behind_word self.old.next.token ≡ Some Suffix }
+        requires { after_word self.old.next.token ≡ Some Suffix }
         ensures { Takes self.old (a_word_command (level room)) result
             (λ x. (view_command x, self.new.next)) self.new }
     {

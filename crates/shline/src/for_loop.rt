@@ -3,7 +3,7 @@ ghost use Rattle.std.specs.Prelude.{◌≡◌, ◌<◌, [], false, length, true,
 ghost use Rattle.shgrammar.specs.Shows.{IsRead};
 ghost use Rattle.shline.specs.Clauses.{GrowsNone, start_of, Takes, text_of, Turns};
 ghost use Rattle.shgrammar.specs.Commands.{join_so, so_many};
-ghost use Rattle.shgrammar.specs.Compounds.{a_for, a_for_head, a_for_name, a_linebreak, a_sequential_sep, begins_words, behind_remarks, for_words, headed, word_turn, closed};
+ghost use Rattle.shgrammar.specs.Compounds.{a_for, a_for_head, a_for_name, a_linebreak, a_sequential_sep, begins_words, after_remarks, for_words, headed, word_turn, closed};
 ghost use Rattle.shgrammar.specs.declared.token.Position.TheVariants.{Suffix};
 ghost use Rattle.shgrammar.specs.Form.{many};
 ghost use Rattle.shgrammar.specs.Levels.{level};
@@ -22,9 +22,9 @@ use std::alloc::{AllocError, Global};
 
 /// A list after comments, which are its first entries then.
 #[tactic(auto, using(shgrammar::proofs::Remarks::remarks_row, shgrammar::proofs::Remarks::list_seen))]
-fn behind_remarks(alloc: Global, comments: &[Comment], list: List) -> Result<List, AllocError>
+fn after_remarks(alloc: Global, comments: &[Comment], list: List) -> Result<List, AllocError>
     ensures value { IfOk result
-        (λ all. view_list all ≡ behind_remarks (map view_comment comments.now) (view_list list)) }
+        (λ all. view_list all ≡ after_remarks (map view_comment comments.now) (view_list list)) }
     ensures memory { IfErr result (λ e. 0 < length comments.now) }
 {
     if comments.is_empty() {
@@ -176,7 +176,7 @@ impl<'a, S: Source, const KEEP: u8> Cursor<'a, S, KEEP> {
         let words = self.for_head(&mut lines, room)?;
         self.closing(Closing::Do, room)?;
         let (list, closer) = self.group(Closing::Done, room)?;
-        let body = behind_remarks(self.alloc, &lines.comments, list)?;
+        let body = after_remarks(self.alloc, &lines.comments, list)?;
         Ok((for_of(name, words, body), closer))
     }
 }

@@ -13,7 +13,7 @@ impl<'a, S: Source, const KEEP: u8> Cursor<'a, S, KEEP> {
         ensures { Skips self.old mode self.new }
     {
         if self.at >= self.front.len() {
-            return self.skip_plain_behind(mode);
+            return self.skip_plain_after(mode);
         }
         self.skip_plain_near(mode)
     }
@@ -21,7 +21,7 @@ impl<'a, S: Source, const KEEP: u8> Cursor<'a, S, KEEP> {
     /// The same, where the stretch has no byte from here on.
     #[cold]
     #[inline(never)]
-    fn skip_plain_behind(&mut self, mode: Mode)
+    fn skip_plain_after(&mut self, mode: Mode)
         ensures { Skips self.old mode self.new }
     {
         self.go_on();

@@ -66,12 +66,12 @@ impl<'a, S: Source, const KEEP: u8> Cursor<'a, S, KEEP> {
         {
             return from + index;
         }
-        self.find_behind(sought, from)
+        self.find_after(sought, from)
     }
 
     /// The same, where it may stand past the front.
     #[cold]
-    fn find_behind(&self, sought: Sought, from: usize) -> usize
+    fn find_after(&self, sought: Sought, from: usize) -> usize
         requires { Inside self.now from }
         ensures { Reaches self.now (next_such (is_sought sought)) from result }
     {

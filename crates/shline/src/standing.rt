@@ -33,13 +33,13 @@ impl<'a, S: Source, const KEEP: u8> Cursor<'a, S, KEEP> {
         if at < self.front.len() {
             return Some(self.front[at]);
         }
-        self.byte_behind(at)
+        self.byte_after(at)
     }
 
     /// The same, where it stands past the front.
     #[cold]
     #[tactic(auto, using(shgrammar::proofs::Stretches::get_drop))]
-    fn byte_behind(&self, at: usize) -> Option<u8>
+    fn byte_after(&self, at: usize) -> Option<u8>
         requires { Inside self.now at }
         ensures value { result ≡ seen self.now slice_get at }
         ensures inside { IfSome result (λ b. on self.now at < length (text_of self.now)) }

@@ -205,7 +205,7 @@ impl<'a, S: Source, const KEEP: u8> Cursor<'a, S, KEEP> {
         ensures { Looks self.old position self.new }
     {
         if self.at >= self.front.len() {
-            return self.next_token_behind(position);
+            return self.next_token_after(position);
         }
         self.next_token_near(position)
     }
@@ -213,7 +213,7 @@ impl<'a, S: Source, const KEEP: u8> Cursor<'a, S, KEEP> {
     /// The same, where the stretch has no byte from here on.
     #[cold]
     #[inline(never)]
-    fn next_token_behind(&mut self, position: Position)
+    fn next_token_after(&mut self, position: Position)
         ensures { Looks self.old position self.new }
     {
         self.go_on();

@@ -60,13 +60,13 @@ module _ (part : Part) (next : ASplice → Sense) (bytes : List ℕ) where
       with_bytes part next (bytes ++ text) ≡ unfinished
   bytes_cut_line text all p = seam text all ∙ ap (behind_bytes (next (splice_by part bytes))) (line_open text p)
 
-pub behind_none : (next : Sense) (text rest : List ℕ) → text ≡ [] → behind_bytes next (Some (text, rest)) ≡ next rest
-behind_none next text rest none = ap (λ l. behind_bytes next (Some (l, rest))) none
+pub after_none : (next : Sense) (text rest : List ℕ) → text ≡ [] → behind_bytes next (Some (text, rest)) ≡ next rest
+after_none next text rest none = ap (λ l. behind_bytes next (Some (l, rest))) none
 
-pub behind_some : (next : Sense) (text rest : List ℕ) → (text ≡ [] → ⊥) →
+pub after_some : (next : Sense) (text rest : List ℕ) → (text ≡ [] → ⊥) →
     behind_bytes next (Some (text, rest)) ≡ asks (flawed NoPayload) rest
-behind_some next [] rest some = absurd (some refl)
-behind_some next (c ∷ text) rest some = refl
+after_some next [] rest some = absurd (some refl)
+after_some next (c ∷ text) rest some = refl
 
 -- ---- parts
 

@@ -4,22 +4,22 @@ use Rattle.shtext.specs.Text.{is_newline}
 use Rattle.shlive.specs.Requests.{Lined, first_line, with_text_before}
 use Rattle.shlive.specs.Lines.{IsInLine}
 
-behind_nothing : (l : Lined) → l ≡ with_text_before [] l
-behind_nothing None = refl
-behind_nothing (Some (line, rest)) = refl
+after_nothing : (l : Lined) → l ≡ with_text_before [] l
+after_nothing None = refl
+after_nothing (Some (line, rest)) = refl
 
-behind_both : (t u : List ℕ) (l : Lined) → with_text_before t (with_text_before u l) ≡ with_text_before (t ++ u) l
-behind_both t u None = refl
-behind_both t u (Some (line, rest)) = ap (λ l. Some (l, rest)) (sym (append_assoc t u line))
+after_both : (t u : List ℕ) (l : Lined) → with_text_before t (with_text_before u l) ≡ with_text_before (t ++ u) l
+after_both t u None = refl
+after_both t u (Some (line, rest)) = ap (λ l. Some (l, rest)) (sym (append_assoc t u line))
 
 pub in_line_nothing : IsInLine []
-in_line_nothing rest = behind_nothing (first_line rest)
+in_line_nothing rest = after_nothing (first_line rest)
 
 pub in_line_more : (text : List ℕ) (b : ℕ) → IsInLine text → is_newline b ≡ false → IsInLine (text ++ b ∷ [])
 in_line_more text b p other rest =
     let here : first_line (b ∷ rest) ≡ with_text_before (b ∷ []) (first_line rest) = rw other refl in
     ap first_line (append_assoc text (b ∷ []) rest) ∙ p (b ∷ rest) ∙ ap (with_text_before text) here
-    ∙ behind_both text (b ∷ []) (first_line rest)
+    ∙ after_both text (b ∷ []) (first_line rest)
 
 -- a newline ends its line
 pub line_ends : (text rest : List ℕ) → IsInLine text → first_line ((text ++ 10 ∷ []) ++ rest) ≡ Some (text, rest)

@@ -14,7 +14,7 @@ use Rattle.shheld.specs.Walk.{Walk, entries_with, more_entries_at, no_line, with
 use Rattle.shheld.proofs.Within.{line_all_within}
 use Rattle.shprint.specs.declared.layout.Layout.{Layout}
 use Rattle.shprint.specs.declared.page.Page.{Page}
-use Rattle.shprint.specs.Marks.{Marks, held_behind, laid, laid_behind, line_end, text}
+use Rattle.shprint.specs.Marks.{Marks, held_after, laid, laid_after, line_end, text}
 use Rattle.shprint.specs.Printed.{print_background, print_blank, print_content, print_entries, print_entry, print_own_comment, printed}
 use Rattle.shprint.specs.Written.{Prints, Sheet, sheet, sheet_of, written}
 use Rattle.shprint.proofs.Writing.{held_append, laid_append, written_append, written_first, written_line_alone, written_none}
@@ -64,14 +64,14 @@ entry_ends y (entry what background blank comment) =
     (print_blank blank ++ here, sym (append_assoc (print_blank blank) here (line_end ∷ [])))
 
 -- so nothing waits after entries
-held_none : (y : Layout) (es : Shape EntriesOf) → held_behind [] (print_entries y [] es) ≡ []
-unfolding held_behind
+held_none : (y : Layout) (es : Shape EntriesOf) → held_after [] (print_entries y [] es) ≡ []
+unfolding held_after
 held_none y no_entry = refl
 held_none y (more_entries e es) =
     let ends = entry_ends y e in
     held_append [] (print_entry y [] e) (print_entries y [] es)
-    ∙ ap (λ h. held_behind h (print_entries y [] es))
-    (ap (held_behind []) ends.1 ∙ held_append [] ends.0 (line_end ∷ []))
+    ∙ ap (λ h. held_after h (print_entries y [] es))
+    (ap (held_after []) ends.1 ∙ held_append [] ends.0 (line_end ∷ []))
     ∙ held_none y es
 
 some_length : (n : ℕ) → nat_lt 0 (suc n) ≡ true
@@ -84,20 +84,20 @@ longer (x ∷ a) b c = some_length (length ((a ++ (10 ∷ b)) ++ c))
 -- and there is some text exactly where there is an entry
 some_laid : (y : Layout) (B : List ℕ) (es : Entries) →
     nat_lt 0 (length (laid (print_entries y [] (shape_of B es)))) ≡ has_entry es
-unfolding laid_behind
+unfolding laid_after
 some_laid y B no_entry = refl
 some_laid y B (more_entries e es) =
     let one = print_entry y [] (shape_of_entry B e) in
     let rest = print_entries y [] (shape_of B es) in
     let ends = entry_ends y (shape_of_entry B e) in
     let front = ends.0 in
-    let line : laid one ≡ laid front ++ (10 ∷ (held_behind [] front ++ [])) = ap laid ends.1
+    let line : laid one ≡ laid front ++ (10 ∷ (held_after [] front ++ [])) = ap laid ends.1
     ∙ laid_append [] front (line_end ∷ []) in
-    let all : laid (one ++ rest) ≡ (laid front ++ (10 ∷ (held_behind [] front ++ [])))
-    ++ laid_behind (held_behind [] one) rest =
-    laid_append [] one rest ∙ ap (λ t. t ++ laid_behind (held_behind [] one) rest) line in
+    let all : laid (one ++ rest) ≡ (laid front ++ (10 ∷ (held_after [] front ++ [])))
+    ++ laid_after (held_after [] one) rest =
+    laid_append [] one rest ∙ ap (λ t. t ++ laid_after (held_after [] one) rest) line in
     ap (λ t. nat_lt 0 (length t)) all
-    ∙ longer (laid front) (held_behind [] front ++ []) (laid_behind (held_behind [] one) rest)
+    ∙ longer (laid front) (held_after [] front ++ []) (laid_after (held_after [] one) rest)
 
 -- ---- an empty line, or none
 
@@ -118,7 +118,7 @@ none_with so end_line none = refl
 none_with so (faulty_line f) none = refl
 
 module _ (y : Layout) (B : List ℕ) (so : Walk) (before : Page) (is : IsOnPage y B so before) where
-  first_laid : sheet before ≡ sheet_of (laid (marks y B so.entries)) (held_behind [] (marks y B so.entries))
+  first_laid : sheet before ≡ sheet_of (laid (marks y B so.entries)) (held_after [] (marks y B so.entries))
   first_laid = is.is ∙ written_first (marks y B so.entries)
 
   pub nothing_waits : before.held.items ≡ []

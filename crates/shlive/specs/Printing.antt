@@ -19,6 +19,6 @@ pub record IsOnPage (y : Layout) (bytes : List ℕ) (so : Walk) (page : Page) : 
 -- The line at a base was printed, with a gap before it and one after it, or with none: where
 -- the lines before it were on the page, those up to it are.
 abbrev pub PrintsLine : Edition → Layout → List ℕ → ℕ → HeldLine AKind → Bool → Bool → Page → Page → Type 0
-PrintsLine edition y bytes base line gap gap_behind before after =
+PrintsLine edition y bytes base line gap gap_after before after =
     (so : Walk) → so.gap ≡ gap → so.at ≡ base → IsTopLine edition (drop base bytes) line → IsOnPage y bytes so before
-    → (gap_behind ≡ (with_line so line).gap) × IsOnPage y bytes (with_line so line) after
+    → (gap_after ≡ (with_line so line).gap) × IsOnPage y bytes (with_line so line) after

@@ -135,9 +135,9 @@ fn print_line(
     gap: bool,
     page: &mut Page,
 ) -> Result<bool, AllocError>
-    ensures { IfOk result (λ gap_behind. (edition : Edition) →
+    ensures { IfOk result (λ gap_after. (edition : Edition) →
         PrintsLine edition printer.now.layout
-        (buffer_bytes printer.now.source.now) begin line.now gap gap_behind page.old page.new) }
+        (buffer_bytes printer.now.source.now) begin line.now gap gap_after page.old page.new) }
 {
     let Some(list) = line.kind.list() else {
         return Ok(true);

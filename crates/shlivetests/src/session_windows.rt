@@ -325,7 +325,7 @@ fn random_batches(rt: HostRuntime) -> Result<(), Fail> {
 }
 
 /// The script after so many newlines that its first chunk ends somewhere in it.
-fn behind_newlines(alloc: Global, dice: &mut Dice) -> Result<Vec<u8>, Fail> {
+fn after_newlines(alloc: Global, dice: &mut Dice) -> Result<Vec<u8>, Fail> {
     let count = 4_096_usize.saturating_sub(dice.below(SCRIPT.len()));
     let mut bytes = vec![in alloc; b'\n'; count]?;
     bytes.extend_from_slice(SCRIPT)?;
@@ -333,7 +333,7 @@ fn behind_newlines(alloc: Global, dice: &mut Dice) -> Result<Vec<u8>, Fail> {
 }
 
 /// A random edit of the last of these bytes, of which there are as many as the script has.
-fn thrown_behind(dice: &mut Dice, len: usize) -> Splice<'static> {
+fn thrown_after(dice: &mut Dice, len: usize) -> Splice<'static> {
     let begin = len.saturating_sub(SCRIPT.len());
     let edit = thrown(dice, len.saturating_sub(begin));
     let (a, b) = (begin.saturating_add(edit.a), begin.saturating_add(edit.b));
@@ -347,10 +347,10 @@ fn over_chunks(rt: HostRuntime) -> Result<(), Fail> {
     let seed = 20_261_129;
     let mut dice = Dice(seed);
     for turn in 0..200 {
-        let mut bytes = behind_newlines(alloc, &mut dice)?;
+        let mut bytes = after_newlines(alloc, &mut dice)?;
         let mut session = opened(alloc, &bytes)?;
         for _ in 0..3 {
-            let edit = thrown_behind(&mut dice, bytes.len());
+            let edit = thrown_after(&mut dice, bytes.len());
             assert!(rt;
                 is_right(alloc, &mut session, &mut bytes, &[edit], 97)?,
                 "seed {seed}, turn {turn}"

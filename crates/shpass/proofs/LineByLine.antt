@@ -18,7 +18,7 @@ use Rattle.shline.specs.declared.parsed_line.ParsedLine.{ParsedLine}
 use Rattle.shpass.specs.declared.script_lines.ScriptLines.{ScriptLines}
 use Rattle.shast.specs.Nodes.{AreWithin}
 use Rattle.shpass.specs.declared.script_lines.LinesBefore.{LinesBefore}
-use Rattle.shpass.specs.LineByLine.{Before, IsReadBy, LineReads, OuterReads, Rest, Stands, is_blank_behind}
+use Rattle.shpass.specs.LineByLine.{Before, IsReadBy, LineReads, OuterReads, Rest, Stands, is_blank_after}
 use Rattle.shgrammar.proofs.Within.{more_within}
 use Rattle.shgrammar.specs.Moved.{Same, SameBy}
 use Rattle.shgrammar.specs.Scripts.{AScript, Outcome, SoFar, faulty, is_blank_line, last_line, line_ended, line_from, line_told, the_line, with_line}
@@ -28,7 +28,7 @@ use Rattle.shgrammar.proofs.OneOutcome.{is}
 -- ---- what is read of a line, where its first entry is blank as the lines before it have it
 
 pub blank_is : (before : LinesBefore) (so : SoFar) → Before before so
-    → is_blank_behind before ≡ is_blank_line so
+    → is_blank_after before ≡ is_blank_line so
 blank_is before so stood = ap (λ b. b && before.begun) stood.0 ∙ ap (λ b. so.gap && b) stood.1
 
 pub line_read : (edition : Edition) (B : Row ℕ) (so : SoFar) (p : ℕ) (blank : Bool) (x : Read (Row AnEntry × Bool)) →
@@ -74,12 +74,12 @@ told_by bound reads read is (Err Memory) fails = tt
 
 module _ {S : Type 0} (B : Row ℕ) (bound : Limits) (old : ScriptLines S) (r : Result ParsedLine Stop) (so : SoFar)
     (stood : Stands old so) where
-  pub next_line : Gives bound view_told r (line_from old.edition B Whole (is_blank_behind old.before) old.at) →
+  pub next_line : Gives bound view_told r (line_from old.edition B Whole (is_blank_after old.before) old.at) →
       IsReadBy (LineReads old.edition B so old.at) r
   next_line gives = told_by bound (LineReads old.edition B so old.at) _
-      (line_read old.edition B so old.at (is_blank_behind old.before) _ (blank_is old.before so stood) refl) r gives
+      (line_read old.edition B so old.at (is_blank_after old.before) _ (blank_is old.before so stood) refl) r gives
 
-  pub outer_line : Gives bound view_told r (line_from old.edition B Outer (is_blank_behind old.before) old.at) →
+  pub outer_line : Gives bound view_told r (line_from old.edition B Outer (is_blank_after old.before) old.at) →
       IsReadBy (OuterReads old.edition B so old.at) r
   outer_line gives = told_by bound (OuterReads old.edition B so old.at) _
       (outer_read old.edition B so old.at _

@@ -51,8 +51,8 @@ abbrev pub no_lines : LinesBefore
 no_lines = record { gap = false; begun = false }
 
 -- whether the first entry after them is blank
-abbrev pub is_blank_behind : LinesBefore → Bool
-is_blank_behind before = before.gap && before.begun
+abbrev pub is_blank_after : LinesBefore → Bool
+is_blank_after before = before.gap && before.begun
 
 -- the lines before gave this
 abbrev pub Before : LinesBefore → SoFar → Type 0

@@ -12,7 +12,7 @@ use std::mem;
 
 /// The place after the line that begins at an offset, if it has no fault and a
 /// newline ended it that is its last byte.
-#[tactic(auto, using(shline::proofs::Wanted::seen_behind))]
+#[tactic(auto, using(shline::proofs::Wanted::seen_after))]
 fn behind_line<S: Source>(
     alloc: Global,
     edition: Edition,

@@ -5,7 +5,7 @@ ghost use Rattle.shgrammar.specs.Scripts.{line_from};
 ghost use Rattle.shline.specs.Clauses.{Gives, view_told};
 ghost use Rattle.shline.specs.Limits.{limits};
 ghost use Rattle.shpass.specs.LineByLine.{AtStart, Behind, LineReads, LineWithin, MovesOn, OuterReads, PassesWhole, ReadsLine};
-ghost use Rattle.shpass.specs.LineByLine.{before_of, bytes_of, edition_of, is_blank_behind, no_lines, place_of};
+ghost use Rattle.shpass.specs.LineByLine.{before_of, bytes_of, edition_of, is_blank_after, no_lines, place_of};
 
 use crate::newline::ends_in_newline;
 use shast::{Entry, Spare};
@@ -108,7 +108,7 @@ impl<'a, S: Source> ScriptLines<'a, S> {
         requires { place_of self.old ≤ length (bytes_of S.bytes self.old) }
         ensures value { let bytes = bytes_of S.bytes self.old in
             let place = place_of self.old in
-            let blank = is_blank_behind (before_of self.old) in
+            let blank = is_blank_after (before_of self.old) in
             Gives (limits KEPT place (drop place bytes)) view_told result
             (line_from (edition_of self.old) bytes keep blank place) }
         ensures moves { MovesOn S.bytes self.old result self.new }

@@ -56,9 +56,9 @@ module _ (y : Layout) (bytes : List ℕ) where
   sheet_with es = written (sheet_of [] []) (print_entries y [] (shape_of bytes (entries_of es)))
 
   -- a line after the text so far
-  line_behind : (before line : List AnEntry) (s : Sheet) → s ≡ sheet_with before
+  line_after : (before line : List AnEntry) (s : Sheet) → s ≡ sheet_with before
       → written s (print_entries y [] (shape_of bytes (entries_of line))) ≡ sheet_with (before ++ line)
-  line_behind before line s is =
+  line_after before line s is =
       ap (λ t. written t (print_entries y [] (shape_of bytes (entries_of line)))) is
       ∙ written_append (sheet_of [] []) (print_entries y [] (shape_of bytes (entries_of before)))
       (print_entries y [] (shape_of bytes (entries_of line)))
@@ -91,7 +91,7 @@ module _ (edition : Edition) (y : Layout) (H S : List ℕ) (q n : ℕ) (so : SoF
       → then ≡ sheet_with y S (so.entries ++ here)
   sheet_more text then text_is is =
       is ∙ ap (λ r. written text (print_entries y [] r)) (sym there.shape)
-      ∙ line_behind y S so.entries here text text_is
+      ∙ line_after y S so.entries here text text_is
 
 module _ (edition : Edition) (y : Layout) (H S : List ℕ) (q n : ℕ) (so : SoFar) (es : List AnEntry) (t : State) where
   -- what is read after a line is read with it
@@ -194,11 +194,11 @@ module _ {S : Type 0} (edition : Edition) (y : Layout) (H : List ℕ) (old new :
       } in
       subst (λ (k : ℕ). ArePrinted edition y (P ++ take k D) new.before then) size done
 
-  pub front_behind : (front : List ℕ) → ArePrinted edition y (front ++ take old.at H) old.before text →
+  pub front_after : (front : List ℕ) → ArePrinted edition y (front ++ take old.at H) old.before text →
       ((so : SoFar) → Stands old so → IsWholeLine H so old line new) → old.at < new.at → new.at ≤ length H
       → then ≡ written text (print_entries y [] (shape_of H (entries_of (map view_entry line.items)))) →
       ArePrinted edition y (front ++ take new.at H) new.before then
-  front_behind front b whole onward low is =
+  front_after front b whole onward low is =
       let L = new.at - old.at in
       let ends : new.at ≡ old.at + L = omega (arith, onward) in
       let pieces : front ++ take new.at H ≡ front ++ take old.at H ++ take L (drop old.at H) =

@@ -156,9 +156,9 @@ DigitsAt T p = Digits (bare (raw T p (past is_digit T p)))
 abbrev Further : ℕ → List ℕ → Type 0
 Further n T = (q : ℕ) → length T - q ≤ n → stands_in is_digit T q ≡ true → DigitsAt T q
 
-behind_pair : (n : ℕ) (T : List ℕ) (p : ℕ) → Further n T → length T - p ≤ suc n → stands_in is_digit T p ≡ true →
+after_pair : (n : ℕ) (T : List ℕ) (p : ℕ) → Further n T → length T - p ≤ suc n → stands_in is_digit T p ≡ true →
     continues T p ≡ true → DigitsAt T p
-behind_pair n T p further few digit pair =
+after_pair n T p further few digit pair =
     let more = past_pair T p pair digit in
     let q = past is_digit T (p + 2) in
     let rest = further (p + 2) (omega (arith, few, stands_in_low is_digit T p digit, place_low T p)) more.0 in
@@ -192,7 +192,7 @@ digits_from : (n : ℕ) (T : List ℕ) (p : ℕ) → length T - p ≤ n → stan
 digits_from zero T p few digit = absurd (omega (arith, few, stands_in_low is_digit T p digit, place_low T p))
 digits_from (suc n) T p few digit =
     let further : Further n T = λ q low is. digits_from n T q low is in
-    by_case (continues T p) (behind_pair n T p further few digit) (one_digit n T p further few digit)
+    by_case (continues T p) (after_pair n T p further few digit) (one_digit n T p further few digit)
 
 number_of : (t : Text) → Digits t → GoodNumber (Some t)
 number_of [] (c, cs, is, all) = absurd cc

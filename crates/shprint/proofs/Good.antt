@@ -9,7 +9,7 @@ use Rattle.shgrammar.specs.declared.token.Token.{Token}
 use Rattle.shgrammar.specs.declared.token.Token.TheVariants as tokens
 use Rattle.shgrammar.specs.Classes.{is_digit}
 use Rattle.shgrammar.specs.Tokens.{is_later}
-use Rattle.shgrammar.specs.Commands.{begins_word, behind_redirect, behind_word, is_strip, takes_here}
+use Rattle.shgrammar.specs.Commands.{begins_word, after_redirect, after_word, is_strip, takes_here}
 use Rattle.shgrammar.specs.HereDocuments.{ADelimiter, delimiter_in}
 use Rattle.shgrammar.proofs.BodiesAnywhere.{DocumentAnywhere}
 use Rattle.shgrammar.specs.Compounds.{begins_pattern}
@@ -80,14 +80,14 @@ pub data Kind : Type 0 where
 -- an item from one position to another, where so many constructs may be open
 pub data GoodItem (edition : Edition) (room : ℕ) : Kind → Position → Shape AnItemOf → Position → Type 0 where
   of_word : {position next : Position} {token : Token} {broken : Bool} {t : Text} {ss : Shape SubstsOf} →
-      behind_word token ≡ Some next → ItemAnywhere edition room position token t ss
+      after_word token ≡ Some next → ItemAnywhere edition room position token t ss
       → GoodItem edition room of_command position (an_item_of broken next (word t ss)) next
   of_argument : {broken : Bool} {t : Text} {ss : Shape SubstsOf} → ItemAnywhere edition room Suffix tokens.Word t ss →
       GoodItem edition room of_for Suffix (an_item_of broken Suffix (word t ss)) Suffix
   of_redirect : {position : Position} {broken : Bool} {number : Option Text} {o : RedirectOperator} {t : Text}
       {ss : Shape SubstsOf} {h : Option (AHereOf Text)} → GoodRedirect edition room number o t ss h
-      → GoodItem edition room of_command position (a_redirect_of broken number o t ss h) (behind_redirect position)
-  of_redirect_behind : {broken : Bool} {number : Option Text} {o : RedirectOperator} {t : Text} {ss : Shape SubstsOf}
+      → GoodItem edition room of_command position (a_redirect_of broken number o t ss h) (after_redirect position)
+  of_redirect_after : {broken : Bool} {number : Option Text} {o : RedirectOperator} {t : Text} {ss : Shape SubstsOf}
       {h : Option (AHereOf Text)} → GoodRedirect edition room number o t ss h
       → GoodItem edition room of_compound Command (a_redirect_of broken number o t ss h) Command
 

@@ -12,7 +12,7 @@ use Rattle.shgrammar.specs.Commands.{document as waiting_document}
 use Rattle.shgrammar.specs.Form.{change, changes}
 use Rattle.shgrammar.proofs.Elsewhere.{follows}
 use Rattle.shgrammar.proofs.BodiesAnywhere.{DocumentAnywhere}
-use Rattle.shprint.specs.Marks.{Marks, line_end, laid_behind}
+use Rattle.shprint.specs.Marks.{Marks, line_end, laid_after}
 use Rattle.shprint.proofs.Gives.{Gives, gives}
 use Rattle.shprint.proofs.Tokens.{skip, text_here}
 
@@ -73,11 +73,11 @@ state h p = record { at = p; waiting = map as_waiting h.waiting; bodies = h.bodi
 
 -- the text of some marks, after which this waits
 abbrev pub lay : Held → Marks → Text
-lay h ms = laid_behind (held_bytes h.waiting) ms
+lay h ms = laid_after (held_bytes h.waiting) ms
 
 -- what is printed next may follow an item, whatever waits
 abbrev pub Followed : Marks → Type 0
-Followed ms = (held : Text) → follows (laid_behind held ms) ≡ true
+Followed ms = (held : Text) → follows (laid_after held ms) ≡ true
 
 -- one more document waits
 pub one_waits : {g : Given} (h : Held) (x : Document) (p : ℕ) →
@@ -171,9 +171,9 @@ module _ {edition : Edition} {B T : List ℕ} {o : ℕ} (S : StandsIn edition B 
     pub texts : texts_of later ≡ texts_of h
 
   pub emptied : (h : Held) (p : ℕ) (ms : Marks) → At h p (line_end ∷ ms) → Emptied h p ms
-  unfolding laid_behind held_bytes
+  unfolding laid_after held_bytes
   emptied h p ms at =
-      let zs = laid_behind [] ms in
+      let zs = laid_after [] ms in
       let whole : drop p T ≡ (10 ∷ held_bytes h.waiting) ++ zs = at in
       let behind_it : drop (p + 1) T ≡ held_bytes h.waiting ++ zs =
       skip T p (10 ∷ []) (held_bytes h.waiting ++ zs) at in

@@ -29,13 +29,13 @@ use Rattle.shast.specs.declared.tree.Span.{Span}
 use Rattle.shast.specs.Shape.{Text, Shape, shape_of_comments, shape_of, shape_of_form, shape_of_word, shape_of_patterns, shape_of_case, shape_of_cases}
 use Rattle.shast.specs.Tree.{AWordOf, AWord, EntriesOf, no_entry, more_entries, entries_of, AnEntry, AForm, case_in, PatternsOf, no_pattern, more_patterns, patterns_of, CaseItemsOf, no_case, more_cases, cases_of, ACaseItemOf, ACaseItem, ACaseMark, ACaseMarkOf, case_item}
 use Rattle.shprint.specs.declared.layout.Layout.{Layout}
-use Rattle.shprint.specs.Marks.{text, line_end, Marks, laid_behind, deeper}
+use Rattle.shprint.specs.Marks.{text, line_end, Marks, laid_after, deeper}
 use Rattle.shprint.specs.Printed.{print_word, print_entries, print_cases, print_patterns, print_first_pattern, ender, print_body, print_comment_lines, case_margin}
 use Rattle.shprint.proofs.Tokens.{close_token, first, byte_here, start_here, all_blank, no_gap, next_one, double_semicolon_token, falls_token, falls_stays, esac_here}
 use Rattle.shprint.proofs.Gives.{Gives, gives_on, told_here, ◌⟫◌, given_here, seen_here, moved_here, pushed_here, first_of, second_of, last_turn, one_turn}
 use Rattle.shprint.proofs.Held.{At, Followed, Held, StandsIn, g, held_bytes, lay, state}
 use Rattle.shprint.proofs.Good.{GoodForm, GoodEntries, GoodComments, GoodWord, GoodMorePatterns, GoodCases}
-use Rattle.shprint.proofs.PrintedText.{laid_text, Alike, laid_same, deeper_blank, Parted, no_more, Adds, at_text, some_here, leads, told, asked, asked_behind, tell, tell_word, next_read, some_word, byte_moved, byte_behind, no_byte, comment_shape, comment_start, margin_gap, Operand, last_join_turn, comment_join_turn, newline_join_turn, cons_shape, joined, space_then, pipe_follower, no_sharp}
+use Rattle.shprint.proofs.PrintedText.{laid_text, Alike, laid_same, deeper_blank, Parted, no_more, Adds, at_text, some_here, leads, told, asked, asked_after, tell, tell_word, next_read, some_word, byte_moved, byte_after, no_byte, comment_shape, comment_start, margin_gap, Operand, last_join_turn, comment_join_turn, newline_join_turn, cons_shape, joined, space_then, pipe_follower, no_sharp}
 use Rattle.shprint.proofs.PrintedItems.{printed_word}
 use Rattle.shprint.proofs.PrintedCommands.{Fine}
 use Rattle.shprint.proofs.PrintedLists.{at_line_start, line_end_here, Closes, empty_line, list_ends, list_read}
@@ -51,15 +51,15 @@ more_marks (more_patterns w ws) ms = text (codes " ") ∷ text (codes "|") ∷ t
 
 more_are : (ws : Shape PatternsOf) (ms : Marks) →
     Alike (print_patterns ws ++ (text (codes ")") ∷ ms)) (more_marks ws ms)
-unfolding laid_behind
+unfolding laid_after
 more_are no_pattern ms held = refl
 more_are (more_patterns w ws) ms held =
-    ap (laid_behind held) (append_assoc (text (codes " | ") ∷ print_word w) (print_patterns ws)
+    ap (laid_after held) (append_assoc (text (codes " | ") ∷ print_word w) (print_patterns ws)
     (text (codes ")") ∷ ms)) ∙ ap (λ z. codes " | " ++ z)
     (laid_same (print_word w) _ _ (more_are ws ms) held)
 
 more_follows : (ws : Shape PatternsOf) (ms : Marks) → Followed (more_marks ws ms)
-unfolding laid_behind
+unfolding laid_after
 more_follows no_pattern ms held = refl
 more_follows (more_patterns w ws) ms held = refl
 
@@ -172,7 +172,7 @@ module _ (y : Layout) where
 
   case_follows : (m : Text) (items : Shape CaseItemsOf) (tail : Row Text) (rest : Marks) →
       Followed (case_marks m items tail rest)
-  unfolding laid_behind
+  unfolding laid_after
   case_follows m items tail rest held = refl
 
 module _ {edition : Edition} {B T : List ℕ} {o : ℕ} {S : StandsIn edition B T o} {room : ℕ} {y : Layout}
@@ -242,7 +242,7 @@ module _ {edition : Edition} {B T : List ℕ} {o : ℕ} {S : StandsIn edition B 
   bracket_next h position e ms at =
       let there = at ∙ laid_text h (codes ")") ms in
       let gap = no_gap (start_here (byte_here T e 41 (lay h ms) refl there) refl) in (
-        asked_behind S position gap ∙ ap (λ t. record { token = token_in edition t; broken = false })
+        asked_after S position gap ∙ ap (λ t. record { token = token_in edition t; broken = false })
             (close_token position T e (lay h ms) there),
         gap.blanks,
       )
@@ -425,7 +425,7 @@ module _ {edition : Edition} {B T : List ℕ} {o : ℕ} {S : StandsIn edition B 
       let q = past_blanks T e in
       let at_q : drop q T ≡ 59 ∷ d ∷ lay h ms =
       subst (λ r. drop r T ≡ 59 ∷ d ∷ lay h ms) (sym gap.blanks) there in
-      let behind_it = byte_behind S q 59 d (lay h ms) at_q in
+      let behind_it = byte_after S q 59 d (lay h ms) at_q in
       record {
         token_is = token_is q (lay h ms) at_q;
         no_comment_it = no_byte S q 59 (d ∷ lay h ms) 35 refl at_q;
@@ -511,7 +511,7 @@ module _ {edition : Edition} {B T : List ℕ} {o : ℕ} {S : StandsIn edition B 
       → Alike (print_cases y (case_margin y m) items
       ++ (print_comment_lines (case_margin y m) tail ++ (text m ∷ text (codes "esac") ∷ rest)))
       (next_marks y m items tail rest)
-  unfolding laid_behind
+  unfolding laid_after
   items_are m no_case tail rest good held = refl
   items_are m (more_cases (case_item cs no_pattern body mark) items) tail rest good held = absurd good.0.1
   items_are m (more_cases (case_item cs (more_patterns w ws) body mark) items) tail rest good held =
@@ -530,13 +530,13 @@ module _ {edition : Edition} {B T : List ℕ} {o : ℕ} {S : StandsIn edition B 
       (D ++ (E ∷ line_end ∷ (I ++ R))))) in
       let ended = laid_same (print_body y P body) (E ∷ line_end ∷ (I ++ R)) (E ∷ line_end ∷ N)
       (λ held. ap (λ z. ender mark.falls ++ (10 ∷ held ++ z)) (items_are m items tail rest good.1 [])) in
-      let behind_patterns : Alike (print_patterns ws ++ (D ++ (E ∷ line_end ∷ (I ++ R))))
+      let after_patterns : Alike (print_patterns ws ++ (D ++ (E ∷ line_end ∷ (I ++ R))))
       (more_marks ws (print_body y P body ++ (E ∷ line_end ∷ N))) =
       λ held. laid_same (print_patterns ws) (D ++ (E ∷ line_end ∷ (I ++ R))) (D ++ (E ∷ line_end ∷ N))
       (λ held. ap (λ z. 41 ∷ z) (ended held)) held
       ∙ more_are ws (print_body y P body ++ (E ∷ line_end ∷ N)) held in
-      ap (laid_behind held) parts
-      ∙ laid_same C _ _ (λ held. ap (λ z. P ++ z) (laid_same (print_word w) _ _ behind_patterns held)) held
+      ap (laid_after held) parts
+      ∙ laid_same C _ _ (λ held. ap (λ z. P ++ z) (laid_same (print_word w) _ _ after_patterns held)) held
 
   items_operand : (h : Held) (m : Text) (items : Shape CaseItemsOf) (tail : Row Text) (rest : Marks) →
       GoodCases edition room items → Ends rest → (p : ℕ) → At S h p (items_marks y m items tail rest) → Operand S p

@@ -34,7 +34,7 @@ use Rattle.shprint.proofs.Tokens.{open_token, bang_here, byte_here, start_here, 
 use Rattle.shprint.proofs.Gives.{Gives, gives_on, told_here, ◌⟫◌, given_here, seen_here, moved_here, pushed_here, first_of, second_of, last_turn, one_turn}
 use Rattle.shprint.proofs.Held.{At, Followed, Held, StandsIn, g, lay, state, texts_of}
 use Rattle.shprint.proofs.Good.{of_command, GoodRedirects, GoodAndOr, GoodParts, GoodPipeline, GoodPipes, GoodCompound, GoodCommand, GoodComments, GoodItems, none_more, one_more, SomeItem, GoodBody, GoodFunction, parts_of_function}
-use Rattle.shprint.proofs.PrintedText.{laid_text, deeper_blank, deeper_some, operand_blank, begins_command, no_other, join_rest, join_parted, operator_token, Adds, at_text, span_text, some_here, leads, told, asked, asked_behind, tell, next_read, Got, Follower, Opens, margin_gap, join_read, follower_behind, space_then, pipe_follower, operator_follower, Begins, no_sharp, begins_operand, PipelineBegins}
+use Rattle.shprint.proofs.PrintedText.{laid_text, deeper_blank, deeper_some, operand_blank, begins_command, no_other, join_rest, join_parted, operator_token, Adds, at_text, span_text, some_here, leads, told, asked, asked_after, tell, next_read, Got, Follower, Opens, margin_gap, join_read, follower_after, space_then, pipe_follower, operator_follower, Begins, no_sharp, begins_operand, PipelineBegins}
 use Rattle.shprint.proofs.PrintedItems.{items_follow, printed_word, ItemThere, item_there, items_read, simple_command}
 
 -- ---- commands
@@ -164,7 +164,7 @@ module _ {edition : Edition} {B T : List ℕ} {o : ℕ} {S : StandsIn edition B 
       let at_e = at_text S h p name (text (codes "()") ∷ X) (at ∙ ap (lay h) (function_is y m name cs body rest)) in
       let head = at_e ∙ laid_text h (codes "()") X in
       let gap = no_gap (start_here (byte_here T e 40 (41 ∷ lay h X) refl head) refl) in
-      let paren = ap (λ (n : Next). is_paren n.token) (asked_behind S Suffix gap)
+      let paren = ap (λ (n : Next). is_paren n.token) (asked_after S Suffix gap)
       ∙ ap is_paren (tell S (open_token Suffix T e (41 ∷ lay h X) head)) in
       let r = fine.function_back h m
       (span o p e) cs body e rest t blank good.own good.inside normal f none at_e in
@@ -174,7 +174,7 @@ module _ {edition : Edition} {B T : List ℕ} {o : ℕ} {S : StandsIn edition B 
       (printed_word S room h name no_subst p v).reads).1 in
       let on_blank = subst (λ q. Gives (g S) ((level room).function (span o p e)) (state h q)
       (r.value, asked S Command r.«end») (state r.later (past_blanks T r.«end»))) (sym gap.blanks) r.reads in
-      let behind_name = subst (λ z. Gives (g S) ((level room).function z) (state h (past_blanks T e))
+      let after_name = subst (λ z. Gives (g S) ((level room).function z) (state h (past_blanks T e))
       (r.value, asked S Command r.«end») (state r.later (past_blanks T r.«end»))) (sym place) on_blank in
       record {
         value = r.value;
@@ -184,7 +184,7 @@ module _ {edition : Edition} {B T : List ℕ} {o : ℕ} {S : StandsIn edition B 
         texts = r.texts;
         reads = first_of _ _ (ap is_word (token_is ∙ tell S found.token_is))
             (seen_here is_a_name ⟫ printed_word S room h name no_subst p v ⟫ next_read S h Suffix e ⟫ first_of _ _ paren
-            (first_of _ _ name_is behind_name));
+            (first_of _ _ name_is after_name));
         is = r.is ∙ ap (λ z. open_command [] (function z cs body)) (span_text S p name (40 ∷ 41 ∷ lay h X) there);
       }
 
@@ -204,7 +204,7 @@ module _ {edition : Edition} {B T : List ℕ} {o : ℕ} {S : StandsIn edition B 
       let r = fine.back h m c p (P ++ rest) b.0 blank good normal
       (items_follow y m (redirects_of c) rest f.follow) b.1 (at ∙ ap (lay h) (compound_printed y m c rest)) in
       let is = items_read S room y m d.0 d.1 (deeper_blank y m blank) d.2 rest f.follow
-      (follower_behind S f none) r.later
+      (follower_after S f none) r.later
       (good_redirects c good).items [] r.«end» tt r.at in
       let read : Gives (g S) ((level room).compound b.0 >>= with_redirect_list (level room)) (state h p)
       (with_redirects r.value (items_of is.more_items_read), asked S Command is.«end»)
@@ -230,7 +230,7 @@ module _ {edition : Edition} {B T : List ℕ} {o : ℕ} {S : StandsIn edition B 
   command_read h m (simple is) n p rest t blank good normal f none token_is at =
       let d = deeper_some y m in
       simple_command S room y m d.0 d.1 (deeper_blank y m blank) d.2 rest f.follow
-      (follower_behind S f none) h is n p good
+      (follower_after S f none) h is n p good
       (and_parts _ _ normal).0 token_is at
   command_read h m (compound c) n p rest t blank good normal f none token_is at =
       let b = fine.opens h m c p rest good at in

@@ -31,14 +31,14 @@ use Rattle.shast.specs.declared.tree.Span.{Span}
 use Rattle.shast.specs.Shape.{Text, Shape, shape_of_entry, shape_of, shape_of_branch, shape_of_branches, shape_of_else, shape_of_form, shape_of_for_words, shape_of_word}
 use Rattle.shast.specs.Tree.{AWordOf, ForWordsOf, ForWords, no_in, in_words, AWord, ABranchOf, ABranch, branch, BranchesOf, no_branch, more_branches, branches_of, OtherwiseOf, Otherwise, no_else, otherwise, EntriesOf, Entries, no_entry, more_entries, remark, AnEntry, entry, command, AnAndOrOf, AForm, if_then, for_in, items_of, ItemsOf}
 use Rattle.shprint.specs.declared.layout.Layout.{Layout}
-use Rattle.shprint.specs.Marks.{text, line_end, Marks, laid_behind, one, deeper, lines_between}
+use Rattle.shprint.specs.Marks.{text, line_end, Marks, laid_after, one, deeper, lines_between}
 use Rattle.shprint.specs.Printed.{print_for_words, print_word, print_branch, print_branches, print_else, is_one_line, print_only, print_entries, print_and_or, print_items}
 use Rattle.shprint.proofs.Tokens.{in_here, then_here, elif_here, else_here, fi_here, do_here, done_here, close_brace_here, close_token, semicolon_token, Keyword, byte_here, start_here, Start, all_blank, no_gap}
 use Rattle.shprint.proofs.Gives.{Gives, gives_on, told_here, ◌⟫◌, given_here, seen_here, moved_here, pushed_here, first_of, second_of, last_turn, one_turn}
 use Rattle.shprint.proofs.Held.{At, Followed, Held, StandsIn, g, held_bytes, lay, state, texts_of}
 use Rattle.shprint.proofs.BodiesOfParts.{for_words_open, for_words_bodies}
 use Rattle.shprint.proofs.Good.{GoodForWords, GoodName, GoodForm, GoodElse, GoodBranches, GoodBranch, GoodEntries, GoodAndOr}
-use Rattle.shprint.proofs.PrintedText.{laid_text, after_line, Alike, laid_same, deeper_blank, deeper_some, no_more, Adds, at_text, leads, told, asked, asked_behind, tell, tell_word, next_read, some_word, Follower, no_byte, no_newline_read, no_comment_read, margin_gap, last_join_turn, follower_behind, no_sharp, PipelineBegins}
+use Rattle.shprint.proofs.PrintedText.{laid_text, after_line, Alike, laid_same, deeper_blank, deeper_some, no_more, Adds, at_text, leads, told, asked, asked_after, tell, tell_word, next_read, some_word, Follower, no_byte, no_newline_read, no_comment_read, margin_gap, last_join_turn, follower_after, no_sharp, PipelineBegins}
 use Rattle.shprint.proofs.PrintedItems.{items_follow, printed_word, items_read}
 use Rattle.shprint.proofs.PrintedCommands.{Fine, and_or_begins, and_or_read}
 use Rattle.shprint.proofs.PrintedLists.{at_line_start, on_this_line, some_separator, no_remark, pipeline_within, Closes, no_entry_turn, list_of, block_read}
@@ -68,11 +68,11 @@ abbrev pub Ends : Marks → Type 0
 Ends ms = (h : Held) → WordEnd (lay h ms)
 
 pub line_end_end : (ms : Marks) → Ends (line_end ∷ ms)
-unfolding laid_behind
+unfolding laid_after
 line_end_end ms h = record { x = 10; xs = after_line h ms; is = refl; clear = refl; stops = refl }
 
 pub space_end : (ms : Marks) → Ends (text (codes " ") ∷ ms)
-unfolding laid_behind
+unfolding laid_after
 space_end ms h = record { x = 32; xs = lay h ms; is = refl; clear = refl; stops = refl }
 
 -- ---- conditions on one line
@@ -150,17 +150,17 @@ module _ (y : Layout) where
       ∷ (print_items y m items ++ (text (codes "; ") ∷ text (codes "do") ∷ ms))
 
   head_follows : (m : Text) (words : Shape ForWordsOf) (ms : Marks) → Followed (head_marks m words ms)
-  unfolding laid_behind
+  unfolding laid_after
   head_follows m no_in ms held = refl
   head_follows m (in_words items) ms held = refl
 
   pub head_is : (m : Text) (words : Shape ForWordsOf) (ms : Marks) →
       Alike (print_for_words y m words ++ ms) (head_marks m words ms)
-  unfolding laid_behind
+  unfolding laid_after
   head_is m no_in ms held = refl
   head_is m (in_words items) ms held =
       let P = print_items y m items in
-      ap (laid_behind held) (append_assoc (text (codes " in") ∷ P) (one (codes "; do")) ms)
+      ap (laid_after held) (append_assoc (text (codes " in") ∷ P) (one (codes "; do")) ms)
       ∙ ap (λ z. codes " in" ++ z)
       (laid_same P (text (codes "; do") ∷ ms) (text (codes "; ") ∷ text (codes "do") ∷ ms)
       (λ held. refl) held)
@@ -278,13 +278,13 @@ module _ {edition : Edition} {B T : List ℕ} {o : ℕ} (S : StandsIn edition B 
   -- ---- semicolons, and where no line ends
 
   semicolon_follower : (ms : Marks) → Follower S (text (codes "; ") ∷ ms) tokens.Semicolon
-  unfolding laid_behind
+  unfolding laid_after
   semicolon_follower ms = record {
     follow = λ held. refl;
     no_round = refl;
     seen_as = λ h e at position.
         let there = at ∙ laid_text h (codes "; ") ms in
-        asked_behind S position (no_gap (start_here (byte_here T e 59 (32 ∷ lay h ms) refl there) refl))
+        asked_after S position (no_gap (start_here (byte_here T e 59 (32 ∷ lay h ms) refl there) refl))
         ∙ ap (λ t. record { token = token_in edition t; broken = false })
         (semicolon_token position T e 32 (lay h ms) refl refl refl there);
   }
@@ -823,7 +823,7 @@ module _ {edition : Edition} {B T : List ℕ} {o : ℕ} {S : StandsIn edition B 
       let at_q = subst (λ r. At S h r (text t ∷ ms)) (sym gap.blanks) behind_it in
       let there_q = at_q ∙ laid_text h t ms in
       let v = (good.reads.there (g S) q (lay h ms) there_q (follow (held_bytes h.waiting))).word B (sym S.here) in
-      let begins = ap (λ (n : Next). begins_word n.token) (asked_behind S Suffix gap)
+      let begins = ap (λ (n : Next). begins_word n.token) (asked_after S Suffix gap)
       ∙ ap begins_word (tell_word S (item_is_word good.token good.begins) found.token_is) ∙ good.begins in
       record {
         value = v.0;
@@ -886,7 +886,7 @@ module _ {edition : Edition} {B T : List ℕ} {o : ℕ} {S : StandsIn edition B 
       let k = keyword_read S h (codes " ") (codes "in") reserved.In f (P ++ X) refl (in_key S (P ++ X) stops) at in
       let is = items_read S room y m some_margin.0 some_margin.1
       (deeper_blank y m blank) some_margin.2 X follower.follow
-      (follower_behind S follower refl) h good.items [] k.f (λ none. (and_parts _ _ normal).0) k.at in
+      (follower_after S follower refl) h good.items [] k.f (λ none. (and_parts _ _ normal).0) k.at in
       let sep = sep_read is.later is.«end» (codes "do") reserved.Do ms (do_key S ms stop) is.at in
       let n = asked S Command f in
       let q = past_blanks T f in

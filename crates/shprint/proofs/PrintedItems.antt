@@ -19,7 +19,7 @@ use Rattle.shgrammar.specs.Levels.{level}
 use Rattle.shast.specs.Nodes.{word_span}
 use Rattle.shast.specs.Normal.{first_not_broken}
 use Rattle.shgrammar.specs.Compounds.{word_turn}
-use Rattle.shgrammar.specs.Commands.{a_document, open_document, is_strip, a_command, begins_simple, is_empty, pick, Items, behind_word, begins_redirect, is_number_token, redirect_operator_of, is_long, a_number, an_operator, operator_by, a_target, one_redirect, behind_redirect, redirect_turn, so_many, breaks, as_item, an_item, item_turn, a_simple, is_word, is_paren, a_word_command}
+use Rattle.shgrammar.specs.Commands.{a_document, open_document, is_strip, a_command, begins_simple, is_empty, pick, Items, after_word, begins_redirect, is_number_token, redirect_operator_of, is_long, a_number, an_operator, operator_by, a_target, one_redirect, after_redirect, redirect_turn, so_many, breaks, as_item, an_item, item_turn, a_simple, is_word, is_paren, a_word_command}
 use Rattle.shgrammar.proofs.MovedTrees.{pushed_some}
 use Rattle.shgrammar.proofs.Places.{blanks_low}
 use Rattle.shgrammar.proofs.Anywhere.{WordOf}
@@ -34,14 +34,14 @@ use Rattle.shast.specs.Spelling.{redirect_text}
 use Rattle.shast.specs.Shape.{shape_of_here, Text, Shape, bare, bare_at, text_at, shape_of_items, shape_of_item, shape_of_command, shape_of_word}
 use Rattle.shast.specs.Tree.{AHere, AHereOf, AWordOf, AnItemOf, AnItem, AWord, item, items_of, ItemsOf, no_item, more_items, redirect, simple, SubstsOf, word, argument}
 use Rattle.shprint.specs.declared.layout.Layout.{Layout}
-use Rattle.shprint.specs.Marks.{text, Marks, laid_behind, one, deeper}
+use Rattle.shprint.specs.Marks.{text, Marks, laid_after, one, deeper}
 use Rattle.shprint.specs.Printed.{delimiter_line, print_here, print_gap, print_number, duplicates, would_lengthen, is_broken_item, print_item, print_items, print_simple}
 use Rattle.shprint.proofs.Tokens.{IsWhole, Reads, is_here, first, byte_here, start_here, skip, text_here, Gap, Start, all_blank, blank_gap, broken_gap, no_gap, next_one, kind_of, item_no_round, no_word, no_item_token, NoLonger, space_no_longer, word_no_longer, redirect_token, NumberHere, number_token, angle_first, angle_clear, angle_no_blank, RedirectThere, redirect_is_item, redirect_no_word, delimiter_stays}
 use Rattle.shprint.proofs.Digits.{bare_of_digits}
 use Rattle.shprint.proofs.Gives.{Gives, gives, told_here, ◌⟫◌, given_here, seen_here, moved_here, pushed_here, first_of, second_of, last_turn, one_turn}
 use Rattle.shprint.proofs.Held.{At, Document, Followed, Held, StandsIn, bytes_more, g, held_bytes, lay, one_waits, state, with_document}
-use Rattle.shprint.proofs.Good.{GoodHere, Kind, of_command, of_for, of_compound, GoodItem, of_word, of_argument, of_redirect, of_redirect_behind, GoodNumber, GoodRedirect, a_redirect_of, GoodItems, none_more, one_more, GoodSimple, SomeItem, an_item_of}
-use Rattle.shprint.proofs.PrintedText.{laid_text, Adds, at_text, span_text, leads, told, asked, asked_behind, tell, tell_word, next_read, some_word, byte_moved, byte_behind, Behind, Got}
+use Rattle.shprint.proofs.Good.{GoodHere, Kind, of_command, of_for, of_compound, GoodItem, of_word, of_argument, of_redirect, of_redirect_after, GoodNumber, GoodRedirect, a_redirect_of, GoodItems, none_more, one_more, GoodSimple, SomeItem, an_item_of}
+use Rattle.shprint.proofs.PrintedText.{laid_text, Adds, at_text, span_text, leads, told, asked, asked_after, tell, tell_word, next_read, some_word, byte_moved, byte_after, Behind, Got}
 
 -- ---- items as they are printed
 
@@ -60,7 +60,7 @@ more_printed y m i is rest =
     append_assoc (gap ++ print_item y i) others rest ∙ append_assoc gap (print_item y i) (others ++ rest)
 
 gap_follows : (y : Layout) (m : Text) (b : Bool) (ms : Marks) → Followed (print_gap y m b ++ ms)
-unfolding laid_behind
+unfolding laid_after
 gap_follows y m true ms held = refl
 gap_follows y m false ms held = refl
 
@@ -68,7 +68,7 @@ pub items_follow : (y : Layout) (m : Text) (is : Shape ItemsOf) (rest : Marks) �
     Followed (print_items y m is ++ rest)
 items_follow y m no_item rest follow held = follow held
 items_follow y m (more_items i is) rest follow held =
-    ap (λ ms. follows (laid_behind held ms)) (more_printed y m i is rest)
+    ap (λ ms. follows (laid_after held ms)) (more_printed y m i is rest)
     ∙ gap_follows y m (is_broken_item i) (print_item y i ++ (print_items y m is ++ rest)) held
 
 module _ {edition : Edition} {B T : List ℕ} {o : ℕ} (S : StandsIn edition B T o) (room : ℕ) where
@@ -159,7 +159,7 @@ module _ {edition : Edition} {B T : List ℕ} {o : ℕ} (S : StandsIn edition B 
       let two : p + 1 + 1 ≡ p + 2 = omega arith in
       subst (λ q. Gives (g S) (move one_byte >> move one_byte >> give {X = Unit {0}} tt) (state h p) tt (state h q)) two
       (byte_moved S h p c (d ∷ xs) clear at ⟫ byte_moved S h (p + 1) d xs clear_too
-      (byte_behind S p c d xs at) ⟫ given_here)
+      (byte_after S p c d xs at) ⟫ given_here)
 
   operator_moves : (h : Held) (k : RedirectOperator) (p : ℕ) (xs : Text) → drop p T ≡ redirect_text k ++ xs
       → Gives (g S) (move one_byte >> pick (is_long k) (move one_byte) (give tt) >> pick (is_strip k) (move one_byte)
@@ -173,10 +173,10 @@ module _ {edition : Edition} {B T : List ℕ} {o : ℕ} (S : StandsIn edition B 
   operator_moves h redirects.ReadWrite p xs at = two_bytes_move h p 60 62 xs refl refl at
   operator_moves h redirects.HereStripped p xs at =
       let three : p + 1 + 1 + 1 ≡ p + 3 = omega arith in
-      let there = byte_behind S p 60 60 (45 ∷ xs) at in
+      let there = byte_after S p 60 60 (45 ∷ xs) at in
       subst (λ q. Gives (g S) (move one_byte >> move one_byte >> move one_byte) (state h p) tt (state h q)) three
       (byte_moved S h p 60 (60 ∷ 45 ∷ xs) refl at ⟫ byte_moved S h (p + 1) 60 (45 ∷ xs) refl there ⟫ byte_moved S h
-      (p + 1 + 1) 45 xs refl (byte_behind S (p + 1) 60 45 xs there))
+      (p + 1 + 1) 45 xs refl (byte_after S (p + 1) 60 45 xs there))
   operator_moves h redirects.Clobber p xs at = two_bytes_move h p 62 124 xs refl refl at
 
   -- the number before an operator, or none
@@ -251,7 +251,7 @@ module _ {edition : Edition} {B T : List ℕ} {o : ℕ} (S : StandsIn edition B 
           q = q;
           reads = subst (λ r. Gives (g S) (a_number n) (state h p) (Some (span o p q), asked S Suffix q) (state h r))
               gap.blanks read;
-          token_is = ap (λ (n : Next). n.token) (asked_behind S Suffix gap) ∙ operator_there h Suffix q at_q;
+          token_is = ap (λ (n : Next). n.token) (asked_after S Suffix gap) ∙ operator_there h Suffix q at_q;
           at = at_q;
           low = omega arith;
           shape = ap (λ t. Some (bare t))
@@ -264,14 +264,14 @@ module _ {edition : Edition} {B T : List ℕ} {o : ℕ} (S : StandsIn edition B 
         At S h p (print_number number ++ (text (redirect_text k) ∷ ms)) → RedirectThere edition position T p
     redirect_begins h position None p digits at =
         let is = operator_there h position p at in
-        record { start = operator_start h p at; redirect = ap begins_redirect is; no_word = ap behind_word is }
+        record { start = operator_start h p at; redirect = ap begins_redirect is; no_word = ap after_word is }
     redirect_begins h position (Some []) p digits at = absurd digits
     redirect_begins h position (Some (d ∷ ds)) p digits at =
         let number = number_there h position d ds p digits at in
         record {
           start = number.start;
           redirect = ap begins_redirect (tell S number.token);
-          no_word = ap behind_word (tell S number.token);
+          no_word = ap after_word (tell S number.token);
         }
 
   -- the word of a redirection, after its operator
@@ -352,7 +352,7 @@ module _ {edition : Edition} {B T : List ℕ} {o : ℕ} (S : StandsIn edition B 
       (doc : Option (AHereOf Text)) (rest : Marks) → GoodHere edition k t doc →
       At S h f (print_here (word t ss) doc ++ rest)
       → DocumentRead h k b p t f doc rest
-  unfolding a_document laid_behind
+  unfolding a_document laid_after
   document_read h k b p t f ss None rest none at = record {
     value = None;
     later = h;
@@ -375,7 +375,7 @@ module _ {edition : Edition} {B T : List ℕ} {o : ℕ} (S : StandsIn edition B 
       record {
         value = Some (open_document (is_strip k) good.d);
         later = with_document h x;
-        at = at ∙ ap (λ held. laid_behind held rest) bytes;
+        at = at ∙ ap (λ held. laid_after held rest) bytes;
         reads = first_of _ _ good.takes
             (seen_here (the_delimiter t) ⟫ rw good.delimits (one_waits h x f ⟫ given_here));
         shape = rw (good.literal, good.strip) refl;
@@ -408,20 +408,20 @@ module _ {edition : Edition} {B T : List ℕ} {o : ℕ} (S : StandsIn edition B 
     spaced = (y.space_redirects && not (duplicates k)) || would_lengthen k t
 
     -- what stands after the word
-    abbrev behind_word_marks : Marks
-    behind_word_marks = print_here (word t ss) doc ++ rest
+    abbrev after_word_marks : Marks
+    after_word_marks = print_here (word t ss) doc ++ rest
 
-    abbrev behind_operator : Marks
-    behind_operator = (if spaced then one (codes " ") else []) ++ (text t ∷ behind_word_marks)
+    abbrev after_operator : Marks
+    after_operator = (if spaced then one (codes " ") else []) ++ (text t ∷ after_word_marks)
 
     document_follows : (doc : Option (AHereOf Text)) → Followed (print_here (word t ss) doc ++ rest)
-    unfolding laid_behind
+    unfolding laid_after
     document_follows None held = follow held
     document_follows (Some d) held = follow (held ++ (d.body ++ delimiter_line (delimiter_of t)))
 
     redirect_printed : (b : Bool) →
         print_item y (a_redirect_of b number k t ss doc) ++ rest ≡ print_number number
-        ++ (text (redirect_text k) ∷ behind_operator)
+        ++ (text (redirect_text k) ∷ after_operator)
     redirect_printed b =
         let O = text (redirect_text k) ∷ (if spaced then one (codes " ") else []) in
         let D = print_here (word t ss) doc in
@@ -436,19 +436,19 @@ module _ {edition : Edition} {B T : List ℕ} {o : ℕ} (S : StandsIn edition B 
         by_or true b e = absurd cc
         by_or false b e = e
 
-    target_at : (h : Held) (e : ℕ) → At S h e behind_operator → TargetThere h k e t behind_word_marks
-    target_at h e at = target_there h k spaced e t ss behind_word_marks no_strip good.reads (document_follows doc) at
+    target_at : (h : Held) (e : ℕ) → At S h e after_operator → TargetThere h k e t after_word_marks
+    target_at h e at = target_there h k spaced e t ss after_word_marks no_strip good.reads (document_follows doc) at
 
-    no_longer_at : (h : Held) (e : ℕ) → At S h e behind_operator → NoLonger T e
+    no_longer_at : (h : Held) (e : ℕ) → At S h e after_operator → NoLonger T e
     no_longer_at h e at = (target_at h e at).no_longer
 
-    whole_at : (h : Held) (e : ℕ) → At S h e behind_operator → IsWhole k T e
+    whole_at : (h : Held) (e : ℕ) → At S h e after_operator → IsWhole k T e
     whole_at h e at = (target_at h e at).is_whole
 
     redirect_there : (h : Held) (position : Position) (b : Bool) (p : ℕ) →
         At S h p (print_item y (a_redirect_of b number k t ss doc) ++ rest) → RedirectThere edition position T p
     redirect_there h position b p at =
-        redirect_begins k behind_operator whole_at no_longer_at h position number p good.digits
+        redirect_begins k after_operator whole_at no_longer_at h position number p good.digits
         (at ∙ ap (lay h) (redirect_printed b))
 
     redirect_shape : (broken : Bool) (d : Option Span) (s : Span) (w : AWord) (v : Option AHere) →
@@ -463,36 +463,36 @@ module _ {edition : Edition} {B T : List ℕ} {o : ℕ} (S : StandsIn edition B 
         → RedirectRead h broken acc next n p (a_redirect_of broken number k t ss doc) rest
     unfolding one_redirect a_target an_operator item_bodies item_content_bodies
     redirect_read h position broken b acc next n p token_is at =
-        let d = number_read k behind_operator whole_at no_longer_at h position number n p good.digits token_is
+        let d = number_read k after_operator whole_at no_longer_at h position number n p good.digits token_is
         (at ∙ ap (lay h) (redirect_printed b)) in
         let e = d.q + length (redirect_text k) in
-        let w = target_at h e (at_text S h d.q (redirect_text k) behind_operator d.at) in
+        let w = target_at h e (at_text S h d.q (redirect_text k) after_operator d.at) in
         let q = past_blanks T e in
-        let at_q = subst (λ r. At S h r (text t ∷ behind_word_marks)) (sym w.gap.blanks) w.at in
+        let at_q = subst (λ r. At S h r (text t ∷ after_word_marks)) (sym w.gap.blanks) w.at in
         let held = held_bytes h.waiting in
-        let v = (good.reads.there (g S) q (lay h behind_word_marks) (at_q ∙ laid_text h t behind_word_marks)
+        let v = (good.reads.there (g S) q (lay h after_word_marks) (at_q ∙ laid_text h t after_word_marks)
         (document_follows doc held)).word B (sym S.here) in
         let f = q + length t in
-        let found = good.reads.there (g S) w.f (lay h behind_word_marks) (w.at ∙ laid_text h t behind_word_marks)
+        let found = good.reads.there (g S) w.f (lay h after_word_marks) (w.at ∙ laid_text h t after_word_marks)
         (document_follows doc held) in
         let word_is : is_word (asked S Suffix e).token ≡ true =
-        ap (λ (n : Next). is_word n.token) (asked_behind S Suffix w.gap) ∙ ap is_word (tell S found.token_is) in
-        let moves = operator_moves h k d.q (lay h behind_operator)
-        (d.at ∙ laid_text h (redirect_text k) behind_operator) in
+        ap (λ (n : Next). is_word n.token) (asked_after S Suffix w.gap) ∙ ap is_word (tell S found.token_is) in
+        let moves = operator_moves h k d.q (lay h after_operator)
+        (d.at ∙ laid_text h (redirect_text k) after_operator) in
         let operator : Gives (g S) (operator_by (o + p) (redirect_operator_of d.next.token)) (state h d.q)
         (k, span o d.q e) (state h e) =
         rw d.token_is (told_here (by (redirect_text k)) moves ⟫ given_here) in
         let size : f - q ≡ length t = omega arith in
         let raw_is : raw T q f ≡ t = ap (λ n. take n (drop q T)) size
-        ∙ text_here T q t (lay h behind_word_marks) (at_q ∙ laid_text h t behind_word_marks) in
+        ∙ text_here T q t (lay h after_word_marks) (at_q ∙ laid_text h t after_word_marks) in
         let word_bytes : Gives (g S) (with_bytes (a_word (level room))) (state h q) (v.0, t) (state h f) =
         subst (λ z. Gives (g S) (with_bytes (a_word (level room))) (state h q) (v.0, z) (state h f)) raw_is
         (bytes_here (printed_word h t ss q v)) in
         let x = document_read h k (span o d.q e).start (word_span v.0).start t f ss doc rest good.document
-        (at_text S h q t behind_word_marks at_q) in
+        (at_text S h q t after_word_marks at_q) in
         let it = item broken (redirect d.value k (span o d.q e) v.0 x.value) in
-        let within = some_word S q t (lay h behind_word_marks) good.reads.some
-        (at_q ∙ laid_text h t behind_word_marks) in
+        let within = some_word S q t (lay h after_word_marks) good.reads.some
+        (at_q ∙ laid_text h t after_word_marks) in
         let low : e ≤ q = blanks_low T e in
         let low_f : f ≤ past_blanks T f = blanks_low T f in
         record {
@@ -511,7 +511,7 @@ module _ {edition : Edition} {B T : List ℕ} {o : ℕ} (S : StandsIn edition B 
 
   -- ---- items of each kind
 
-  item_begins : (t : Token) (position : Position) → behind_word t ≡ Some position → begins_simple t ≡ true
+  item_begins : (t : Token) (position : Position) → after_word t ≡ Some position → begins_simple t ≡ true
   item_begins t position e = rw e refl
 
   -- where an item is printed
@@ -520,7 +520,7 @@ module _ {edition : Edition} {B T : List ℕ} {o : ℕ} (S : StandsIn edition B 
     pub begins : begins_simple (told S position p) ≡ true
 
   word_there : (h : Held) (position next : Position) (token : Token) (w : Text) (ss : Shape SubstsOf) →
-      behind_word token ≡ Some next → ItemAnywhere edition room position token w ss → (p : ℕ) (rest : Marks) →
+      after_word token ≡ Some next → ItemAnywhere edition room position token w ss → (p : ℕ) (rest : Marks) →
       Followed rest
       → At S h p (text w ∷ rest) → ItemThere position p
   word_there h position next token w ss some good p rest follow at =
@@ -545,7 +545,7 @@ module _ {edition : Edition} {B T : List ℕ} {o : ℕ} (S : StandsIn edition B 
       {h = doc} good) p rest follow at =
       let r = redirect_there y number k t ss doc good rest follow h position b p at in
       record { start = r.start; begins = redirect_is_item (told S position p) r.redirect }
-  item_there h y (of_redirect_behind {broken = b} {number = number} {o = k} {t = t} {ss = ss} {h = doc} good) p rest
+  item_there h y (of_redirect_after {broken = b} {number = number} {o = k} {t = t} {ss = ss} {h = doc} good) p rest
       follow at =
       let r = redirect_there y number k t ss doc good rest follow h Command b p at in
       record { start = r.start; begins = redirect_is_item (told S Command p) r.redirect }
@@ -589,8 +589,8 @@ module _ {edition : Edition} {B T : List ℕ} {o : ℕ} (S : StandsIn edition B 
       {h = doc} good) acc n p rest token_is follow at =
       let there = redirect_there y number k t ss doc good rest follow h position b p at in
       let r = redirect_read y number k t ss doc good rest follow h position (breaks (so_many acc position n)) b acc
-      (behind_redirect position) n p token_is at in
-      let none : behind_word n.token ≡ None = ap behind_word token_is ∙ there.no_word in
+      (after_redirect position) n p token_is at in
+      let none : after_word n.token ≡ None = ap after_word token_is ∙ there.no_word in
       let begins : begins_redirect n.token ≡ true = ap begins_redirect token_is ∙ there.redirect in
       record {
         it = r.it;
@@ -602,7 +602,7 @@ module _ {edition : Edition} {B T : List ℕ} {o : ℕ} (S : StandsIn edition B 
         is = r.is;
         texts = r.texts;
       }
-  item_read h y (of_redirect_behind {broken = b} {number = number} {o = k} {t = t} {ss = ss} {h = doc} good) acc n p
+  item_read h y (of_redirect_after {broken = b} {number = number} {o = k} {t = t} {ss = ss} {h = doc} good) acc n p
       rest token_is follow at =
       let there = redirect_there y number k t ss doc good rest follow h Command b p at in
       let r = redirect_read y number k t ss doc good rest follow h Command n.broken b acc Command n p token_is at in
@@ -768,7 +768,7 @@ module _ {edition : Edition} {B T : List ℕ} {o : ℕ} (S : StandsIn edition B 
         record {
           at = subst (λ q. At S h q ms) (sym passed.blanks) gap.at;
           broken = passed.breaks;
-          begins = ap (λ (n : Next). begins_simple n.token) (asked_behind S position passed) ∙ there.begins;
+          begins = ap (λ (n : Next). begins_simple n.token) (asked_after S position passed) ∙ there.begins;
         }
 
     pub items_read : {kind : Kind} (h : Held) {position last : Position} {is : Shape ItemsOf} →

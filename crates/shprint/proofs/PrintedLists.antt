@@ -30,13 +30,13 @@ use Rattle.shast.specs.declared.tree.Span.{Span}
 use Rattle.shast.specs.Shape.{Text, Shape, shape_of_and_or, shape_of_comment, shape_of_entry, shape_of}
 use Rattle.shast.specs.Tree.{EntriesOf, no_entry, more_entries, entries_of, AContentOf, remark, AnEntryOf, AnEntry, entry, command, AnAndOr, AnAndOrOf}
 use Rattle.shprint.specs.declared.layout.Layout.{Layout}
-use Rattle.shprint.specs.Marks.{text, line_end, Marks, laid_behind, one}
+use Rattle.shprint.specs.Marks.{text, line_end, Marks, laid_after, one}
 use Rattle.shprint.specs.Printed.{print_content, print_entry, print_entries, print_blank, print_background, print_own_comment, print_and_or}
 use Rattle.shprint.proofs.Tokens.{ampersand_token, first, byte_here, newline_token, start_here, Start, all_blank, blank_gap, no_gap, next_one}
 use Rattle.shprint.proofs.Gives.{Gives, gives_on, told_here, ◌⟫◌, given_here, moved_here, pushed_here, first_of, second_of, last_turn, one_turn}
 use Rattle.shprint.proofs.Held.{At, Held, StandsIn, g, lay, state}
 use Rattle.shprint.proofs.Good.{GoodContent, GoodEntries, GoodOwnComment, GoodAndOr}
-use Rattle.shprint.proofs.PrintedText.{laid_text, after_line, laid_line, Parted, no_more, Adds, at_text, some_here, leads, told, asked, asked_behind, tell, next_read, Got, Follower, no_byte, newline_next, newline_read, no_newline_read, no_comment_read, comment_read, comment_shape, comment_start, margin_gap, PipelineBegins}
+use Rattle.shprint.proofs.PrintedText.{laid_text, after_line, laid_line, Parted, no_more, Adds, at_text, some_here, leads, told, asked, asked_after, tell, next_read, Got, Follower, no_byte, newline_next, newline_read, no_newline_read, no_comment_read, comment_read, comment_shape, comment_start, margin_gap, PipelineBegins}
 use Rattle.shprint.proofs.PrintedCommands.{Fine, and_or_begins, and_or_read}
 
 -- ---- entries and lines as they are printed
@@ -48,7 +48,7 @@ entry_rest background comment rest = print_background background
 
 own_parted : (h : Held) (comment : Option Text) (rest : Marks) →
     Parted (lay h (print_own_comment comment ++ (line_end ∷ rest)))
-unfolding laid_behind
+unfolding laid_after
 own_parted h None rest = record {
   c = 10;
   cs = _;
@@ -106,7 +106,7 @@ module _ {edition : Edition} {B T : List ℕ} {o : ℕ} (S : StandsIn edition B 
     no_operator : and_or_operator_of token ≡ None
 
   line_follower : (rest : Marks) → Follower S (line_end ∷ rest) tokens.Newline
-  unfolding laid_behind
+  unfolding laid_after
   line_follower rest = record {
     follow = λ held. refl;
     no_round = refl;
@@ -119,7 +119,7 @@ module _ {edition : Edition} {B T : List ℕ} {o : ℕ} (S : StandsIn edition B 
 
   comment_follower : (c : Text) (rest : Marks) → CommentAnywhere c →
       Follower S (text (codes " ") ∷ text c ∷ line_end ∷ rest) tokens.Comment
-  unfolding laid_behind
+  unfolding laid_after
   comment_follower c rest good = record {
     follow = λ held. refl;
     no_round = refl;
@@ -129,13 +129,13 @@ module _ {edition : Edition} {B T : List ℕ} {o : ℕ} (S : StandsIn edition B 
         (behind_it ∙ laid_text h c (line_end ∷ rest) ∙ ap (λ z. c ++ z) (laid_line h rest)) in
         let gap = margin_gap S h (codes " ") e (text c ∷ line_end ∷ rest) refl at
         (comment_start S h c (e + 1) rest good behind_it) in
-        asked_behind S position gap ∙ ap (λ t. record { token = t; broken = false })
+        asked_after S position gap ∙ ap (λ t. record { token = t; broken = false })
         (sharp_token position (e + 1) found.4);
   }
 
   background_follower : (ms : Marks) → ((h : Held) → Parted (lay h ms)) →
       Follower S (text (codes " &") ∷ ms) tokens.Ampersand
-  unfolding laid_behind
+  unfolding laid_after
   background_follower ms parted = record {
     follow = λ held. refl;
     no_round = refl;
@@ -144,7 +144,7 @@ module _ {edition : Edition} {B T : List ℕ} {o : ℕ} (S : StandsIn edition B 
         let amp = next_one T e 32 (38 ∷ lay h ms) there in
         let start = start_here (byte_here T (e + 1) 38 (lay h ms) refl amp) refl in
         let gap = blank_gap refl there (no_gap start) in
-        asked_behind S position gap ∙ ap (λ t. record { token = token_in edition t; broken = false })
+        asked_after S position gap ∙ ap (λ t. record { token = token_in edition t; broken = false })
         (ampersand_token position T (e + 1) (parted h).c (parted h).cs (parted h).no_backslash
         (parted h).no_ampersand (amp ∙ ap (λ z. 38 ∷ z) (parted h).is));
   }

@@ -33,14 +33,14 @@ use Rattle.shast.specs.declared.tree.Span.{Span}
 use Rattle.shast.specs.Shape.{Text, Shape, text_at, shape_of_command, shape_of_comments, shape_of_entry, shape_of_form, shape_of_compound}
 use Rattle.shast.specs.Tree.{branch, AContentOf, AnEntryOf, AnEntry, entry, ACompoundOf, formed, ACommand, compound, function, AFormOf, AForm, brace, subshell, if_then, while_do, until_do, for_in, case_in, ItemsOf, no_item, simple}
 use Rattle.shprint.specs.declared.layout.Layout.{Layout}
-use Rattle.shprint.specs.Marks.{text, line_end, Marks, laid, laid_behind, one, deeper, lines_between}
+use Rattle.shprint.specs.Marks.{text, line_end, Marks, laid, laid_after, one, deeper, lines_between}
 use Rattle.shprint.specs.Printed.{print_for_words, print_word, print_form, print_branch, print_branches, print_else, print_content, print_entries, print_compound, print_further_comments, print_items, print_function_gap, is_brace, print_cases, print_comment_lines, case_margin}
 use Rattle.shprint.proofs.Tokens.{none_first, end_here, for_here, if_here, while_here, until_here, brace_here, open_token, close_token, first, byte_here, start_here, all_blank, no_gap, case_here}
 use Rattle.shprint.proofs.Gives.{Gives, gives, ◌⟫◌, given_here, seen_here, pushed_here, first_of, second_of, last_turn}
 use Rattle.shprint.proofs.Held.{At, Document, Emptied, Followed, Held, StandsIn, emptied, g, held_bytes, lay, no_bytes, nothing_held, state, texts_of}
 use Rattle.shprint.proofs.BodiesOfParts.{entry_filled}
 use Rattle.shprint.proofs.Good.{GoodForm, GoodContent, GoodOwnComment, GoodCompound, GoodComments}
-use Rattle.shprint.proofs.PrintedText.{laid_text, after_line, laid_line, Alike, laid_same, no_more, Adds, at_text, told, asked, asked_behind, tell, next_read, one_moved, Got, Follower, Opens, margin_gap, Operand, last_join_turn, JoinLines, newline_lines, commented, begins_operand}
+use Rattle.shprint.proofs.PrintedText.{laid_text, after_line, laid_line, Alike, laid_same, no_more, Adds, at_text, told, asked, asked_after, tell, next_read, one_moved, Got, Follower, Opens, margin_gap, Operand, last_join_turn, JoinLines, newline_lines, commented, begins_operand}
 use Rattle.shprint.proofs.PrintedCommands.{bare_compound, opens_by, function_rest, Fine, whole_compound}
 use Rattle.shprint.proofs.PrintedLists.{entry_rest, line_end_here, nothing_on_line, entry_on_line, content_start}
 use Rattle.shprint.proofs.PrintedCompounds.{follows_end, Ends, line_end_end, space_end, cond_marks, block_marks, between_is, if_rest, condition_end, branch_marks, branch_is, head_marks, head_is, Key, reserved_or_paren_by, paren_alone, key_by, Finished, loop_read, if_read, for_read, group_read, subshell_read}
@@ -90,29 +90,29 @@ module _ {edition : Edition} {B T : List ℕ} {o : ℕ} {S : StandsIn edition B 
 
   form_is : (m : Text) (form : Shape AFormOf) (rest : Marks) → GoodForm edition room form →
       Alike (print_form y m form ++ rest) (text (opener_text (opener_for form)) ∷ form_rest y m form rest)
-  unfolding laid_behind
+  unfolding laid_after
   form_is m (brace es) rest good held =
-      ap (λ ks. laid_behind held (text (codes "{") ∷ ks))
+      ap (λ ks. laid_after held (text (codes "{") ∷ ks))
       (append_assoc (lines_between m (print_entries y (deeper y m) es)) (one (codes "}")) rest
       ∙ between_is y m es (text (codes "}") ∷ rest))
   form_is m (subshell es) rest good held =
-      ap (λ ks. laid_behind held (text (codes "(") ∷ ks))
+      ap (λ ks. laid_after held (text (codes "(") ∷ ks))
       (append_assoc (lines_between m (print_entries y (deeper y m) es)) (one (codes ")")) rest
       ∙ between_is y m es (text (codes ")") ∷ rest))
   form_is m (if_then (branch condition body) bs other) rest good held =
       let P = print_branch y m (codes "if") (codes "then") (branch condition body) in
       let Q = print_branches y m bs in
       let E = print_else y m other in
-      ap (laid_behind held) (append_assoc ((P ++ Q) ++ E) (one (codes "fi")) rest
+      ap (laid_after held) (append_assoc ((P ++ Q) ++ E) (one (codes "fi")) rest
       ∙ append_assoc (P ++ Q) E (text (codes "fi") ∷ rest)
       ∙ append_assoc P Q (E ++ (text (codes "fi") ∷ rest))
       ∙ branch_is y m (codes "if") (codes "then") condition body (if_rest y m bs other rest))
   form_is m (while_do (branch condition body)) rest good held =
-      ap (laid_behind held) (append_assoc (print_branch y m (codes "while") (codes "do") (branch condition body))
+      ap (laid_after held) (append_assoc (print_branch y m (codes "while") (codes "do") (branch condition body))
       (one (codes "done")) rest ∙ branch_is y m (codes "while") (codes "do") condition body
       (text (codes "done") ∷ rest))
   form_is m (until_do (branch condition body)) rest good held =
-      ap (laid_behind held) (append_assoc (print_branch y m (codes "until") (codes "do") (branch condition body))
+      ap (laid_after held) (append_assoc (print_branch y m (codes "until") (codes "do") (branch condition body))
       (one (codes "done")) rest ∙ branch_is y m (codes "until") (codes "do") condition body
       (text (codes "done") ∷ rest))
   form_is m (for_in name words body) rest good held =
@@ -124,7 +124,7 @@ module _ {edition : Edition} {B T : List ℕ} {o : ℕ} {S : StandsIn edition B 
       ∙ append_assoc ((text (codes "for ") ∷ W) ++ F) L (text (codes "done") ∷ rest)
       ∙ append_assoc (text (codes "for ") ∷ W) F (L ++ (text (codes "done") ∷ rest))
       ∙ ap (λ ks. text (codes "for ") ∷ (W ++ (F ++ ks))) (between_is y m body (text (codes "done") ∷ rest)) in
-      ap (laid_behind held) parts
+      ap (laid_after held) parts
       ∙ ap (λ z. codes "for " ++ z) (laid_same W (F ++ X) (head_marks y m words X) (head_is y m words X) held)
   form_is m (case_in w items tail) rest good held =
       let P = case_margin y m in
@@ -135,7 +135,7 @@ module _ {edition : Edition} {B T : List ℕ} {o : ℕ} {S : StandsIn edition B 
       let H = text (codes " in") ∷ line_end ∷ I in
       let parts = append_assoc W ((H ++ C) ++ E) rest
       ∙ ap (λ ks. W ++ ks) (append_assoc (H ++ C) E rest ∙ append_assoc H C (E ++ rest)) in
-      ap (laid_behind held) parts
+      ap (laid_after held) parts
       ∙ ap (λ z. codes "case " ++ z)
       (laid_same (print_word w) _ (case_marks y m items tail rest)
       (λ held. ap (λ z. codes " in" ++ (10 ∷ held ++ z)) (items_are fine m items tail rest good.1 [])) held)
@@ -288,7 +288,7 @@ module _ {edition : Edition} {B T : List ℕ} {o : ℕ} {S : StandsIn edition B 
       → Alike (print_compound y m (formed form mark redirects) ++ rest)
       (text (opener_text (opener_for form)) ∷ form_rest y m form (print_items y m redirects ++ rest))
   compound_is m form mark redirects rest good held =
-      ap (laid_behind held) (append_assoc (print_form y m form) (print_items y m redirects) rest)
+      ap (laid_after held) (append_assoc (print_form y m form) (print_items y m redirects) rest)
       ∙ form_is m form (print_items y m redirects ++ rest) good held
 
   -- a compound command opens so, one level further out
@@ -420,7 +420,7 @@ module _ {edition : Edition} {B T : List ℕ} {o : ℕ} {S : StandsIn edition B 
       let r = byte_here T p 40 (41 ∷ lay h X) refl (at ∙ laid_text h (codes "()") X) in
       let r2 = byte_here T (p + 1) 41 (lay h X) refl r.rest in
       let gap = no_gap (start_here r2 refl) in
-      let closes = ap (λ (n : Next). is_closing closings.Paren n.token) (asked_behind S Command gap)
+      let closes = ap (λ (n : Next). is_closing closings.Paren n.token) (asked_after S Command gap)
       ∙ ap (is_closing closings.Paren) (tell S (close_token Command T (p + 1) (lay h X) r.rest)) in
       let closed = subst (λ q. Gives (g S) (reserved_or_paren (closing_text closings.Paren) true Command) (state h q)
       (span o (p + 1) (p + 1 + 1), asked S Command (p + 1 + 1)) (state h (past_blanks T (p + 1 + 1))))
@@ -481,12 +481,12 @@ module _ {edition : Edition} {B T : List ℕ} {o : ℕ} (S : StandsIn edition B 
     top = level most_open
 
     nothing_laid : (h : Held) (q : ℕ) (ms : Marks) → h.waiting ≡ [] → At S h q ms → drop q T ≡ laid ms
-    nothing_laid h q ms none at = at ∙ ap (λ xs. laid_behind (held_bytes xs) ms) none
-        ∙ ap (λ held. laid_behind held ms) no_bytes
+    nothing_laid h q ms none at = at ∙ ap (λ xs. laid_after (held_bytes xs) ms) none
+        ∙ ap (λ held. laid_after held ms) no_bytes
 
     -- where nothing was read yet
     first_at : (q : ℕ) (ms : Marks) → drop q T ≡ laid ms → At S nothing_held q ms
-    first_at q ms at = at ∙ ap (λ held. laid_behind held ms) (sym no_bytes)
+    first_at q ms at = at ∙ ap (λ held. laid_after held ms) (sym no_bytes)
 
     -- the newline after what stands on the line
     ended_by : (h : Held) (n : Next) (q : ℕ) (rest : Marks) → is_newline_token n.token ≡ true →
@@ -580,7 +580,7 @@ module _ {edition : Edition} {B T : List ℕ} {o : ℕ} (S : StandsIn edition B 
         }
 
     pub end_line_read : (blank : Bool) → drop 0 T ≡ laid [] → ScriptLine blank [] false []
-    unfolding a_line an_open_line end_of_line nothing_waits laid_behind
+    unfolding a_line an_open_line end_of_line nothing_waits laid_after
     end_line_read blank at =
         let h = nothing_held in
         let it = end_here T 0 at in

@@ -34,9 +34,9 @@ use Rattle.shast.specs.Spelling.{and_or_text}
 use Rattle.shast.specs.Shape.{Text, text_at, shape_of_comments, shape_of_join}
 use Rattle.shast.specs.Tree.{AJoinOf, AJoin}
 use Rattle.shprint.specs.declared.layout.Layout.{Layout}
-use Rattle.shprint.specs.Marks.{text, line_end, document, Marks, laid_behind, one, step, deeper}
+use Rattle.shprint.specs.Marks.{text, line_end, document, Marks, laid_after, one, step, deeper}
 use Rattle.shprint.specs.Printed.{operand_margin, breaks_line, print_comments, print_further_comments}
-use Rattle.shprint.proofs.Tokens.{pipe_token, and_token, or_token, first, byte_here, newline_token, start_here, skip, Gap, Start, all_blank, blanks_gap, no_gap, next_behind, word_stays}
+use Rattle.shprint.proofs.Tokens.{pipe_token, and_token, or_token, first, byte_here, newline_token, start_here, skip, Gap, Start, all_blank, blanks_gap, no_gap, next_after, word_stays}
 use Rattle.shprint.proofs.Gives.{Gives, ◌⟫◌, given_here, seen_here, moved_here, pushed_here, first_of, second_of, last_turn, one_turn}
 use Rattle.shprint.proofs.Held.{At, Followed, Held, StandsIn, emptied, g, held_bytes, lay, state, text_of_span, texts_of}
 use Rattle.shprint.proofs.Good.{GoodComments}
@@ -44,24 +44,24 @@ use Rattle.shprint.proofs.Good.{GoodComments}
 -- ---- marks
 
 pub laid_text : (h : Held) (t : Text) (ms : Marks) → lay h (text t ∷ ms) ≡ t ++ lay h ms
-unfolding laid_behind
+unfolding laid_after
 laid_text h t ms = refl
 
 -- what stands after the newline that ends a line
 abbrev pub after_line : Held → Marks → Text
-after_line h ms = held_bytes h.waiting ++ laid_behind [] ms
+after_line h ms = held_bytes h.waiting ++ laid_after [] ms
 
 pub laid_line : (h : Held) (ms : Marks) → lay h (line_end ∷ ms) ≡ 10 ∷ after_line h ms
-unfolding laid_behind
+unfolding laid_after
 laid_line h ms = refl
 
 -- marks that are laid in the same way, whatever waits
 abbrev pub Alike : Marks → Marks → Type 0
-Alike a b = (held : Text) → laid_behind held a ≡ laid_behind held b
+Alike a b = (held : Text) → laid_after held a ≡ laid_after held b
 
 -- so are they after others
 pub laid_same : (ms a b : Marks) → Alike a b → Alike (ms ++ a) (ms ++ b)
-unfolding laid_behind
+unfolding laid_after
 laid_same [] a b e held = e held
 laid_same (text t ∷ ms) a b e held = ap (λ z. t ++ z) (laid_same ms a b e held)
 laid_same (line_end ∷ ms) a b e held = ap (λ z. 10 ∷ held ++ z) (laid_same ms a b e [])
@@ -171,7 +171,7 @@ pub record Parted (t : Text) : Type 0 where
 
 pub join_parted : (h : Held) (y : Layout) (m : Text) (broken : Bool) (cs : Row Text) (ms : Marks) →
     Parted (lay h (join_rest y m (record { broken = broken; comments = cs }) ++ ms))
-unfolding laid_behind
+unfolding laid_after
 join_parted h y m false [] ms =
     record { c = 32; cs = lay h ms; is = refl; no_backslash = refl; no_bar = refl; no_ampersand = refl }
 join_parted h y m true [] ms =
@@ -218,9 +218,9 @@ module _ {edition : Edition} {B T : List ℕ} {o : ℕ} (S : StandsIn edition B 
   abbrev pub asked : Position → ℕ → Next
   asked position e = next_in edition (next_at position T e)
 
-  pub asked_behind : {e q : ℕ} {broken : Bool} (position : Position) → Gap T e q broken →
+  pub asked_after : {e q : ℕ} {broken : Bool} (position : Position) → Gap T e q broken →
       asked position e ≡ record { token = told position q; broken = broken }
-  asked_behind position gap = ap (next_in edition) (next_behind position gap)
+  asked_after position gap = ap (next_in edition) (next_after position gap)
 
   pub tell : {s t : Token} → s ≡ t → token_in edition s ≡ token_in edition t
   tell e = ap (token_in edition) e
@@ -247,8 +247,8 @@ module _ {edition : Edition} {B T : List ℕ} {o : ℕ} (S : StandsIn edition B 
       Gives (g S) (move one_byte) (state h p) tt (state h (p + 1))
   byte_moved h p c xs clear at = one_moved h p (byte_here T p c xs clear at).behind_it
 
-  pub byte_behind : (p c d : ℕ) (xs : Text) → drop p T ≡ c ∷ d ∷ xs → drop (p + 1) T ≡ d ∷ xs
-  byte_behind p c d xs at = skip T p (c ∷ []) (d ∷ xs) at
+  pub byte_after : (p c d : ℕ) (xs : Text) → drop p T ≡ c ∷ d ∷ xs → drop (p + 1) T ≡ d ∷ xs
+  byte_after p c d xs at = skip T p (c ∷ []) (d ∷ xs) at
 
   -- A token that begins no item stands after e, whatever was asked for.
   pub record Behind (e : ℕ) : Type 0 where
@@ -294,7 +294,7 @@ module _ {edition : Edition} {B T : List ℕ} {o : ℕ} (S : StandsIn edition B 
   newline_next h position e ms at =
       let there = at ∙ laid_line h ms in
       let gap = no_gap (start_here (byte_here T e 10 (after_line h ms) refl there) refl) in (
-        asked_behind position gap ∙ ap (λ t. record { token = token_in edition t; broken = false })
+        asked_after position gap ∙ ap (λ t. record { token = token_in edition t; broken = false })
             (newline_token position T e (after_line h ms) there),
         gap.blanks,
       )
@@ -540,10 +540,10 @@ module _ {edition : Edition} {B T : List ℕ} {o : ℕ} (S : StandsIn edition B 
     comment_lines h c (c2 ∷ cs) b acc n p good at =
         let s = span o p (p + length c) in
         let turn = comment_join_turn h c b acc n p (text d ∷ text c2 ∷ further cs) good.0 at in
-        let margin_behind = at_text turn.later turn.q d (text c2 ∷ further cs) turn.at in
+        let margin_after = at_text turn.later turn.q d (text c2 ∷ further cs) turn.at in
         let gap = margin_gap turn.later d turn.q (text c2 ∷ further cs) blank turn.at
-        (further_start turn.later c2 cs (turn.q + length d) good.1.0 margin_behind) in
-        let at_q = subst (λ r. At S turn.later r (text c2 ∷ further cs)) (sym gap.blanks) margin_behind in
+        (further_start turn.later c2 cs (turn.q + length d) good.1.0 margin_after) in
+        let at_q = subst (λ r. At S turn.later r (text c2 ∷ further cs)) (sym gap.blanks) margin_after in
         let rest = comment_lines turn.later c2 cs true (acc ++ s ∷ []) (asked Command turn.q)
         (past_blanks T turn.q) good.1 at_q in
         record {
@@ -657,9 +657,9 @@ module _ {edition : Edition} {B T : List ℕ} {o : ℕ} (S : StandsIn edition B 
 
   -- ---- what follows a command
 
-  pub follower_behind : {rest : Marks} {t : Token} → Follower rest t → begins_simple t ≡ false → (h : Held) (e : ℕ) →
+  pub follower_after : {rest : Marks} {t : Token} → Follower rest t → begins_simple t ≡ false → (h : Held) (e : ℕ) →
       At S h e rest → Behind e
-  follower_behind {t = t} f none h e at =
+  follower_after {t = t} f none h e at =
       record { token = t; seen_as = f.seen_as h e at; no_item = none; no_round = f.no_round }
 
   -- an operator after a space
@@ -672,7 +672,7 @@ module _ {edition : Edition} {B T : List ℕ} {o : ℕ} (S : StandsIn edition B 
 
   pub pipe_follower : (ms : Marks) → ((h : Held) → Parted (lay h ms)) →
       Follower (text (codes " ") ∷ text (codes "|") ∷ ms) tokens.Pipe
-  unfolding laid_behind
+  unfolding laid_after
   pipe_follower ms parted = record {
     follow = λ held. refl;
     no_round = refl;
@@ -680,20 +680,20 @@ module _ {edition : Edition} {B T : List ℕ} {o : ℕ} (S : StandsIn edition B 
         let gap = space_then h e 124 [] ms refl refl at in
         let there = at_text h e (codes " ") (text (codes "|") ∷ ms) at ∙ laid_text h (codes "|") ms
         ∙ ap (λ z. 124 ∷ z) (parted h).is in
-        asked_behind position gap ∙ ap (λ t. record { token = token_in edition t; broken = false })
+        asked_after position gap ∙ ap (λ t. record { token = token_in edition t; broken = false })
         (pipe_token position T (e + 1) (parted h).c (parted h).cs (parted h).no_backslash
         (parted h).no_bar there);
   }
 
   pub operator_follower : (o : AndOrOperator) (ms : Marks) →
       Follower (text (codes " ") ∷ text (and_or_text o) ∷ ms) (operator_token o)
-  unfolding laid_behind
+  unfolding laid_after
   operator_follower And ms = record {
     follow = λ held. refl;
     no_round = refl;
     seen_as = λ h e at position.
         let there = at_text h e (codes " ") (text (codes "&&") ∷ ms) at ∙ laid_text h (codes "&&") ms in
-        asked_behind position (space_then h e 38 (38 ∷ []) ms refl refl at)
+        asked_after position (space_then h e 38 (38 ∷ []) ms refl refl at)
         ∙ ap (λ t. record { token = token_in edition t; broken = false })
         (and_token position T (e + 1) (lay h ms) there);
   }
@@ -702,7 +702,7 @@ module _ {edition : Edition} {B T : List ℕ} {o : ℕ} (S : StandsIn edition B 
     no_round = refl;
     seen_as = λ h e at position.
         let there = at_text h e (codes " ") (text (codes "||") ∷ ms) at ∙ laid_text h (codes "||") ms in
-        asked_behind position (space_then h e 124 (124 ∷ []) ms refl refl at)
+        asked_after position (space_then h e 124 (124 ∷ []) ms refl refl at)
         ∙ ap (λ t. record { token = token_in edition t; broken = false })
         (or_token position T (e + 1) (lay h ms) there);
   }

@@ -31,9 +31,9 @@ use Rattle.shgrammar.specs.States.{Waiting}
 use Rattle.shgrammar.specs.HereDocuments.{ADelimiter, bodies_here, delimiter_in}
 use Rattle.shgrammar.specs.Form.{Spelled, Read, Form, see, move, push, stop, give, ◌>>=◌, ◌>>◌, both, when, token, loop, ends_as, change, with_bytes, a_level, in_substitution, many, Step, again, done, step_if, may, raw, does}
 use Rattle.shgrammar.specs.Words.{Inner, a_word}
-use Rattle.shgrammar.specs.Commands.{pick, next_token, is_newline_token, is_semicolon, a_semicolon, is_pipe, is_bang, begins_simple, begins_word, begins_redirect, begins_pipeline, opener_of, compound_by, and_or_operator_of, Items, so_many, behind_word, is_number_token, redirect_operator_of, takes_here, a_number, an_operator, operator_by, a_target, one_redirect, behind_redirect, redirect_turn, with_redirect_list, as_item, breaks, an_item, item_by, item_turn, a_simple, unexpected, comment_by, a_comment, a_newline, with_comment, JoinSo, join_turn, a_join, a_command, a_bang, Piped, piped, one_command, pipe_turn, a_pipeline, Joined, joined_so, one_pipeline, joined_by, join_pipeline, an_and_or, separator_of, separator_by, a_separator, an_entry, is_word, is_paren, a_word_command, ASeparator, past_separator, ends_item, falls_through, a_document, document_by, open_document, is_long, is_strip, nothing_waits}
+use Rattle.shgrammar.specs.Commands.{pick, next_token, is_newline_token, is_semicolon, a_semicolon, is_pipe, is_bang, begins_simple, begins_word, begins_redirect, begins_pipeline, opener_of, compound_by, and_or_operator_of, Items, so_many, after_word, is_number_token, redirect_operator_of, takes_here, a_number, an_operator, operator_by, a_target, one_redirect, after_redirect, redirect_turn, with_redirect_list, as_item, breaks, an_item, item_by, item_turn, a_simple, unexpected, comment_by, a_comment, a_newline, with_comment, JoinSo, join_turn, a_join, a_command, a_bang, Piped, piped, one_command, pipe_turn, a_pipeline, Joined, joined_so, one_pipeline, joined_by, join_pipeline, an_and_or, separator_of, separator_by, a_separator, an_entry, is_word, is_paren, a_word_command, ASeparator, past_separator, ends_item, falls_through, a_document, document_by, open_document, is_long, is_strip, nothing_waits}
 use Rattle.shgrammar.specs.Lists.{ListSo, list_so, none_listed, is_blank_next, one_entry, entry_turn, remark_by, a_remark, on_line, list_turn, a_list}
-use Rattle.shgrammar.specs.Compounds.{Branched, branched, Closed, is_closing, reserved_or_paren, closing, a_group, a_branch, elif_turn, an_else, an_if, a_loop, position_after, a_for_name, a_linebreak, a_sequential_sep, Headed, word_turn, for_words, a_for_head, behind_remarks, a_for, a_form, a_compound, under_name, a_function, a_case_word, begins_pattern, Patterned, a_pattern, one_pattern, pattern_turn, a_pattern_list, an_open_bracket, a_body, ItemEnd, an_ender, an_item_end, CasesSo, cases_so, one_case, case_turn, a_case_head, a_case}
+use Rattle.shgrammar.specs.Compounds.{Branched, branched, Closed, is_closing, reserved_or_paren, closing, a_group, a_branch, elif_turn, an_else, an_if, a_loop, position_after, a_for_name, a_linebreak, a_sequential_sep, Headed, word_turn, for_words, a_for_head, after_remarks, a_for, a_form, a_compound, under_name, a_function, a_case_word, begins_pattern, Patterned, a_pattern, one_pattern, pattern_turn, a_pattern_list, an_open_bracket, a_body, ItemEnd, an_ender, an_item_end, CasesSo, cases_so, one_case, case_turn, a_case_head, a_case}
 use Rattle.shgrammar.specs.Levels.{most_open, level}
 use Rattle.shgrammar.specs.Lines.{a_line, an_open_line, line_end_by, end_of_line}
 use Rattle.shgrammar.specs.Tokens.{is_end}
@@ -55,7 +55,7 @@ use Rattle.shprint.proofs.Due.{Due, due_at, BodyOf, Docs, DocsAt, Feeds, no_docs
 use Rattle.shast.specs.Bodies.{fill_here, fill_item_content, fill_item, fill_items, fill_entries, fill_entry, fill_content, fill_and_or, fill_and_or_part, fill_pipeline, fill_pipe, fill_command, fill_compound, fill_form, fill_branch, fill_else, fill_case, filled_row}
 use Rattle.shast.proofs.FilledBack.{filled_is}
 use Rattle.shast.proofs.Going.{items_going, entries_going, and_or_parts_going, pipes_going, branches_going, cases_going, row_filled}
-use Rattle.shprint.proofs.Good.{GoodHere, GoodComments, GoodOwnComment, an_item_of, a_redirect_of, GoodNumber, GoodRedirect, GoodRedirects, Kind, of_command, of_for, of_compound, GoodItem, of_word, of_argument, of_redirect, of_redirect_behind, GoodItems, none_more, one_more, SomeItem, GoodSimple, GoodWords, GoodForWords, GoodName, GoodEntries, GoodEntry, GoodAndOr, GoodParts, GoodPipeline, GoodPipes, GoodCommand, GoodForm, GoodBranch, GoodBranches, GoodElse, GoodCompound, GoodWord, GoodMorePatterns, GoodPatterns, GoodCases, GoodCase}
+use Rattle.shprint.proofs.Good.{GoodHere, GoodComments, GoodOwnComment, an_item_of, a_redirect_of, GoodNumber, GoodRedirect, GoodRedirects, Kind, of_command, of_for, of_compound, GoodItem, of_word, of_argument, of_redirect, of_redirect_after, GoodItems, none_more, one_more, SomeItem, GoodSimple, GoodWords, GoodForWords, GoodName, GoodEntries, GoodEntry, GoodAndOr, GoodParts, GoodPipeline, GoodPipes, GoodCommand, GoodForm, GoodBranch, GoodBranches, GoodElse, GoodCompound, GoodWord, GoodMorePatterns, GoodPatterns, GoodCases, GoodCase}
 use Rattle.shast.specs.Nodes.{word_span}
 use Rattle.shgrammar.proofs.NamesBefore.{NameBefore, name_before}
 
@@ -734,7 +734,7 @@ module _ (B : List ℕ) (g : Given) (here : g.text ≡ drop g.offset B) where
 
     -- one more word of a simple command, which was read from p up to q
     one_item : {C D : Row Due} (begin position : Position) (is : Row AnItem) (broken : Bool) (n : Next)
-        (next : Position) (p q : ℕ) (w : AWord) → behind_word n.token ≡ Some next
+        (next : Position) (p q : ℕ) (w : AWord) → after_word n.token ≡ Some next
         → OpenItems of_command begin C is D position → Stands g position n p → WordRead g room p w q →
         OpenItems of_command begin C (is ++ item broken (as_item next w) ∷ []) D next
     one_item begin position is broken n next p q w some good stands read =
@@ -745,7 +745,7 @@ module _ (B : List ℕ) (g : Given) (here : g.text ≡ drop g.offset B) where
         (subst (λ (s : Shape AnItemOf). GoodItem g.edition room of_command position s next) (sym shape) one)) good
 
     reads_item : (C : Row Due) (i : Items) (next : Position) (D : Row Due) (p : ℕ) →
-        behind_word i.next.token ≡ Some next → ItemsSo C i D p
+        after_word i.next.token ≡ Some next → ItemsSo C i D p
         → Adds g D (an_item inner i next) (Turns g (ItemsOn C) (ItemsDone C)) p
     unfolding an_item
     reads_item C i next D p is so =
@@ -915,7 +915,7 @@ module _ (B : List ℕ) (g : Given) (here : g.text ≡ drop g.offset B) where
     reads_item_turn : (C : Row Due) (i : Items) (D : Row Due) (p : ℕ) → ItemsSo C i D p →
         Adds g D (item_turn inner i) (Turns g (ItemsOn C) (ItemsDone C)) p
     unfolding item_turn
-    reads_item_turn C i D p so = by_token (behind_word i.next.token) refl
+    reads_item_turn C i D p so = by_token (after_word i.next.token) refl
       where
         on_done : (c : Step Items) (E : Row Due) (e : ℕ) → Turns g (ItemsOn C) (ItemsOn C) c E e →
             Turns g (ItemsOn C) (ItemsDone C) c E e
@@ -923,20 +923,20 @@ module _ (B : List ℕ) (g : Given) (here : g.text ≡ drop g.offset B) where
         on_done (done j) E e on = simple_is C j E e on
 
         is_item : (s : Shape AnItemOf) → IsRedirect (breaks i) s →
-            GoodItem g.edition room of_command i.place s (behind_redirect i.place)
+            GoodItem g.edition room of_command i.place s (after_redirect i.place)
         is_item s (number, o, t, ss, h, is, good) =
-            subst (λ (r : Shape AnItemOf). GoodItem g.edition room of_command i.place r (behind_redirect i.place))
+            subst (λ (r : Shape AnItemOf). GoodItem g.edition room of_command i.place r (after_redirect i.place))
             (sym is) (of_redirect good)
 
-        by_redirect : (b : Bool) → begins_redirect i.next.token ≡ b → behind_word i.next.token ≡ None
-            → Adds g D (pick b (one_redirect inner (breaks i) (behind_redirect i.place) i.items i.next) (give (done i)))
+        by_redirect : (b : Bool) → begins_redirect i.next.token ≡ b → after_word i.next.token ≡ None
+            → Adds g D (pick b (one_redirect inner (breaks i) (after_redirect i.place) i.items i.next) (give (done i)))
             (Turns g (ItemsOn C) (ItemsDone C)) p
         by_redirect true is none =
             so_adds g (reads_redirect (ItemsOn C) (breaks i) i.place
-            (behind_redirect i.place) i.items i.next D p so.stands (λ j m E e one stands.
+            (after_redirect i.place) i.items i.next D p so.stands (λ j m E e one stands.
             let some = some_last g i.items j in (
               record {
-                good = one_more_open of_command Command i.place (behind_redirect i.place) i.items j
+                good = one_more_open of_command Command i.place (after_redirect i.place) i.items j
                     (opens_so g (λ x good. is_item (shape_of_item B x) good) one) so.good;
                 stands = stands;
                 begun = λ y. some;
@@ -945,7 +945,7 @@ module _ (B : List ℕ) (g : Given) (here : g.text ≡ drop g.offset B) where
             ))) on_done
         by_redirect false is none = add_gives g (simple_is C i D p (so, so.begun (rw (none, is) refl)))
 
-        by_token : (next : Option Position) → behind_word i.next.token ≡ next →
+        by_token : (next : Option Position) → after_word i.next.token ≡ next →
             Adds g D (item_by inner i next) (Turns g (ItemsOn C) (ItemsDone C)) p
         by_token (Some next) is = reads_item C i next D p is so
         by_token None is = by_redirect (begins_redirect i.next.token) refl is
@@ -993,11 +993,11 @@ module _ (B : List ℕ) (g : Given) (here : g.text ≡ drop g.offset B) where
         pub good : OpenItems of_compound Command C r.items D Command
         pub stands : Stands g Command r.next p
 
-      is_behind : (broken : Bool) (s : Shape AnItemOf) → IsRedirect broken s →
+      is_after : (broken : Bool) (s : Shape AnItemOf) → IsRedirect broken s →
           GoodItem g.edition room of_compound Command s Command
-      is_behind broken s (number, o, t, ss, h, is, good) =
+      is_after broken s (number, o, t, ss, h, is, good) =
           subst (λ (r : Shape AnItemOf). GoodItem g.edition room of_compound Command r Command) (sym is)
-          (of_redirect_behind good)
+          (of_redirect_after good)
 
       reads_redirect_turn : (C : Row Due) (r : Items) (D : Row Due) (p : ℕ) → RedirectsSo C r D p →
           Adds g D (redirect_turn inner r) (Turns g (RedirectsSo C) (RedirectsSo C)) p
@@ -1010,7 +1010,7 @@ module _ (B : List ℕ) (g : Given) (here : g.text ≡ drop g.offset B) where
             place = refl;
             good =
                 one_more_open of_compound Command Command Command r.items j
-                (opens_so g (λ x good. is_behind r.next.broken (shape_of_item B x) good) one) so.good;
+                (opens_so g (λ x good. is_after r.next.broken (shape_of_item B x) good) one) so.good;
             stands = stands;
           }))
           (add_gives g so)
@@ -1063,7 +1063,7 @@ module _ (B : List ℕ) (g : Given) (here : g.text ≡ drop g.offset B) where
           Adds g D (a_word_command inner) (Command_is D) p
       unfolding a_word_command
       reads_word_command n D p is so =
-          let word_is : behind_word n.token ≡ Some Suffix = ap behind_word is in
+          let word_is : after_word n.token ≡ Some Suffix = ap after_word is in
           add_sees g (λ s. refl) (behind g (reads_word g room p)
           (λ w q read. behind g (reads_next g Suffix q) (λ m e stands.
           add_picks g (is_paren m.token)
@@ -1530,12 +1530,12 @@ module _ (B : List ℕ) (g : Given) (here : g.text ≡ drop g.offset B) where
           (gives g (tt, two.0, two.1 (inl tt)))))
 
       remarks_good : (cs : Row Span) (es : Entries) → Comments cs → GoodEntries g.edition room (shape_of B es) →
-          GoodEntries g.edition room (shape_of B (behind_remarks cs es))
+          GoodEntries g.edition room (shape_of B (after_remarks cs es))
       remarks_good [] es all so = so
       remarks_good (c ∷ cs) es all so = ((all.0, tt), remarks_good cs es all.1 so)
 
       remarks_filled : (cs : Row Span) (es : Entries) (ts : Row Span) →
-          fill_entries (behind_remarks cs es) ts ≡ (behind_remarks cs (fill_entries es ts).0, (fill_entries es ts).1)
+          fill_entries (after_remarks cs es) ts ≡ (after_remarks cs (fill_entries es ts).0, (fill_entries es ts).1)
       unfolding fill_entries fill_entry fill_content
       remarks_filled [] es ts = refl
       remarks_filled (c ∷ cs) es ts = rw (remarks_filled cs es ts) refl
@@ -1543,10 +1543,10 @@ module _ (B : List ℕ) (g : Given) (here : g.text ≡ drop g.offset B) where
       for_open : {D E : Row Due} (name : AWord) (words : ForWords) (cs : Row Span) (es : Entries) →
           GoodName g.edition room (shape_of_word B name) → GoodForWords g.edition room (shape_of_for_words B words) →
           Comments cs
-          → OpenEntries D es E → OpenForm D (for_in name words (behind_remarks cs es)) E
+          → OpenEntries D es E → OpenForm D (for_in name words (after_remarks cs es)) E
       unfolding fill_form
       for_open name words cs es one two comments body =
-          opens_one g (for_in name words (behind_remarks cs es)) (λ ls. for_in name words (behind_remarks cs ls))
+          opens_one g (for_in name words (after_remarks cs es)) (λ ls. for_in name words (after_remarks cs ls))
           (λ ts. rw (remarks_filled cs es ts) refl)
           (λ ls good. (one, two, remarks_good cs ls comments good)) body
 

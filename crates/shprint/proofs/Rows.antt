@@ -11,7 +11,7 @@ use Rattle.shast.specs.View.{view_and_or_part, view_pipeline_part}
 use Rattle.shprint.specs.declared.layout.Layout.{Layout}
 use Rattle.shprint.specs.Marks.{Marks, text, line_end, deeper, one}
 use Rattle.shprint.specs.Printed.{breaks_line, operand_margin, print_and_or_parts, print_branch, print_branches, print_case, print_cases, print_command, print_comment_lines, print_comments, print_entries, print_entry, print_further_comments, print_items, print_join, print_patterns, print_pipeline, print_pipes, print_word}
-use Rattle.shprint.specs.Written.{item_behind, print_join_on}
+use Rattle.shprint.specs.Written.{item_after, print_join_on}
 
 module _ {A : Type 0} (f : A → Marks) where
   -- the marks of a row of parts from a place on: what a loop has still to print
@@ -50,7 +50,7 @@ module _ (B : List ℕ) (y : Layout) (m : Text) where
   further_comment c = line_end ∷ text m ∷ text (text_at B c) ∷ []
 
   abbrev pub item_marks : AnItem → Marks
-  item_marks i = item_behind y m (shape_of_item B i)
+  item_marks i = item_after y m (shape_of_item B i)
 
   abbrev pub pattern_marks : AWord → Marks
   pattern_marks w = text (codes " | ") ∷ print_word (shape_of_word B w)

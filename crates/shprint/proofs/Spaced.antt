@@ -9,9 +9,9 @@ use Rattle.shast.specs.Shape.{Text, Shape, shape_of_item, shape_of_items, text_a
 use Rattle.shast.specs.Tree.{AnItemOf, items_of}
 use Rattle.shast.specs.View.{view_item}
 use Rattle.shprint.specs.declared.layout.Layout.{Layout}
-use Rattle.shprint.specs.Marks.{Marks, laid_behind, held_behind, one, text}
+use Rattle.shprint.specs.Marks.{Marks, laid_after, held_after, one, text}
 use Rattle.shprint.specs.Printed.{is_broken_item, print_item, print_items}
-use Rattle.shprint.specs.Written.{Sheet, item_behind, stretch, written}
+use Rattle.shprint.specs.Written.{Sheet, item_after, stretch, written}
 use Rattle.shprint.proofs.Copying.{taken}
 use Rattle.shprint.proofs.Writing.{written_append, written_cons}
 
@@ -32,8 +32,8 @@ module _ (B : Text) where
     -- a word one blank after another
     pub word_is : (i : Shape AnItemOf) (at : ℕ) (s : Span) → is_broken_item i ≡ false →
         print_item y i ≡ text (text_at B s) ∷ [] → slice_get B at ≡ Some 32 → s.start ≡ at + 1
-        → s.start ≤ s.«end» → (t : Sheet) → written t (item_behind y m i) ≡ written t (one (stretch B at s.«end»))
-    unfolding written laid_behind held_behind
+        → s.start ≤ s.«end» → (t : Sheet) → written t (item_after y m i) ≡ written t (one (stretch B at s.«end»))
+    unfolding written laid_after held_after
     word_is i at s unbroken printed blank next some t =
         let before : at < s.«end» = omega (arith, next, some) in
         let told : stretch B at s.«end» ≡ 32 ∷ text_at B s = taken B at s.«end» 32 blank before
@@ -45,22 +45,22 @@ module _ (B : Text) where
 
     pub none_passed : (a : ℕ) (is : List Item) (t : Sheet) →
         written t (items_marks is) ≡ written t (text (stretch B a a) ∷ items_marks is)
-    unfolding written laid_behind held_behind
+    unfolding written laid_after held_after
     none_passed a is t = rw (none_more a) refl
 
     -- two texts, one after the other, are one
     texts_join : (t : Sheet) (x z : Text) (ms : Marks) →
         written t (text x ∷ text z ∷ ms) ≡ written t (text (x ++ z) ∷ ms)
-    unfolding written laid_behind held_behind
+    unfolding written laid_after held_after
     texts_join t x z ms = rw append_assoc refl
 
     -- one word more
     pub one_passed : (a b c : ℕ) (before : Marks) (i : Item) (is : List Item) → a ≤ b → b ≤ c →
         ((t : Sheet) → written t before ≡ written t (text (stretch B a b) ∷ items_marks (i ∷ is)))
-        → ((t : Sheet) → written t (item_behind y m (shape_of_item B (view_item i))) ≡ written t (one (stretch B b c)))
+        → ((t : Sheet) → written t (item_after y m (shape_of_item B (view_item i))) ≡ written t (one (stretch B b c)))
         → (t : Sheet) → written t before ≡ written t (text (stretch B a c) ∷ items_marks is)
     one_passed a b c before i is ab bc so_far word t =
-        let behind = item_behind y m (shape_of_item B (view_item i)) in
+        let behind = item_after y m (shape_of_item B (view_item i)) in
         let from = written t (one (stretch B a b)) in
         so_far t
         ∙ sym (written_cons t (behind ++ items_marks is) (text (stretch B a b)))

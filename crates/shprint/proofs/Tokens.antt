@@ -19,7 +19,7 @@ use Rattle.shgrammar.proofs.Stretches.{get_drop, joined_none, joined_more, place
 use Rattle.shgrammar.proofs.Places.{must_fail}
 use Rattle.shgrammar.proofs.SameBytes.{no_backslash}
 use Rattle.shgrammar.proofs.Ahead.{behind_is, spelled_none, spelled_more, ender}
-use Rattle.shgrammar.specs.Commands.{is_word, is_paren, begins_redirect, begins_simple, begins_word, behind_word}
+use Rattle.shgrammar.specs.Commands.{is_word, is_paren, begins_redirect, begins_simple, begins_word, after_word}
 use Rattle.shgrammar.specs.HereDocuments.{ADelimiter, delimiter_in, delimiter_of}
 use Rattle.shast.specs.declared.tree.RedirectOperator.{RedirectOperator}
 use Rattle.shast.specs.declared.tree.RedirectOperator.TheVariants as redirects
@@ -173,9 +173,9 @@ joined_gap {T = T} {p = p} {q = q} {b = b} {xs = xs} e at gap =
     let place : past_continuations T p ≡ p + 2 = joined_more T p pair ∙ r.place in
     let blank : stands_in is_blank T p ≡ true = ap (λ q. passes is_blank (slice_get T q)) place
     ∙ ap (passes is_blank) r.raw ∙ e in
-    let behind_both : past_byte T p ≡ past_byte T (p + 2) = behind_is T p ∙ ap (λ q. q + 1) place ∙ sym r.behind_it in
+    let after_both : past_byte T p ≡ past_byte T (p + 2) = behind_is T p ∙ ap (λ q. q + 1) place ∙ sym r.behind_it in
     let same : past is_blank T p ≡ past is_blank T (p + 2) = past_more is_blank T p blank
-    ∙ ap (past is_blank T) behind_both ∙ sym (past_more is_blank T (p + 2) (in_class is_blank r ∙ e)) in
+    ∙ ap (past is_blank T) after_both ∙ sym (past_more is_blank T (p + 2) (in_class is_blank r ∙ e)) in
     let raw : raw_past is_blank T p ≡ p = raw_none is_blank T p (raw_class T p 92 is_blank raw1) in
     record { blanks = ap (past_continuations T) same ∙ gap.blanks; breaks = ap (continues T) raw ∙ pair }
 
@@ -191,9 +191,9 @@ broken_gap T p b bs xs all at s =
     blank_gap refl at (joined_gap (and_parts _ _ all).0 at1 (subst (λ q. Gap T (p + 1 + 2) q false) e last))
 
 -- the next token after a gap
-pub next_behind : {T : List ℕ} {p q : ℕ} {broken : Bool} (position : Position) → Gap T p q broken →
+pub next_after : {T : List ℕ} {p q : ℕ} {broken : Bool} (position : Position) → Gap T p q broken →
     next_at position T p ≡ record { token = token_at position T q; broken = broken }
-next_behind position gap = rw (gap.blanks, gap.breaks) refl
+next_after position gap = rw (gap.blanks, gap.breaks) refl
 
 -- ---- tokens of one byte or two
 
@@ -494,7 +494,7 @@ delimiter_stays edition bytes d e = delimiter_by _ (delimiter_of bytes) d e
 -- ---- words and assignments
 
 -- an item of a simple command is a word or an assignment
-pub kind_of : (t : Token) (next : Position) → behind_word t ≡ Some next →
+pub kind_of : (t : Token) (next : Position) → after_word t ≡ Some next →
     ((t ≡ tokens.Word) × (next ≡ Suffix)) ⊎ ((t ≡ tokens.Assignment) × (next ≡ Prefix))
 kind_of tokens.End next e = absurd cc
 kind_of tokens.Newline next e = absurd cc
@@ -556,14 +556,14 @@ none_of (Some x) e = absurd cc
 
 -- and begins neither an item that is a word nor a redirection
 pub record NoItem (t : Token) : Type 0 where
-  pub behind : behind_word t ≡ None
+  pub behind : after_word t ≡ None
   pub redirect : begins_redirect t ≡ false
   pub word : is_word t ≡ false
 
 pub no_item_token : (t : Token) → begins_simple t ≡ false → NoItem t
 no_item_token t none =
     let parts = or_parts (begins_word t) (begins_redirect t) none in
-    record { behind = none_of (behind_word t) parts.0; redirect = parts.1; word = no_word t none }
+    record { behind = none_of (after_word t) parts.0; redirect = parts.1; word = no_word t none }
 
 -- ---- redirections
 
@@ -582,7 +582,7 @@ redirect_no_word t redirect = must_fail (is_word t)
 pub record RedirectThere (edition : Edition) (position : Position) (T : List ℕ) (p : ℕ) : Type 0 where
   pub start : Start T p
   pub redirect : begins_redirect (token_in edition (token_at position T p)) ≡ true
-  pub no_word : behind_word (token_in edition (token_at position T p)) ≡ None
+  pub no_word : after_word (token_in edition (token_at position T p)) ≡ None
 
 -- no byte that would make an operator longer is read here
 pub record NoLonger (T : List ℕ) (q : ℕ) : Type 0 where

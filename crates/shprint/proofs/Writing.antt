@@ -2,21 +2,21 @@
 use Rattle.std.proofs.Common.{◌≡◌, List, [], ◌∷◌, ◌++◌, length, refl, ap, append_assoc, arith, sym, ◌∙◌}
 use Rattle.std.proofs.lemmas.List.{append-nil}
 use Rattle.shast.specs.Shape.{Text}
-use Rattle.shprint.specs.Marks.{Mark, Marks, text, line_end, document, laid, laid_behind, held_behind}
+use Rattle.shprint.specs.Marks.{Mark, Marks, text, line_end, document, laid, laid_after, held_after}
 use Rattle.shprint.specs.Written.{Sheet, sheet_of, written}
 
 -- ---- marks, and others after them
 
 pub laid_append : (h : Text) (ms ns : Marks) →
-    laid_behind h (ms ++ ns) ≡ laid_behind h ms ++ laid_behind (held_behind h ms) ns
-unfolding laid_behind held_behind
+    laid_after h (ms ++ ns) ≡ laid_after h ms ++ laid_after (held_after h ms) ns
+unfolding laid_after held_after
 laid_append h [] ns = refl
 laid_append h (text t ∷ ms) ns = rw (laid_append h ms ns, append_assoc) refl
 laid_append h (line_end ∷ ms) ns = rw (laid_append [] ms ns, append_assoc) refl
 laid_append h (document t ∷ ms) ns = laid_append (h ++ t) ms ns
 
-pub held_append : (h : Text) (ms ns : Marks) → held_behind h (ms ++ ns) ≡ held_behind (held_behind h ms) ns
-unfolding held_behind
+pub held_append : (h : Text) (ms ns : Marks) → held_after h (ms ++ ns) ≡ held_after (held_after h ms) ns
+unfolding held_after
 held_append h [] ns = refl
 held_append h (text t ∷ ms) ns = held_append h ms ns
 held_append h (line_end ∷ ms) ns = held_append [] ms ns
@@ -25,7 +25,7 @@ held_append h (document t ∷ ms) ns = held_append (h ++ t) ms ns
 -- ---- on a sheet
 
 pub written_none : (s : Sheet) → written s [] ≡ s
-unfolding written laid_behind held_behind
+unfolding written laid_after held_after
 written_none s = ap (λ t. sheet_of t s.held) (append-nil s.so_far)
 
 -- some marks and then others
@@ -38,7 +38,7 @@ pub written_cons : (s : Sheet) (ms : Marks) (m : Mark) → written (written s (m
 written_cons s ms m = written_append s (m ∷ []) ms
 
 pub written_text : (s : Sheet) (x : Text) → written s (text x ∷ []) ≡ sheet_of (s.so_far ++ x) s.held
-unfolding written laid_behind held_behind
+unfolding written laid_after held_after
 written_text s x = ap (λ r. sheet_of (s.so_far ++ r) s.held) (append-nil x)
 
 -- a text without a byte
@@ -48,7 +48,7 @@ written_nothing s x none = sym
     ∙ ap (λ t. sheet_of t s.held) (append-nil s.so_far))
 
 pub written_line : (s : Sheet) → written s (line_end ∷ []) ≡ sheet_of ((s.so_far ++ 10 ∷ []) ++ s.held) []
-unfolding written laid_behind held_behind
+unfolding written laid_after held_after
 written_line s = rw (append_assoc, append-nil) refl
 
 -- where nothing waits
@@ -58,11 +58,11 @@ written_line_alone s none =
     ∙ ap (λ t. sheet_of t []) (append-nil (s.so_far ++ 10 ∷ [])) ∙ ap (sheet_of (s.so_far ++ 10 ∷ [])) (sym none))
 
 pub written_document : (s : Sheet) (x : Text) → written s (document x ∷ []) ≡ sheet_of s.so_far (s.held ++ x)
-unfolding written laid_behind held_behind
+unfolding written laid_after held_after
 written_document s x = ap (λ r. sheet_of r (s.held ++ x)) (append-nil s.so_far)
 
 -- on an empty sheet
-pub written_first : (ms : Marks) → written (sheet_of [] []) ms ≡ sheet_of (laid ms) (held_behind [] ms)
+pub written_first : (ms : Marks) → written (sheet_of [] []) ms ≡ sheet_of (laid ms) (held_after [] ms)
 unfolding written
 written_first ms = refl
 

@@ -16,22 +16,22 @@ abbrev pub Marks : Type 0
 Marks = Row Mark
 
 -- the text of some marks, where this waits for the end of the line
-unfoldable pub laid_behind : Text → Marks → Text
-laid_behind held [] = []
-laid_behind held (text t ∷ ms) = t ++ laid_behind held ms
-laid_behind held (line_end ∷ ms) = 10 ∷ held ++ laid_behind [] ms
-laid_behind held (document t ∷ ms) = laid_behind (held ++ t) ms
+unfoldable pub laid_after : Text → Marks → Text
+laid_after held [] = []
+laid_after held (text t ∷ ms) = t ++ laid_after held ms
+laid_after held (line_end ∷ ms) = 10 ∷ held ++ laid_after [] ms
+laid_after held (document t ∷ ms) = laid_after (held ++ t) ms
 
 -- what waits after them
-unfoldable pub held_behind : Text → Marks → Text
-held_behind held [] = held
-held_behind held (text t ∷ ms) = held_behind held ms
-held_behind held (line_end ∷ ms) = held_behind [] ms
-held_behind held (document t ∷ ms) = held_behind (held ++ t) ms
+unfoldable pub held_after : Text → Marks → Text
+held_after held [] = held
+held_after held (text t ∷ ms) = held_after held ms
+held_after held (line_end ∷ ms) = held_after [] ms
+held_after held (document t ∷ ms) = held_after (held ++ t) ms
 
 -- the text of some marks
 abbrev pub laid : Marks → Text
-laid ms = laid_behind [] ms
+laid ms = laid_after [] ms
 
 -- ---- margins
 

@@ -4,7 +4,7 @@ use Rattle.shast.specs.Shape.{Text, Shape}
 use Rattle.shast.specs.Tree.{AContentOf, AJoinOf, AnEntryOf, AnItemOf, AWordOf, EntriesOf, command, entry, remark}
 use Rattle.shprint.specs.declared.layout.Layout.{Layout}
 use Rattle.shprint.specs.declared.page.Page.{Page}
-use Rattle.shprint.specs.Marks.{Marks, text, line_end, laid_behind, held_behind, deeper, lines_between, one}
+use Rattle.shprint.specs.Marks.{Marks, text, line_end, laid_after, held_after, deeper, lines_between, one}
 use Rattle.shprint.specs.Printed.{breaks_line, is_broken_item, is_one_line, print_comments, print_entries, print_gap, print_item, print_only, print_word}
 
 -- the text so far, and what waits for the end of the line
@@ -20,7 +20,7 @@ sheet page = sheet_of page.text.items page.held.items
 
 -- the same, and some marks after it
 unfoldable pub written : Sheet → Marks → Sheet
-written s ms = sheet_of (s.so_far ++ laid_behind s.held ms) (held_behind s.held ms)
+written s ms = sheet_of (s.so_far ++ laid_after s.held ms) (held_after s.held ms)
 
 -- these marks were printed, and a line begins as before
 abbrev pub Prints : Page → Page → Marks → Type 0
@@ -31,8 +31,8 @@ abbrev pub Deepens : Layout → Page → Page → Type 0
 Deepens y before after = (after.margin.items ≡ deeper y before.margin.items) × (sheet after ≡ sheet before)
 
 -- an item after another, and what parts them
-abbrev pub item_behind : Layout → Text → Shape AnItemOf → Marks
-item_behind y margin i = print_gap y margin (is_broken_item i) ++ print_item y i
+abbrev pub item_after : Layout → Text → Shape AnItemOf → Marks
+item_after y margin i = print_gap y margin (is_broken_item i) ++ print_item y i
 
 -- the bytes from one offset to another
 abbrev pub stretch : Text → ℕ → ℕ → Text

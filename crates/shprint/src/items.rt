@@ -224,7 +224,7 @@ impl<'a, S: Source> Printer<'a, S> {
             self.print_item(first, page)?;
             return self.print_items(rest, page);
         };
-        let (end, rest) = self.words_behind(span.end, rest);
+        let (end, rest) = self.words_after(span.end, rest);
         let words = Span {
             start: span.start,
             end,

@@ -8,7 +8,7 @@ ghost use Rattle.shast.specs.View.{view_item};
 ghost use Rattle.shprint.specs.declared.layout.Layout.{Layout};
 ghost use Rattle.shprint.specs.Marks.{one, text};
 ghost use Rattle.shprint.specs.Printed.{print_item, print_items};
-ghost use Rattle.shprint.specs.Written.{Sheet, item_behind, stretch, written};
+ghost use Rattle.shprint.specs.Written.{Sheet, item_after, stretch, written};
 
 use crate::printer::Printer;
 use shast::{Item, ItemContent, Span};
@@ -32,9 +32,9 @@ pub(crate) fn word_span(item: &Item) -> Option<Span>
 
 impl<'a, S: Source> Printer<'a, S> {
     /// Where an item ends that is a word one blank after this offset, and stands on the same line.
-    fn word_behind(&self, end: usize, item: &Item) -> Option<usize>
+    fn word_after(&self, end: usize, item: &Item) -> Option<usize>
         ensures { IfSome result (λ next. (end ≤ next) × ((y : Layout) (margin : Text) (s : Sheet) →
-            written s (item_behind y margin
+            written s (item_after y margin
             (shape_of_item (S.bytes self.now.source.now) (view_item item.now)))
             ≡ written s (one (stretch (S.bytes self.now.source.now) end next)))) }
     {
@@ -50,7 +50,7 @@ impl<'a, S: Source> Printer<'a, S> {
 
     /// Takes the first of these items as long as they stand, from an offset on, as they are
     /// printed: where the last of them ends, and the others.
-    pub(crate) fn words_behind<'b>(&self, start: usize, items: &'b [Item]) -> (usize, &'b [Item])
+    pub(crate) fn words_after<'b>(&self, start: usize, items: &'b [Item]) -> (usize, &'b [Item])
         ensures onward { start ≤ result.0 }
         ensures words { (y : Layout) (margin : Text) (s : Sheet) →
             written s (print_items y margin
@@ -63,7 +63,7 @@ impl<'a, S: Source> Printer<'a, S> {
         let mut end = start;
         let mut rest = items;
         'words: while let Some((item, behind)) = rest.split_first() {
-            let Some(next) = self.word_behind(end, item) else {
+            let Some(next) = self.word_after(end, item) else {
                 return (end, rest);
             };
             end = next;

@@ -12,7 +12,7 @@ use Rattle.shline.specs.declared.stop.Stop.TheVariants.{Memory, Wrong}
 use Rattle.shline.specs.declared.parsed_line.ParsedLine.{ParsedLine}
 use Rattle.shline.specs.Clauses.{Gives, Onward, view_told}
 use Rattle.shline.specs.Limits.{limits}
-use Rattle.shline.proofs.Wanted.{seen_behind}
+use Rattle.shline.proofs.Wanted.{seen_after}
 use Rattle.shread.specs.Answers.{NoFaultBefore, Tells}
 
 no_fault_before : (edition : Edition) (B : List ℕ) (p n : ℕ) (es : List AnEntry) (newline : Bool) →
@@ -29,4 +29,4 @@ pub tells : (edition : Edition) (B : List ℕ) (p : ℕ) (r : Result ParsedLine 
 tells edition B p (Ok told) low read some within =
     no_fault_before edition B p told.len (map view_entry told.entries.items) told.newline read some within
 tells edition B p (Err (Wrong f)) low fails some within = here_within edition B p f low fails.0 fails.1
-tells edition B p (Err Memory) low wants some within = seen_behind B p wants
+tells edition B p (Err Memory) low wants some within = seen_after B p wants

@@ -32,7 +32,7 @@ fn judge_buffer(
 
 /// The first chunk ends at each byte of a script.
 #[test]
-fn behind_newlines(rt: HostRuntime) -> Result<(), Fail> {
+fn after_newlines(rt: HostRuntime) -> Result<(), Fail> {
     let alloc = rt.alloc();
     for script in SCRIPTS {
         for newlines in 4_000..=4_096 {

@@ -39,8 +39,8 @@ module _ (ks js : Row (List ℕ)) (from to : ℕ) (bytes : List ℕ) (is : Refil
       omega (arith, all, one, two, three, four, count, order, within)
 
   -- those after them stay
-  pub refilled_behind : from ≤ to → to ≤ length ks → drop (from + needed (length bytes)) js ≡ drop to ks
-  refilled_behind order within =
+  pub refilled_after : from ≤ to → to ≤ length ks → drop (from + needed (length bytes)) js ≡ drop to ks
+  refilled_after order within =
       let three = length-take-le from ks (omega (arith, order, within)) in
       sym (drop-drop (needed (length bytes)) from js) ∙ ap (λ l. drop (needed (length bytes)) (drop from l)) is.row
       ∙ ap (drop (needed (length bytes))) (drop_at (take from ks) (is.filled ++ drop to ks) from three)

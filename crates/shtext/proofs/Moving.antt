@@ -4,7 +4,7 @@ use Rattle.std.proofs.lemmas.Bool.{cases_lt}
 use Rattle.std.proofs.lemmas.List.{get_or-append_right, get_or_append_left, get_or-drop, get_or-take, length-drop, length-take-le}
 use Rattle.std.proofs.Math.Seq.{take-add}
 use Rattle.shtext.specs.Chunks.{HasSums, Refilled, SumsOn, before, joined, needed}
-use Rattle.shtext.proofs.Filled.{refilled_behind}
+use Rattle.shtext.proofs.Filled.{refilled_after}
 use Rattle.shtext.proofs.Joined.{joined_append}
 
 -- what is measured of two lists is the sum
@@ -41,7 +41,7 @@ pub sums_stay : (measure : List ℕ → ℕ) → Adds measure → (ks js row : R
 sums_stay measure adds ks js row from to n bytes sums is order within all same count =
     subst (λ l. SumsOn measure l (before sums to) (drop to sums))
     (sym (ap (λ l. drop (from + n) l) same ∙ ap (λ m. drop (from + m) js) count
-    ∙ refilled_behind ks js from to bytes is order within))
+    ∙ refilled_after ks js from to bytes is order within))
     (sums_on measure adds ks sums to within all)
 
 -- after all chunks there are none
@@ -53,23 +53,23 @@ module _ (measure : List ℕ → ℕ) (ks : Row (List ℕ)) (old mid : List ℕ)
     (count : length mid ≡ length ks) (same : drop to mid ≡ old)
     (on : SumsOn measure (drop to ks) went old) where
   -- a sum past the place
-  pub sum_behind : (n : ℕ) → n < length (drop to mid) →
+  pub sum_after : (n : ℕ) → n < length (drop to mid) →
       get_or (drop to mid) n 0 ≡ went + measure (joined (take (n + 1) (drop to ks)))
-  sum_behind n low =
+  sum_after n low =
       let rest = length-drop to mid in
       let left = length-drop to ks in
       ap (λ l. get_or l n 0) same ∙ on n (omega (arith, low, rest, left, count))
 
   -- it is no less than what went
   pub sum_low : (n : ℕ) → n < length (drop to mid) → went ≤ get_or (drop to mid) n 0
-  sum_low n low = let here = sum_behind n low in omega (arith, here)
+  sum_low n low = let here = sum_after n low in omega (arith, here)
 
   module _ (adds : Adds measure) (sums : HasSums measure ks to mid) (came : ℕ) (is_came : came ≡ before mid to) where
     -- once it has moved it is the sum
     pub sum_moved : (n : ℕ) → n < length (drop to mid) →
         get_or (drop to mid) n 0 - went + came ≡ measure (joined (take (to + (n + 1)) ks))
     sum_moved n low =
-        let here = sum_behind n low in
+        let here = sum_after n low in
         let all = measured measure adds ks to (to + (n + 1)) (omega arith) in
         let there : to + (n + 1) - to ≡ n + 1 = omega arith in
         let rest = ap (λ m. measure (joined (take m (drop to ks)))) there in

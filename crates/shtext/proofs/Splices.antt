@@ -33,11 +33,11 @@ made_more from (t ∷ ts) s = let on = made_more t.b ts s in omega (arith, on)
 
 -- ---- where they end
 
-pub last_behind : (len from : ℕ) (ss : Row ASplice) → AreInRange len ss → RiseFrom from ss →
+pub last_after : (len from : ℕ) (ss : Row ASplice) → AreInRange len ss → RiseFrom from ss →
     from ≤ last_end_from from ss
-last_behind len from [] range rising = omega arith
-last_behind len from (s ∷ ss) range rising =
-    let on = last_behind len s.b ss range.2 rising.1 in omega (arith, on, range.0, rising.0)
+last_after len from [] range rising = omega arith
+last_after len from (s ∷ ss) range rising =
+    let on = last_after len s.b ss range.2 rising.1 in omega (arith, on, range.0, rising.0)
 
 pub last_within : (len from : ℕ) (ss : Row ASplice) → from ≤ len → AreInRange len ss → last_end_from from ss ≤ len
 last_within len from [] low range = low
@@ -48,7 +48,7 @@ pub in_last : (len from : ℕ) (ss : Row ASplice) → AreInRange len ss → Rise
     AreInRange (last_end_from from ss) ss
 in_last len from [] range rising = tt
 in_last len from (s ∷ ss) range rising =
-    (range.0, last_behind len s.b ss range.2 rising.1, in_last len s.b ss range.2 rising.1)
+    (range.0, last_after len s.b ss range.2 rising.1, in_last len s.b ss range.2 rising.1)
 
 -- ---- what they make
 
@@ -78,18 +78,18 @@ edited_with bytes from (s ∷ ss) low range rising =
     ∙ append_assoc (take from bytes) (take (s.a - from) (drop from bytes)) _
 
 -- what stands after the last of them stays
-pub with_behind : (from : ℕ) (bytes behind : List ℕ) (ss : Row ASplice) → AreInRange (from + length bytes) ss →
+pub with_after : (from : ℕ) (bytes behind : List ℕ) (ss : Row ASplice) → AreInRange (from + length bytes) ss →
     RiseFrom from ss
     → with_splices from (bytes ++ behind) ss ≡ with_splices from bytes ss ++ behind
-with_behind from bytes behind [] range rising = refl
-with_behind from bytes behind (s ∷ ss) range rising =
+with_after from bytes behind [] range rising = refl
+with_after from bytes behind (s ∷ ss) range rising =
     let short : s.b - from ≤ length bytes = omega (arith, range.1) in
     let count = length-drop (s.b - from) bytes in
     let same : s.b + length (drop (s.b - from) bytes) ≡ from + length bytes =
     omega (arith, count, range.0, range.1, rising.0) in
     let front = take-append-le (s.a - from) bytes behind (omega (arith, short, range.0)) in
     let back = drop-append-le (s.b - from) bytes behind short in
-    let on = with_behind s.b (drop (s.b - from) bytes) behind ss
+    let on = with_after s.b (drop (s.b - from) bytes) behind ss
     (subst (λ n. AreInRange n ss) (sym same) range.2) rising.1 in
     ap (λ l. l ++ (s.bytes ++ with_splices s.b (drop (s.b - from) (bytes ++ behind)) ss)) front
     ∙ ap (λ l. take (s.a - from) bytes ++ (s.bytes ++ l)) (ap (λ l. with_splices s.b l ss) back ∙ on)
@@ -131,7 +131,7 @@ module _ (bytes : List ℕ) (ss : Row ASplice) (some : 0 < length ss) (range : A
     rise : (ts : Row ASplice) → 0 < length ts → AreInRange (length bytes) ts → RiseFrom 0 ts →
         first_begin ts ≤ last_end ts
     rise [] none is on = absurd (omega (arith, none))
-    rise (t ∷ ts) more is on = omega (arith, is.0, last_behind (length bytes) t.b ts is.2 on.1)
+    rise (t ∷ ts) more is on = omega (arith, is.0, last_after (length bytes) t.b ts is.2 on.1)
 
   pub ends_within : last_end ss ≤ length bytes
   ends_within = last_within (length bytes) 0 ss (omega arith) range
@@ -169,7 +169,7 @@ module _ (bytes : List ℕ) (ss : Row ASplice) (some : 0 < length ss) (range : A
       sym
       (edited_with bytes first ss (omega (arith, ends_rise, ends_within)) range rise_first
       ∙ ap (λ l. take first bytes ++ with_splices first l ss) split
-      ∙ ap (λ l. take first bytes ++ l) (with_behind first old (drop last bytes) ss in_held rise_first))
+      ∙ ap (λ l. take first bytes ++ l) (with_after first old (drop last bytes) ss in_held rise_first))
 
   -- and they end where its bytes end
   pub made_end : first_begin ss + length made ≡ new_end ss

@@ -17,10 +17,10 @@ lines_before B X k Y o is within =
     ap (λ l. 1 + count_by is_newline l) front ∙ ap (λ m. 1 + m) (lines_append X (take o k))
 
 -- a line begins after a newline of a chunk
-pub start_behind : (B X k Y : List ℕ) (o n : ℕ) → B ≡ X ++ (k ++ Y) → 0 < o → o ≤ length k →
+pub start_after : (B X k Y : List ℕ) (o n : ℕ) → B ≡ X ++ (k ++ Y) → 0 < o → o ≤ length k →
     is_newline (get_or k (o - 1) 0) ≡ true
     → 1 + (count_by is_newline X + count_by is_newline (take o k)) ≡ n → IsLineStart B n (Some (length X + o))
-start_behind B X k Y o n is some within newline count =
+start_after B X k Y o n is some within newline count =
     let at : ℕ = length X + (o - 1) in
     let one = ap length is in
     let two = length-append X (k ++ Y) in
@@ -49,10 +49,10 @@ between B p at k low high within same newline =
     omega (arith, next, before, here, behind, end, same)
 
 -- the byte before the begin of a line is a newline
-begun_behind : (B : List ℕ) (k : ℕ) → k < length B → column_of B (k + 1) ≡ 1 → (x : Bool) →
+begun_after : (B : List ℕ) (k : ℕ) → k < length B → column_of B (k + 1) ≡ 1 → (x : Bool) →
     is_newline (get_or B k 0) ≡ x → is_newline (get_or B k 0) ≡ true
-begun_behind B k within column true is = is
-begun_behind B k within column false is =
+begun_after B k within column true is = is
+begun_after B k within column false is =
     let step : since_newline (take (k + 1) B) ≡ since_newline (take k B) + 1 = (stays B k within is).1 in
     absurd (omega (arith, column, step))
 
@@ -62,7 +62,7 @@ start_low B p at within column same =
     ⊎_elim
     (λ (lt : at < p).
     let up : p - 1 + 1 ≡ p = omega (arith, lt) in
-    let newline = begun_behind B (p - 1) (omega (arith, lt, within)) (ap (column_of B) up ∙ column)
+    let newline = begun_after B (p - 1) (omega (arith, lt, within)) (ap (column_of B) up ∙ column)
     (is_newline (get_or B (p - 1) 0)) refl in
     absurd (between B at p (p - 1) (omega (arith, lt)) (omega (arith, lt)) within (sym same) newline))
     (λ (ge : p ≤ at). ge)

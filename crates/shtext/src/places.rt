@@ -39,7 +39,7 @@ impl Buffer {
         let index = place_of(&self.lines, newline);
         let chunk = &self.chunks[index];
         let bytes = chunk.bytes();
-        let behind = behind_newline(bytes, newline - sum_before(&self.lines, index));
+        let behind = after_newline(bytes, newline - sum_before(&self.lines, index));
         Some(self.begin(index) + behind)
     }
 
@@ -60,7 +60,7 @@ impl Buffer {
 }
 
 /// The place after the newline that so many come before.
-fn behind_newline(bytes: &[u8], count: usize) -> usize
+fn after_newline(bytes: &[u8], count: usize) -> usize
     requires { count < count_by is_newline bytes.now }
     ensures some { 0 < result }
     ensures within { result ≤ length bytes.now }

@@ -35,11 +35,11 @@ pub(crate) fn place_near(sums: &[usize], guess: usize, at: usize) -> usize
     if at < sums[guess] {
         return guess;
     }
-    place_behind(sums, guess, at)
+    place_after(sums, guess, at)
 }
 
 /// The place at which the sum passes a number, at another place or after it: near that, or else anywhere.
-fn place_behind(sums: &[usize], from: usize, at: usize) -> usize
+fn place_after(sums: &[usize], from: usize, at: usize) -> usize
     requires high { at < before sums.now (length sums.now) }
     requires within { from < length sums.now }
     requires low { before sums.now from ≤ at }
@@ -185,8 +185,8 @@ fn sum_between(chunks: &[Chunk], from: usize, to: usize, ends: &mut [usize], lin
     ensures line_count { length lines.new ≡ length lines.old }
     ensures ends { HasSums ends_of chunks.now to ends.new }
     ensures lines { HasSums lines_of chunks.now to lines.new }
-    ensures ends_behind { drop to ends.new ≡ drop to ends.old }
-    ensures lines_behind { drop to lines.new ≡ drop to lines.old }
+    ensures ends_after { drop to ends.new ≡ drop to ends.old }
+    ensures lines_after { drop to lines.new ≡ drop to lines.old }
 {
     let mut end = sum_before(ends, from);
     let mut line = sum_before(lines, from);

@@ -308,11 +308,11 @@ fn are_refused(buffer: &mut Buffer, most: &[u8], large: &[u8]) -> bool {
     let out_of_order = [part(1, 3, large), part(0, 1, large)];
     let none: &[u8] = most.get(..0).unwrap_or(most);
     let too_large = [part(0, 0, most), part(0, 2, none)];
-    let too_large_behind = [part(0, 2, none), part(3, 3, most)];
+    let too_large_after = [part(0, 2, none), part(3, 3, most)];
     is_refused(buffer, &out_of_range, TextError::Range)
         && is_refused(buffer, &out_of_order, TextError::Order)
         && is_refused(buffer, &too_large, TextError::TooLarge)
-        && is_refused(buffer, &too_large_behind, TextError::TooLarge)
+        && is_refused(buffer, &too_large_after, TextError::TooLarge)
 }
 
 #[test]

@@ -66,7 +66,7 @@ fn items_that_fall_through(rt: HostRuntime) -> Result<(), Fail> {
 }
 
 #[test]
-fn items_behind_others(rt: HostRuntime) -> Result<(), Fail> {
+fn items_after_others(rt: HostRuntime) -> Result<(), Fail> {
     let alloc = rt.alloc();
     for falls in [[false, true], [true, false]] {
         let mut joined = list(alloc, 0, falls[0])?;

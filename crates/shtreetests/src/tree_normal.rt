@@ -18,7 +18,7 @@ enum Place {
     Argument,
     SecondItem,
     Redirect,
-    RedirectBehindCompound,
+    RedirectAfterCompound,
     FunctionBody,
     SecondSubst,
     SecondCommand,
@@ -53,7 +53,7 @@ const PLACES: [Place; 32] = [
     Place::Argument,
     Place::SecondItem,
     Place::Redirect,
-    Place::RedirectBehindCompound,
+    Place::RedirectAfterCompound,
     Place::FunctionBody,
     Place::SecondSubst,
     Place::SecondCommand,
@@ -260,7 +260,7 @@ fn in_command(alloc: Global, place: Place, list: List) -> Result<Command, AllocE
             let item = script.redirect("", "", around(alloc, list)?)?;
             simple_of(script.one(item)?)
         }
-        Place::RedirectBehindCompound => {
+        Place::RedirectAfterCompound => {
             let mut compound = script.formed(Form::Brace(run(alloc)?), "");
             compound
                 .redirects
@@ -360,7 +360,7 @@ fn a_list_in_each_place(rt: HostRuntime) -> Result<(), Fail> {
 }
 
 /// A comment, and after it a blank command in the background with a comment of its own.
-fn behind_a_remark(alloc: Global) -> Result<List, AllocError> {
+fn after_a_remark(alloc: Global) -> Result<List, AllocError> {
     let script = script(alloc);
     let mut list = script.remark("")?;
     let and_or = script.alone(script.simple(&["a"])?);
@@ -376,7 +376,7 @@ fn a_command_beside_a_comment(rt: HostRuntime) -> Result<(), Fail> {
         let mut list = script.remark("")?;
         list.entries.push(script.entry(script.simple(&["a"])?))?;
         judge(&rt, alloc, place, list, true)?;
-        judge(&rt, alloc, place, behind_a_remark(alloc)?, true)?;
+        judge(&rt, alloc, place, after_a_remark(alloc)?, true)?;
         let mut list = run(alloc)?;
         list.entries.push(comment_entry(script.comment(""), true))?;
         judge(&rt, alloc, place, list, true)?;

@@ -184,16 +184,16 @@ drop_some (x ∷ xs) n low = (
   drop-cons (x ∷ xs) n x low ∙ ap (λ m. get_or (x ∷ xs) n x ∷ drop m (x ∷ xs)) (sym (add-one n)),
 )
 
-pub behind_within : {X : Type 0} (ks : Row (Row X)) (p : BlockPlace) → p.line < length (block_at ks p.block) → (x : X)
+pub after_within : {X : Type 0} (ks : Row (Row X)) (p : BlockPlace) → p.line < length (block_at ks p.block) → (x : X)
     × (lines_from ks p ≡ x ∷ lines_from ks (record { block = p.block; line = p.line + 1 }))
-behind_within ks p low = let some = drop_some (block_at ks p.block) p.line low in
+after_within ks p low = let some = drop_some (block_at ks p.block) p.line low in
     (some.0, ap (λ x. x ++ in_one_row (drop (p.block + 1) ks)) some.1)
 
-pub behind_out : {X : Type 0} (ks : Row (Row X)) (p : BlockPlace) → p.line < length (block_at ks p.block) →
+pub after_out : {X : Type 0} (ks : Row (Row X)) (p : BlockPlace) → p.line < length (block_at ks p.block) →
     length (block_at ks p.block) ≤ p.line + 1
     → (x : X) × (lines_from ks p ≡ x ∷ lines_from ks (record { block = p.block + 1; line = 0 }))
-behind_out ks p low high =
-    let some = behind_within ks p low in (
+after_out ks p low high =
+    let some = after_within ks p low in (
       some.0,
       some.1
           ∙ ap (λ x. some.0 ∷ (x ++ in_one_row (drop (p.block + 1) ks)))

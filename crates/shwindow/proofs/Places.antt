@@ -3,15 +3,15 @@ use Rattle.std.proofs.Common.{◌≡◌, ℕ, ◌+◌, ◌<◌, ◌≤◌, [], �
 use Rattle.std.proofs.lemmas.Bool.{cases_lt}
 use Rattle.std.proofs.lemmas.List.{drop_all, get_or_past, get_or-take, take-take}
 use Rattle.shwindow.specs.Blocks.{IsPlace, block_at, in_one_row, lines_before, lines_from}
-use Rattle.shwindow.specs.Places.{IsNotBehind, in_block}
+use Rattle.shwindow.specs.Places.{IsNotAfter, in_block}
 use Rattle.shwindow.specs.declared.place.BlockPlace.{BlockPlace}
 use Rattle.shwindow.proofs.Joined.{joined_at}
 
-pub not_behind_itself : (p : BlockPlace) → IsNotBehind p p
-not_behind_itself p = record { block = omega arith; line = λ _. omega arith }
+pub not_after_itself : (p : BlockPlace) → IsNotAfter p p
+not_after_itself p = record { block = omega arith; line = λ _. omega arith }
 
-pub not_behind_more : (p q r : BlockPlace) → IsNotBehind p q → IsNotBehind q r → IsNotBehind p r
-not_behind_more p q r one two = record {
+pub not_after_more : (p q r : BlockPlace) → IsNotAfter p q → IsNotAfter q r → IsNotAfter p r
+not_after_more p q r one two = record {
   block = let a = one.block in let b = two.block in omega arith;
   line = λ same.
       let a = one.block in
@@ -24,9 +24,9 @@ not_behind_more p q r one two = record {
 }
 
 -- no place is past the one after all blocks
-pub not_behind_end : {X : Type 0} (ks : Row (Row X)) (p q : BlockPlace) → IsPlace ks p → q.block ≡ length ks →
-    IsNotBehind p q
-not_behind_end ks p q place is = record {
+pub not_after_end : {X : Type 0} (ks : Row (Row X)) (p q : BlockPlace) → IsPlace ks p → q.block ≡ length ks →
+    IsNotAfter p q
+not_after_end ks p q place is = record {
   block = let within = place.block in omega arith;
   line = λ same.
       let none = ap length (get_or_past ks p.block [] (omega arith)) in
@@ -46,7 +46,7 @@ from_next ks p q n block line is =
 -- ---- blocks that are cut at one place, and hold another place before it
 
 -- the block of a place that is not after the cut has the same lines up to it
-module _ {X : Type 0} (ks new : Row (Row X)) (p q : BlockPlace) (order : IsNotBehind p q)
+module _ {X : Type 0} (ks new : Row (Row X)) (p q : BlockPlace) (order : IsNotAfter p q)
     (front : take q.block new ≡ take q.block ks)
     (head : take q.line (block_at new q.block) ≡ take q.line (block_at ks q.block)) where
   same_block : p.block < q.block → block_at new p.block ≡ block_at ks p.block

@@ -34,16 +34,16 @@ module _ {K : Type 0} (Is : List ℕ → HeldLine K → Type 0) (laws : Reads Is
 
   module _ (B : List ℕ) where
     -- after the begin of a line the next boundary is its end, and there is none if it did not end
-    none_behind : (p s : ℕ) (l : HeldLine K) → IsBoundary Is B p → IsBoundary Is B s → Is (drop p B) l
+    none_after : (p s : ℕ) (l : HeldLine K) → IsBoundary Is B p → IsBoundary Is B s → Is (drop p B) l
         → l.ended ≡ false → s ≤ p
-    none_behind p s l at there is not_ended =
+    none_after p s l at there is not_ended =
         ⊎_elim
         (λ (more : p < s). absurd (both_ways l.ended not_ended (gap Is laws B p s l at there more is).0))
         (λ low. low) (cases_lt p s)
 
-    next_behind : (p s : ℕ) (l : HeldLine K) → IsBoundary Is B p → IsBoundary Is B s → Is (drop p B) l
+    next_after : (p s : ℕ) (l : HeldLine K) → IsBoundary Is B p → IsBoundary Is B s → Is (drop p B) l
         → (s ≤ p) ⊎ (p + l.len ≤ s)
-    next_behind p s l at there is =
+    next_after p s l at there is =
         ⊎_elim (λ (more : p < s). inr (gap Is laws B p s l at there more is).1)
         (λ low. inl low) (cases_lt p s)
 
@@ -54,7 +54,7 @@ module _ {K : Type 0} (Is : List ℕ → HeldLine K → Type 0) (laws : Reads Is
       record {
         boundary = at;
         low = low;
-        greatest = λ s there up_to. none_behind p s l at there is not_ended;
+        greatest = λ s there up_to. none_after p s l at there is not_ended;
       },
     )
     greatest_from a p (goes l is ended rest) at low =
@@ -66,7 +66,7 @@ module _ {K : Type 0} (Is : List ℕ → HeldLine K → Type 0) (laws : Reads Is
             low = low;
             greatest = λ s there up_to.
                 ⊎_elim (λ (here : s ≤ p). here)
-                (λ (on : p + l.len ≤ s). absurd (omega arith)) (next_behind p s l at there is);
+                (λ (on : p + l.len ≤ s). absurd (omega arith)) (next_after p s l at there is);
           },
         ))
         (λ (on : p + l.len ≤ a). greatest_from a (p + l.len) rest (behind at is ended) on)
@@ -99,8 +99,8 @@ module _ {K : Type 0} (Is : List ℕ → HeldLine K → Type 0) (laws : Reads Is
         (cases_lt q e)
 
     -- where p is none, and none is before p, each is after p
-    each_behind : (p s : ℕ) → (IsShared Is B U e b p → ⊥) → IsShared Is B U e b s → p ≤ s → p < s
-    each_behind p s none m low =
+    each_after : (p s : ℕ) → (IsShared Is B U e b p → ⊥) → IsShared Is B U e b s → p ≤ s → p < s
+    each_after p s none m low =
         ⊎_elim (λ (less : p < s). less)
         (λ (high : s ≤ p).
         let same : s ≡ p = omega arith in
@@ -115,15 +115,15 @@ module _ {K : Type 0} (Is : List ℕ → HeldLine K → Type 0) (laws : Reads Is
         (λ (none : IsShared Is B U e b p → ⊥). (
           length U,
           never refl
-              (λ s m. let low = each_behind p s none m (least s m) in
-              let high = none_behind U p s l at m.here is not_ended in
+              (λ s m. let low = each_after p s none m (least s m) in
+              let high = none_after U p s l at m.here is not_ended in
               omega arith),
         ))
         (is_shared p at)
     ends_from p (goes l is ended rest) at least =
         ⊎_elim (λ (m : IsShared Is B U e b p). (p, meets m least))
         (λ (none : IsShared Is B U e b p → ⊥). ends_from (p + l.len) rest (behind at is ended)
-        (λ s m. (gap Is laws U p s l at m.here (each_behind p s none m (least s m)) is).1))
+        (λ s m. (gap Is laws U p s l at m.here (each_after p s none m (least s m)) is).1))
         (is_shared p at)
 
   pub some_window : ((T : List ℕ) → (l : HeldLine K) × Is T l) → (B U : List ℕ) (a e b : ℕ)

@@ -13,8 +13,8 @@ module _ {K : Type 0} (Is : List ℕ → HeldLine K → Type 0) where
       → IsBoundary Is U s × ((l : HeldLine K) → Is (drop s B) l → l.ended ≡ true → s + l.len ≤ a → Is (drop s U) l)
 
   -- the lines from a shared boundary on are the old ones
-  abbrev pub BehindStays : Type 0
-  BehindStays = (B U : List ℕ) (a e b q : ℕ) → Apart B U a e b → IsShared Is B U e b q
+  abbrev pub AfterStays : Type 0
+  AfterStays = (B U : List ℕ) (a e b q : ℕ) → Apart B U a e b → IsShared Is B U e b q
       → (drop q U ≡ drop (b + (q - e)) B)
       × ((hs : Row (HeldLine K)) → IsRow Is (drop (b + (q - e)) B) hs → IsRow Is (drop q U) hs)
 

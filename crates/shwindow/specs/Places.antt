@@ -4,7 +4,7 @@ use Rattle.shwindow.specs.Blocks.{block_at}
 use Rattle.shwindow.specs.declared.place.BlockPlace.{BlockPlace}
 
 -- one place is another or before it
-pub record IsNotBehind (p q : BlockPlace) : Type 0 where
+pub record IsNotAfter (p q : BlockPlace) : Type 0 where
   pub block : p.block ≤ q.block
   pub line : p.block ≡ q.block → p.line ≤ q.line
 

@@ -2,7 +2,7 @@
 //! walks over all of them or moves them.
 ghost use Rattle.std.specs.Prelude.{◌≡◌, ◌+◌, ◌-◌, ◌<◌, ◌≤◌, ◌^◌, ◌++◌, ◌∷◌, [], ℕ, List as Row, OnErr, OnOk, IfOk, IfSome, IsSome, drop, false, length, option_map, take, vec_capacity, vec_len};
 ghost use Rattle.shwindow.specs.Blocks.{IsPlace, block_at, first_of, in_one_row, lines_before, lines_from};
-ghost use Rattle.shwindow.specs.Places.{IsNotBehind};
+ghost use Rattle.shwindow.specs.Places.{IsNotAfter};
 ghost use Rattle.shwindow.specs.Lines.{extent};
 ghost use Rattle.shwindow.specs.declared.line.HeldLine.{HeldLine};
 
@@ -75,7 +75,7 @@ impl<K: Drop> Blocks<K> {
         requires place { IsPlace self.now.blocks.items place }
         requires within { place.block < vec_len self.now.blocks }
         ensures place { IsPlace self.now.blocks.items result }
-        ensures order { IsNotBehind place result }
+        ensures order { IsNotAfter place result }
         ensures rest { (line : HeldLine K)
             × (lines_from self.now.blocks.items place ≡ line
             ∷ lines_from self.now.blocks.items result) }

@@ -24,7 +24,7 @@ mod window;
 
 ghost use Rattle.std.specs.Prelude.{List, ℕ};
 ghost use Rattle.shwindow.specs.Lines.{IsLineOf, Reads};
-ghost use Rattle.shwindow.specs.Laws.{BeforeStays, BehindStays, BlocksFind, FrontStays, OneRow, OneWindow, SomeWindow, Splices, WindowOrder};
+ghost use Rattle.shwindow.specs.Laws.{BeforeStays, AfterStays, BlocksFind, FrontStays, OneRow, OneWindow, SomeWindow, Splices, WindowOrder};
 
 pub use held::HeldLines;
 pub use line::{HeldLine, LineReader};
@@ -35,7 +35,7 @@ pub fn held_lines<K>()
     ensures before { (line : List ℕ → HeldLine K) → Reads (IsLineOf line) →
         BeforeStays (IsLineOf line) }
     ensures behind { (line : List ℕ → HeldLine K) → Reads (IsLineOf line) →
-        BehindStays (IsLineOf line) }
+        AfterStays (IsLineOf line) }
     ensures front { (line : List ℕ → HeldLine K) → Reads (IsLineOf line) →
         FrontStays (IsLineOf line) }
     ensures row { (line : List ℕ → HeldLine K) → Reads (IsLineOf line) → OneRow (IsLineOf line) }

@@ -1,7 +1,7 @@
 //! A walk over held lines.
 ghost use Rattle.std.specs.Prelude.{◌≡◌, ◌≤◌, ◌++◌, ◌∷◌, [], vec_len};
 ghost use Rattle.shwindow.specs.Blocks.{IsPlace, lines_from};
-ghost use Rattle.shwindow.specs.Places.{IsNotBehind};
+ghost use Rattle.shwindow.specs.Places.{IsNotAfter};
 
 use crate::blocks::Blocks;
 use crate::line::HeldLine;
@@ -46,7 +46,7 @@ impl<'a, K: Drop> Lines<'a, K> {
     /// The place after the lines that ended.
     pub(crate) fn end(&self) -> BlockPlace
         ensures place { IsPlace self.now.blocks.now.blocks.items result }
-        ensures order { IsNotBehind self.now.place result }
+        ensures order { IsNotAfter self.now.place result }
         ensures rest { lines_from self.now.blocks.now.blocks.items result ≡ [] }
     {
         self.blocks.end()
@@ -57,7 +57,7 @@ impl<'a, K: Drop> Lines<'a, K> {
         ensures step { YieldsFirstBy (λ line. line.now) lines_left self.old result self.new }
         ensures blocks { self.new.blocks ≡ self.old.blocks }
         ensures last { self.new.last ≡ self.old.last }
-        ensures order { IsNotBehind self.old.place self.new.place }
+        ensures order { IsNotAfter self.old.place self.new.place }
     {
         if self.past {
             return None;

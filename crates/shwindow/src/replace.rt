@@ -2,7 +2,7 @@
 ghost use Rattle.std.specs.Prelude.{◌≡◌, ◌+◌, ◌-◌, ◌<◌, ◌≤◌, ◌^◌, ◌++◌, ℕ, IfSome, OnErr, OnOk, drop, length, take, vec_capacity, vec_len};
 ghost use Rattle.shwindow.specs.Blocks.{IsPlace, block_at, in_one_row, lines_before, lines_from};
 ghost use Rattle.shwindow.specs.Lines.{extent};
-ghost use Rattle.shwindow.specs.Places.{GivesWay, IsNotBehind, in_block};
+ghost use Rattle.shwindow.specs.Places.{GivesWay, IsNotAfter, in_block};
 
 use crate::block::MOST_LINES;
 use crate::blocks::Blocks;
@@ -20,7 +20,7 @@ impl<K: Drop> Blocks<K> {
     ) -> Result<(), AllocError>
         requires from { IsPlace self.old.blocks.items from }
         requires upto { IsPlace self.old.blocks.items upto }
-        requires order { IsNotBehind from upto }
+        requires order { IsNotAfter from upto }
         requires fits { extent (lines_before self.old.blocks.items from
             ++ (in_one_row new.blocks.items ++ lines_from self.old.blocks.items upto)) < 2 ^ 64 }
         ensures ok { OnOk result (in_one_row self.new.blocks.items ≡
@@ -41,7 +41,7 @@ impl<K: Drop> Blocks<K> {
     fn end_in_block(&self, from: BlockPlace, upto: BlockPlace) -> Option<usize>
         requires from { IsPlace self.now.blocks.items from }
         requires upto { IsPlace self.now.blocks.items upto }
-        requires order { IsNotBehind from upto }
+        requires order { IsNotAfter from upto }
         ensures gives { IfSome result (λ to. GivesWay self.now.blocks.items from to) }
         ensures rest { IfSome result
             (λ to. lines_from self.now.blocks.items (in_block from to)
@@ -63,7 +63,7 @@ impl<K: Drop> Blocks<K> {
     fn end_by_count(&self, from: BlockPlace, upto: BlockPlace, new: &Blocks<K>) -> Option<usize>
         requires from { IsPlace self.now.blocks.items from }
         requires upto { IsPlace self.now.blocks.items upto }
-        requires order { IsNotBehind from upto }
+        requires order { IsNotAfter from upto }
         ensures gives { IfSome result (λ to. GivesWay self.now.blocks.items from to) }
         ensures rest { IfSome result
             (λ to. lines_from self.now.blocks.items (in_block from to)

@@ -4,7 +4,7 @@ ghost use Rattle.shwindow.specs.Blocks.{IsPlace, lines_from};
 ghost use Rattle.shwindow.specs.Hand.{Passes};
 ghost use Rattle.shwindow.specs.Lines.{IsRow, extent};
 ghost use Rattle.shwindow.specs.Meter.{RoseWithin, risen};
-ghost use Rattle.shwindow.specs.Places.{IsNotBehind};
+ghost use Rattle.shwindow.specs.Places.{IsNotAfter};
 ghost use Rattle.shwindow.specs.Reading.{IsBegun, lines_then, read_of};
 ghost use Rattle.shwindow.specs.Walks.{lines_left};
 ghost use Rattle.shwindow.specs.Window.{Ends};
@@ -43,7 +43,7 @@ impl<'a, K: Drop> Hand<'a, K> {
         ensures past { (lines_left self.new.lines ≡ [] → ⊥) → at ≤ self.new.begin }
         ensures blocks { self.new.lines.blocks ≡ self.old.lines.blocks }
         ensures last { self.new.lines.last ≡ self.old.lines.last }
-        ensures order { IsNotBehind self.old.lines.place self.new.lines.place }
+        ensures order { IsNotAfter self.old.lines.place self.new.lines.place }
     {
         'lines: while self.begin < at {
             let Some(line) = self.lines.step() else {
@@ -91,7 +91,7 @@ pub(crate) fn read_window<K: Drop, R: LineReader<K>, S: Source>(
         IsRow (R.is_line (R.setting reader.old)) (drop begin (S.bytes source.now))
         (lines_then old.entry w)) }
     ensures place { IfOk result (λ w. IsPlace old.entry.blocks.now.blocks.items w.upto) }
-    ensures order { IfOk result (λ w. IsNotBehind old.entry.place w.upto) }
+    ensures order { IfOk result (λ w. IsNotAfter old.entry.place w.upto) }
     ensures ends { IfOk result (λ w. (B : List ℕ) (a : ℕ) →
         IsBegun (R.is_line (R.setting reader.old)) B (S.bytes source.now)
         a end old_end begin (lines_left old.entry) →

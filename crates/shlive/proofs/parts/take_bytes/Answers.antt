@@ -5,7 +5,7 @@ use Rattle.shtext.specs.Device.{input_ended, input_failed}
 use Rattle.shlive.specs.Ahead.{StopsBy, TakesBytes, ahead_of}
 use Rattle.shlive.specs.Parts.{AreSplices}
 use Rattle.shlive.specs.Requests.{Sense, splice_by, unfinished, with_bytes}
-use Rattle.shlive.proofs.Asked.{behind_none, behind_some, bytes_cut_line, bytes_whole}
+use Rattle.shlive.proofs.Asked.{after_none, after_some, bytes_cut_line, bytes_whole}
 use Rattle.shlive.proofs.Taken.{takes_both}
 use Rattle.shlive.proofs.parts.take_bytes.Goals as goal
 
@@ -43,7 +43,7 @@ returns-then-is_empty-clause-came g c =
           (ahead c.take_line.new.input c.take_line.new.incoming)
           p.0 (q.0 ++ 10 ∷ []) _ p.3 q.3 refl,
       (λ next rest. bytes_whole part next p.0 q.0 rest p.1 q.1
-          ∙ behind_none (next (splice_by part p.0)) q.0 rest empty),
+          ∙ after_none (next (splice_by part p.0)) q.0 rest empty),
       (λ len ss held. record {
         told = subst (λ t. IsTally t len (ss ++ splice_by part p.0 ∷ [])) (sym c.keep.ensures.tally)
             (c.expect-wanted.ensures.told len ss p.0 p.1 held.told);
@@ -66,7 +66,7 @@ returns-else-is_empty-clause-came g c =
           (ahead c.take_line.new.input c.take_line.new.incoming)
           p.0 (q.0 ++ 10 ∷ []) _ p.3 q.3 refl,
       (λ next rest. bytes_whole part next p.0 q.0 rest p.1 q.1
-          ∙ behind_some (next (splice_by part p.0)) q.0 rest
+          ∙ after_some (next (splice_by part p.0)) q.0 rest
           (λ e. let empty = (c.is_empty.ensures q.0 q.2).1 e in absurd cc)),
       (λ len ss held. record {
         told = subst (λ t. IsTally t len (ss ++ splice_by part p.0 ∷ [])) (sym c.keep.ensures.tally)

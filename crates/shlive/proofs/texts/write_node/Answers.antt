@@ -7,9 +7,9 @@ use Rattle.shlive.specs.Replies.{kind_text}
 use Rattle.shlive.proofs.texts.write_node.Goals as goal
 
 -- a kind at the end of a line, with a blank before what is used of it
-kind_behind : (line kind : List ℕ) (unused : ℕ) → length line ≡ 51 → length kind ≡ 8 → unused ≤ 8
+kind_after : (line kind : List ℕ) (unused : ℕ) → length line ≡ 51 → length kind ≡ 8 → unused ≤ 8
     → drop (43 + unused - 1) (set (put_mid 43 8 line kind) (43 + unused - 1) 32) ≡ 32 ∷ drop unused kind
-kind_behind line kind unused long short within =
+kind_after line kind unused long short within =
     let front : length (take 43 line) ≡ 43 = length-take-le 43 line (omega arith) in
     let none : drop 8 (drop 43 line) ≡ [] =
     drop_of_length-le (drop 43 line) {i = 8} (omega (arith, length-drop 43 line)) in
@@ -30,7 +30,7 @@ joined start stop kind = grind (arith, append_assoc)
 
 pub returns : goal.returns
 returns c =
-    let kind = kind_behind c.args.line.now c.kind_text-unused.result.0.now c.kind_text-unused.result.1 (omega arith)
+    let kind = kind_after c.args.line.now c.kind_text-unused.result.0.now c.kind_text-unused.result.1 (omega arith)
     (omega arith) (omega arith) in
     rw (
       c.write_number.ensures.written,

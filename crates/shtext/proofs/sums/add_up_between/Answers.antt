@@ -16,7 +16,7 @@ move_sums-requires-clause-low c =
     subst (λ (l : List ℕ). (n : ℕ) → n < length l → c.args.went.0 ≤ get_or l n 0) (sym (take_rest mid c.args.to))
     (sum_low ends_of c.args.chunks.now (drop c.args.to c.args.ends.now) mid c.args.to c.args.went.0 c.requires.within
     (c.sum_between.ensures.end_count ∙ c.requires.end_count)
-    c.sum_between.ensures.ends_behind c.requires.ends_on)
+    c.sum_between.ensures.ends_after c.requires.ends_on)
 
 pub move_sums-requires-clause-high : goal.move_sums-requires-clause-high
 move_sums-requires-clause-high c =
@@ -27,7 +27,7 @@ move_sums-requires-clause-high c =
     (sym (take_rest mid c.args.to)) (λ n low.
     let moved = sum_moved ends_of ks (drop c.args.to c.args.ends.now) mid c.args.to c.args.went.0 c.requires.within
     (c.sum_between.ensures.end_count ∙ c.requires.end_count)
-    c.sum_between.ensures.ends_behind c.requires.ends_on length-append c.sum_between.ensures.ends came
+    c.sum_between.ensures.ends_after c.requires.ends_on length-append c.sum_between.ensures.ends came
     c.sum_before-end.ensures n low in
     omega (arith, moved, joined_low (c.args.to + (n + 1)) ks, c.requires.small))
 
@@ -37,7 +37,7 @@ move_sums-requires-2-clause-low c =
     subst (λ (l : List ℕ). (n : ℕ) → n < length l → c.args.went.1 ≤ get_or l n 0) (sym (take_rest mid c.args.to))
     (sum_low lines_of c.args.chunks.now (drop c.args.to c.args.lines.now) mid c.args.to c.args.went.1 c.requires.within
     (c.sum_between.ensures.line_count ∙ c.requires.line_count)
-    c.sum_between.ensures.lines_behind c.requires.lines_on)
+    c.sum_between.ensures.lines_after c.requires.lines_on)
 
 pub move_sums-requires-2-clause-high : goal.move_sums-requires-2-clause-high
 move_sums-requires-2-clause-high c =
@@ -48,7 +48,7 @@ move_sums-requires-2-clause-high c =
     (sym (take_rest mid c.args.to)) (λ n low.
     let moved = sum_moved lines_of ks (drop c.args.to c.args.lines.now) mid c.args.to c.args.went.1 c.requires.within
     (c.sum_between.ensures.line_count ∙ c.requires.line_count)
-    c.sum_between.ensures.lines_behind c.requires.lines_on lines_append c.sum_between.ensures.lines came
+    c.sum_between.ensures.lines_after c.requires.lines_on lines_append c.sum_between.ensures.lines came
     c.sum_before-line.ensures n low in
     let few = count_by-le-length is_newline (joined (take (c.args.to + (n + 1)) ks)) in
     omega (arith, moved, few, joined_low (c.args.to + (n + 1)) ks, c.requires.small))
@@ -65,7 +65,7 @@ returns-clause-ends c =
     let long = ap length rest in
     sums_moved ends_of ks (drop to c.args.ends.now) mid to c.args.went.0 c.requires.within
     (c.sum_between.ensures.end_count ∙ c.requires.end_count)
-    c.sum_between.ensures.ends_behind c.requires.ends_on length-append c.sum_between.ensures.ends came
+    c.sum_between.ensures.ends_after c.requires.ends_on length-append c.sum_between.ensures.ends came
     c.sum_before-end.ensures
     (take to mid ++ (moved ++ back)) (moved ++ back) refl (λ n low.
     get_or_append_left moved back 0 n (omega (arith, long, low, c.move_sums.ensures.count))
@@ -83,7 +83,7 @@ returns-clause-lines c =
     let long = ap length rest in
     sums_moved lines_of ks (drop to c.args.lines.now) mid to c.args.went.1 c.requires.within
     (c.sum_between.ensures.line_count ∙ c.requires.line_count)
-    c.sum_between.ensures.lines_behind c.requires.lines_on lines_append c.sum_between.ensures.lines came
+    c.sum_between.ensures.lines_after c.requires.lines_on lines_append c.sum_between.ensures.lines came
     c.sum_before-line.ensures
     (take to mid ++ (moved ++ back)) (moved ++ back) refl (λ n low.
     get_or_append_left moved back 0 n (omega (arith, long, low, c.move_sums-2.ensures.count))

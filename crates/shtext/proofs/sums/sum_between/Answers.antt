@@ -62,8 +62,8 @@ chunks-preserved c =
           (c.chunks.«end» + c.len-end.result) few_ends inv.ends now_end;
       lines = sums_set (λ m. count_by is_newline (joined (take m ks))) c.chunks.lines n
           (c.chunks.line + c.newlines-line.result) few_lines inv.lines now_line;
-      ends_behind = drop-set-lt c.args.to c.chunks.ends n (c.chunks.«end» + c.len-end.result) c.chunks-test.true
-          ∙ inv.ends_behind;
-      lines_behind = drop-set-lt c.args.to c.chunks.lines n (c.chunks.line + c.newlines-line.result) c.chunks-test.true
-          ∙ inv.lines_behind;
+      ends_after = drop-set-lt c.args.to c.chunks.ends n (c.chunks.«end» + c.len-end.result) c.chunks-test.true
+          ∙ inv.ends_after;
+      lines_after = drop-set-lt c.args.to c.chunks.lines n (c.chunks.line + c.newlines-line.result) c.chunks-test.true
+          ∙ inv.lines_after;
     }

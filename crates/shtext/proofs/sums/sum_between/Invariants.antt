@@ -10,8 +10,8 @@ invariant-chunks l = record {
   line : l.line ≡ lines_of (joined (take l.index l.chunks));
   ends : HasSums ends_of l.chunks l.index l.ends;
   lines : HasSums lines_of l.chunks l.index l.lines;
-  ends_behind : drop l.to l.ends ≡ drop l.to l.initial.ends;
-  lines_behind : drop l.to l.lines ≡ drop l.to l.initial.lines;
+  ends_after : drop l.to l.ends ≡ drop l.to l.initial.ends;
+  lines_after : drop l.to l.lines ≡ drop l.to l.initial.lines;
 }
 
 abbrev pub decreases-chunks : goal.decreases-chunks

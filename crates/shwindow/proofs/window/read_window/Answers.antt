@@ -9,7 +9,7 @@ use Rattle.shwindow.specs.Reading.{IsBegun}
 use Rattle.shwindow.specs.Meter.{RoseWithin, risen}
 use Rattle.shwindow.specs.Walks.{lines_left}
 use Rattle.shwindow.specs.Window.{Ends}
-use Rattle.shwindow.proofs.Places.{not_behind_itself, not_behind_more}
+use Rattle.shwindow.proofs.Places.{not_after_itself, not_after_more}
 use Rattle.shwindow.proofs.Reading.{AtLine, at_last, at_low, at_met, at_more, at_passed, at_start, at_within, old_at_fits, on_err, push_some, risen_more, risen_none, same_from, same_left}
 use Rattle.shwindow.proofs.Rows.{extent_none, extent_push}
 use Rattle.shwindow.proofs.Steps.{NotMet, Past}
@@ -33,7 +33,7 @@ lines-init g c =
           ∙ risen_none meter);
       blocks = refl;
       last = refl;
-      order = not_behind_itself c.args.old.place;
+      order = not_after_itself c.args.old.place;
     }
 
 -- the place is within the text
@@ -110,7 +110,7 @@ returns-then-meets-clause-lines g c =
 
 pub returns-then-meets-clause-order : goal.returns-then-meets-clause-order
 returns-then-meets-clause-order g c =
-    not_behind_more c.args.old.place c.lines.hand.lines.place c.pass.new.self.lines.place c.lines.invariant.order
+    not_after_more c.args.old.place c.lines.hand.lines.place c.pass.new.self.lines.place c.lines.invariant.order
     c.pass.ensures.order
 
 pub returns-then-meets-clause-ends : goal.returns-then-meets-clause-ends
@@ -194,8 +194,8 @@ returns-then-not-line-clause-lines g c =
 
 pub returns-then-not-line-clause-order : goal.returns-then-not-line-clause-order
 returns-then-not-line-clause-order g c =
-    not_behind_more c.args.old.place c.pass.new.self.lines.place c.end.result
-    (not_behind_more c.args.old.place c.lines.hand.lines.place c.pass.new.self.lines.place c.lines.invariant.order
+    not_after_more c.args.old.place c.pass.new.self.lines.place c.end.result
+    (not_after_more c.args.old.place c.lines.hand.lines.place c.pass.new.self.lines.place c.lines.invariant.order
     c.pass.ensures.order)
     c.end.ensures.order
 
@@ -256,7 +256,7 @@ lines-preserved g c =
           ∙ ap (λ read. risen (g.R.LineReader.meter c.args.reader.now) (extent read)) (sym pushed);
       blocks = blocks_of g (goal.at.lines-preserved g c).After-pass;
       last = c.pass.ensures.last ∙ c.lines.invariant.last;
-      order = not_behind_more c.args.old.place c.lines.hand.lines.place c.pass.new.self.lines.place
+      order = not_after_more c.args.old.place c.lines.hand.lines.place c.pass.new.self.lines.place
           c.lines.invariant.order c.pass.ensures.order;
     }
 

@@ -2,7 +2,7 @@ use Rattle.std.proofs.Common.{◌≡◌, ◌-◌, length}
 use Rattle.shwindow.specs.Blocks.{in_one_row}
 use Rattle.shwindow.specs.Lines.{extent}
 use Rattle.shwindow.specs.Meter.{risen}
-use Rattle.shwindow.specs.Places.{IsNotBehind}
+use Rattle.shwindow.specs.Places.{IsNotAfter}
 use Rattle.shwindow.specs.Walks.{lines_left}
 use Rattle.shwindow.proofs.Reading.{AtLine}
 use Rattle.shwindow.proofs.window.read_window.Given as goal
@@ -17,7 +17,7 @@ invariant-lines g l = record {
       ≡ risen (g.R.LineReader.meter l.initial.reader) (extent (in_one_row l.lines.blocks.items));
   blocks : l.hand.lines.blocks ≡ l.fn.old.blocks;
   last : l.hand.lines.last ≡ l.fn.old.last;
-  order : IsNotBehind l.fn.old.place l.hand.lines.place;
+  order : IsNotAfter l.fn.old.place l.hand.lines.place;
 }
 
 abbrev pub decreases-lines : goal.decreases-lines

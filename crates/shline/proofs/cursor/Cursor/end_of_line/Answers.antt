@@ -5,7 +5,7 @@ use Rattle.shline.specs.Clauses.{at_place, here_of, keep_of, start_of, text_of}
 use Rattle.shgrammar.specs.Sights.{given}
 use Rattle.shgrammar.specs.Standing.{raw_stands}
 use Rattle.shgrammar.proofs.BodiesThere.{ends_line}
-use Rattle.shgrammar.proofs.Places.{behind_back}
+use Rattle.shgrammar.proofs.Places.{after_back}
 use Rattle.shline.proofs.cursor.Cursor.end_of_line.Goals as goal
 
 pub returns-in_ok-bodies_here-in-Newline-clause-end : goal.returns-in_ok-bodies_here-in-Newline-clause-end
@@ -19,7 +19,7 @@ returns-in_ok-bodies_here-in-Newline-clause-end g c =
     let is : here_of c.step.new.self ≡ past_byte text (start_of start) = moved.0 in
     let newline : raw_stands text (here_of c.step.new.self - 1) 10 ≡ true =
     ap (λ (q : ℕ). raw_stands text (q - 1) 10) is
-    ∙ ap (λ (q : ℕ). raw_stands text q 10) (behind_back text (start_of start) ∙ start.shows.6)
+    ∙ ap (λ (q : ℕ). raw_stands text q 10) (after_back text (start_of start) ∙ start.shows.6)
     ∙ start.shows.2 c.in-Newline.is in
     ends_line (keep_of start) (given start.how.edition text start.origin) (at_place c.step.new.self)
     (at_place c.bodies_here.new.self) read newline

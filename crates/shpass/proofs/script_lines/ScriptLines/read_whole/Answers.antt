@@ -1,9 +1,9 @@
 use Rattle.std.proofs.Common.{◌≡◌, ◌<◌, ◌∙◌, map, refl, sym, false, true, arith}
 use Rattle.shast.specs.View.{view_entry}
 use Rattle.shgrammar.specs.Sights.{standing}
-use Rattle.shpass.specs.LineByLine.{is_blank_behind}
+use Rattle.shpass.specs.LineByLine.{is_blank_after}
 use Rattle.shpass.proofs.LineByLine.{fault_told, outer_line}
-use Rattle.shgrammar.proofs.Passing.{newline_behind, stops_faulty, stops_unended}
+use Rattle.shgrammar.proofs.Passing.{newline_after, stops_faulty, stops_unended}
 use Rattle.shpass.proofs.script_lines.ScriptLines.read_whole.Goals.{else-told-via-then-told+else-ends_in_newline, else-told-via-else-told}
 use Rattle.shpass.proofs.script_lines.ScriptLines.read_whole.Goals as goal
 
@@ -17,7 +17,7 @@ returns-then-ends_in_newline g c =
       moves.0.0,
       some,
       moves.2,
-      newline_behind bytes c.args.self.now.at c.read.new.self.at c.in-Ok.told.len moves.0.1 size stands,
+      newline_after bytes c.args.self.now.at c.read.new.self.at c.in-Ok.told.len moves.0.1 size stands,
       λ so stood. (
         standing c.in-Ok.told.len,
         moves.0.1,
@@ -34,7 +34,7 @@ returns-else-told g c =
     let bytes = g.S.Source.bytes c.args.self.now.source.now in
     let told = c.in-Ok.told in
     let keeps = c.in-Ok.ensures.moves.0.0 in
-    let blank = is_blank_behind c.args.self.now.before in
+    let blank = is_blank_after c.args.self.now.before in
     let stops = stops_unended c.args.self.now.edition bytes c.args.self.now.at told.len blank told.newline
     (map view_entry told.entries.items) c.in-Ok.ensures.value in (
       rw (keeps.0, keeps.1, keeps.2) refl,
@@ -52,5 +52,5 @@ returns-in-Err-Wrong g c =
     let told = fault_told _ wrong.field-0-0 _ _ wrong.field-0-is wrong.ensures.value in (
       wrong.ensures.moves,
       stops_faulty c.args.self.now.edition bytes c.args.self.now.at
-          (is_blank_behind c.args.self.now.before) wrong.field-0-0 told,
+          (is_blank_after c.args.self.now.before) wrong.field-0-0 told,
     )

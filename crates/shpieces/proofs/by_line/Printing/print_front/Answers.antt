@@ -1,7 +1,7 @@
 use Rattle.std.proofs.Common.{rules, ◌≡◌, ◌∙◌, None, ap, arith, refl, sym}
 use Rattle.shpass.specs.LineByLine.{place_of}
 use Rattle.shprint.specs.Written.{sheet}
-use Rattle.shpieces.proofs.ByLine.{front_behind, start_printed}
+use Rattle.shpieces.proofs.ByLine.{front_after, start_printed}
 use Rattle.shpieces.proofs.by_line.Printing.print_front.Goals as goal
 
 pub lines-init : goal.lines-init
@@ -27,7 +27,7 @@ lines-preserved g c =
     let inv = c.lines.invariant in
     let passes = rw (c.in-Some.is, inv.2) at c.in_ok-entries.ensures in
     let done = c.in_ok-print_entries.ensures in (
-      λ e y front is. front_behind e y bytes c.lines.lines c.read_whole.new.self (inv.7 ∙ is.3)
+      λ e y front is. front_after e y bytes c.lines.lines c.read_whole.new.self (inv.7 ∙ is.3)
           (sheet c.lines.self.page) (sheet c.print_entries.new.page) c.in-Some.entries front
           (inv.0 e y front is) passes.4 passes.1 passes.2
           (rw (inv.1 ∙ is.1, is.2, c.deref.ensures.value) at done.0),

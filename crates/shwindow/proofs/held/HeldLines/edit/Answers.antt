@@ -6,7 +6,7 @@ use Rattle.shwindow.specs.declared.place.BlockPlace.{BlockPlace}
 use Rattle.shwindow.specs.Blocks.{IsPlace, in_one_row, lines_before, lines_from}
 use Rattle.shwindow.specs.Held.{RoseByWindow}
 use Rattle.shwindow.specs.Lines.{IsRow, extent}
-use Rattle.shwindow.specs.Places.{IsNotBehind}
+use Rattle.shwindow.specs.Places.{IsNotAfter}
 use Rattle.shwindow.specs.Reading.{lines_then, read_of}
 use Rattle.shwindow.specs.Walks.{lines_left}
 use Rattle.shwindow.specs.Window.{Apart}
@@ -91,7 +91,7 @@ replace_lines-requires-clause-upto g c =
 
 pub replace_lines-requires-clause-order : goal.replace_lines-requires-clause-order
 replace_lines-requires-clause-order g c =
-    subst (λ (p : BlockPlace). IsNotBehind p c.in_ok-lines.field-0.upto) c.new-old.ensures.place
+    subst (λ (p : BlockPlace). IsNotAfter p c.in_ok-lines.field-0.upto) c.new-old.ensures.place
     c.in_ok-lines.ensures.order
 
 -- the lines of the new text

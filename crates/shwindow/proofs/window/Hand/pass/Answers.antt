@@ -3,7 +3,7 @@ use Rattle.shwindow.specs.Hand.{Passes, none_passed}
 use Rattle.shwindow.specs.Lines.{extent}
 use Rattle.shwindow.specs.Walks.{lines_left}
 use Rattle.shwindow.proofs.Hands.{passes_more, passes_sum}
-use Rattle.shwindow.proofs.Places.{not_behind_itself, not_behind_more}
+use Rattle.shwindow.proofs.Places.{not_after_itself, not_after_more}
 use Rattle.shwindow.proofs.Rows.{extent_cons}
 use Rattle.shwindow.proofs.window.Hand.pass.Goals as goal
 
@@ -12,7 +12,7 @@ lines-init g c = record {
   passes = none_passed;
   blocks = refl;
   last = refl;
-  order = not_behind_itself c.args.self.now.lines.place;
+  order = not_after_itself c.args.self.now.lines.place;
 }
 
 pub overflow_add-self : goal.overflow_add-self
@@ -36,6 +36,6 @@ lines-preserved g c =
       passes = passes_more c.args.at first.begin (lines_left first.lines) now.begin line rest passes c.lines-test.true;
       blocks = c.in-Some.ensures.blocks ∙ c.lines.invariant.blocks;
       last = c.in-Some.ensures.last ∙ c.lines.invariant.last;
-      order = not_behind_more first.lines.place now.lines.place c.step.new.self.place c.lines.invariant.order
+      order = not_after_more first.lines.place now.lines.place c.step.new.self.place c.lines.invariant.order
           c.in-Some.ensures.order;
     }

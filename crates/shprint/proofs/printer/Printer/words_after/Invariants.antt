@@ -6,7 +6,7 @@ use Rattle.shprint.specs.declared.layout.Layout.{Layout}
 use Rattle.shprint.specs.Marks.{text}
 use Rattle.shprint.specs.Printed.{print_items}
 use Rattle.shprint.specs.Written.{Sheet, stretch, written}
-use Rattle.shprint.proofs.printer.Printer.words_behind.Given as goal
+use Rattle.shprint.proofs.printer.Printer.words_after.Given as goal
 
 abbrev pub invariant-words : goal.invariant-words
 invariant-words g l =

@@ -1,6 +1,6 @@
 use Rattle.std.proofs.Common.{◌-◌, ◌≤◌, length}
 use Rattle.shtext.specs.Chunks.{before}
-use Rattle.shtext.proofs.sums.place_behind.Given as goal
+use Rattle.shtext.proofs.sums.place_after.Given as goal
 
 abbrev pub invariant-near : goal.invariant-near
 invariant-near l = record {

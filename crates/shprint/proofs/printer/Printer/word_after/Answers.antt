@@ -4,7 +4,7 @@ use Rattle.shast.specs.Shape.{shape_of_item}
 use Rattle.shast.specs.View.{view_item}
 use Rattle.shprint.specs.Printed.{is_broken_item}
 use Rattle.shprint.proofs.Spaced.{word_is}
-use Rattle.shprint.proofs.printer.Printer.word_behind.Goals as goal
+use Rattle.shprint.proofs.printer.Printer.word_after.Goals as goal
 
 pub returns-in-Some-eq32 : goal.returns-in-Some-eq32
 returns-in-Some-eq32 g c =

@@ -1,7 +1,7 @@
 use Rattle.std.proofs.Common.{arith, length-drop}
 use Rattle.shline.specs.Sought.{is_sought}
 use Rattle.shline.proofs.Searches.{such_on}
-use Rattle.shline.proofs.cursor.Cursor.find_behind.Goals as goal
+use Rattle.shline.proofs.cursor.Cursor.find_after.Goals as goal
 
 pub returns : goal.returns
 returns g c =

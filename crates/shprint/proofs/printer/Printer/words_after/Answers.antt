@@ -1,6 +1,6 @@
 use Rattle.std.proofs.Common.{◌≡◌, ◌∷◌, arith}
 use Rattle.shprint.proofs.Spaced.{none_passed, one_passed}
-use Rattle.shprint.proofs.printer.Printer.words_behind.Goals as goal
+use Rattle.shprint.proofs.printer.Printer.words_after.Goals as goal
 
 pub words-init : goal.words-init
 words-init g c = (
@@ -12,10 +12,10 @@ pub words-preserved : goal.words-preserved
 words-preserved g c =
     let bytes = g.S.Source.bytes c.args.self.now.source.now in
     let inv = c.words.invariant in
-    let word = c.in-Some-word_behind.ensures in
+    let word = c.in-Some-word_after.ensures in
     let split : c.words.rest.now ≡ c.in-Some.item.now ∷ c.in-Some.behind.now =
     grind (arith, c.in-Some.ensures, c.split_first.ensures, c.in-Some.item-is, c.in-Some.behind-is) in (
       omega (arith, inv.0, word.0),
-      λ y m t. one_passed bytes y m c.args.start c.words.end c.in-Some-word_behind.next _ c.in-Some.item.now
+      λ y m t. one_passed bytes y m c.args.start c.words.end c.in-Some-word_after.next _ c.in-Some.item.now
           c.in-Some.behind.now inv.0 word.0 (λ t. rw split at (inv.1 y m t)) (word.1 y m) t,
     )
