@@ -70,8 +70,8 @@ impl<K: Drop> Blocks<K> {
             ≡ lines_from self.now.blocks.items upto) }
         ensures few { IfSome result (λ _. vec_len new.now.blocks ≤ 1) }
         ensures some { IfSome result
-            (λ to. to - from.line < length (block_at self.now.blocks.items from.block) + length
-            (in_one_row new.now.blocks.items)) }
+            (λ to. to - from.line < length (block_at self.now.blocks.items from.block)
+            + length (in_one_row new.now.blocks.items)) }
     {
         let count = new.few()?;
         let to = self.end_in_block(from, upto)?;
@@ -96,8 +96,8 @@ impl<K: Drop> Blocks<K> {
     ) -> Result<(), AllocError>
         requires gives { GivesWay self.old.blocks.items from to }
         requires few { vec_len new.blocks ≤ 1 }
-        requires some { to - from.line < length (block_at self.old.blocks.items from.block) + length
-            (in_one_row new.blocks.items) }
+        requires some { to - from.line < length (block_at self.old.blocks.items from.block)
+            + length (in_one_row new.blocks.items) }
         requires fits { extent (lines_before self.old.blocks.items from
             ++ (in_one_row new.blocks.items ++ lines_from self.old.blocks.items (in_block from to)))
             < 2 ^ 64 }
@@ -132,8 +132,8 @@ impl<K: Drop> Blocks<K> {
         requires kept { 0 < from.line → (from.block < to)
             × (from.line ≤ length (block_at self.old.blocks.items from.block)) }
         requires fits { extent (lines_before self.old.blocks.items from
-            ++ (in_one_row new.blocks.items ++ in_one_row (drop to self.old.blocks.items))) < 2 ^
-            64 }
+            ++ (in_one_row new.blocks.items ++ in_one_row (drop to self.old.blocks.items)))
+            < 2 ^ 64 }
         ensures ok { OnOk result (in_one_row self.new.blocks.items ≡
             lines_before self.old.blocks.items from
             ++ (in_one_row new.blocks.items ++ in_one_row (drop to self.old.blocks.items))) }
