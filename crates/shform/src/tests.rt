@@ -1,5 +1,5 @@
-// What no clause says: that calls succeed where nothing fails, that a failure of a
-// device is told, and the texts.
+//! What no clause says: that calls succeed where nothing fails, that a failure of a
+//! device is told, and the texts.
 ghost use Rattle.std.specs.Prelude.{IfSome};
 ghost use Rattle.shlive.specs.Ahead.{IsOpen};
 

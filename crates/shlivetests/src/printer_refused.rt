@@ -1,4 +1,4 @@
-// Each growth of a printing refused in turn: `growths.rt` says how.
+//! Each growth of a printing refused in turn: `growths.rt` says how.
 use shpieces::{PrintError, Printing, print_source};
 use shprint::{Layout, print};
 use shread::{Edition, Reader};

@@ -1,4 +1,4 @@
-// What no clause says: what a layout refuses, that calls succeed where nothing fails, and the texts.
+//! What no clause says: what a layout refuses, that calls succeed where nothing fails, and the texts.
 use shpieces::{PrintError, Printing, print_source};
 use shprint::{Layout, LayoutError, message, print};
 use shread::{Edition, Fault, FaultKind, Reader};

@@ -1,5 +1,5 @@
-// Edits where lines stand in more than one block of held lines: at the bounds of blocks,
-// and such that fill one, empty it or take lines of some.
+//! Edits where lines stand in more than one block of held lines: at the bounds of blocks,
+//! and such that fill one, empty it or take lines of some.
 use crate::session_runs::opened;
 use crate::session_windows::is_right;
 use shtreetests::spliced::part;

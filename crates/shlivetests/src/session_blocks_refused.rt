@@ -1,4 +1,4 @@
-// Each growth of an edit refused in turn where lines stand in more than one block: `growths.rt` says how.
+//! Each growth of an edit refused in turn where lines stand in more than one block: `growths.rt` says how.
 use crate::session_blocks::lines;
 use crate::session_refused::each_refused;
 use shtreetests::spliced::part;

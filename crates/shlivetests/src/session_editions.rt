@@ -1,4 +1,4 @@
-// A session is by the edition of its reader.
+//! A session is by the edition of its reader.
 use shlive::Session;
 use shprint::Layout;
 use shread::{Edition, Reader};

@@ -1,4 +1,4 @@
-// Each growth of a session refused in turn: `growths.rt` says how.
+//! Each growth of a session refused in turn: `growths.rt` says how.
 use crate::session_runs::{alike, alike_at_each, make, opened, page_of};
 use crate::windows::window;
 use shast::NodeLine;

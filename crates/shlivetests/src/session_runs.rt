@@ -1,5 +1,5 @@
-// What no clause says: that requests are answered where nothing fails, what the replies look like, that a
-// failure of a device is told, and that edits by the thousand leave what a session opened anew would answer.
+//! What no clause says: that requests are answered where nothing fails, what the replies look like, that a
+//! failure of a device is told, and that edits by the thousand leave what a session opened anew would answer.
 use shlive::{LiveError, Session, run};
 use shprint::Layout;
 use shread::Reader;

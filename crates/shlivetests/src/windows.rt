@@ -1,5 +1,5 @@
-// The window of an edit, told from its definition: the boundaries of the two scripts
-// are those of the lines that the reader reads.
+//! The window of an edit, told from its definition: the boundaries of the two scripts
+//! are those of the lines that the reader reads.
 use crate::window_begin::window_begin;
 use shread::Reader;
 use shtext::{Flat, Splice};

@@ -1,33 +1,33 @@
-// Dumps of trees and faults as short texts.
-//
-// A script is dumped as its entries and then its fault, parted by spaces. `S-E` is a span.
-//
-//   [S-E S-E]    a simple command and its items; an item has `=` before it where it is an assignment, and `^`
-//                before that where it is broken
-//   S-E>S-E:W    an item that is a redirection: the number, where it has one, the text and the span of its
-//                operator, and its word; those of a compound command stand after it
-//   @S-E         directly after it: the body of its here-document, with `-` before it where tabs are taken
-//                off, and then `'` where it is literal
-//   {S-E ..}     a group and its entries; so is (S-E ..), a subshell
-//   <S-E if .. then .. elif .. then .. else ..>, <S-E while .. do ..>, <S-E until .. do ..>
-//   <S-E for W in I I do ..>
-//                its name, and its words where `in` stands; an item that is broken has `^` before it
-//   <S-E case W (S-E #.. P|P ..) ..>
-//                its word, and its items: each with its span, its comments, its patterns and its entries;
-//                where it falls through, `;&` stands after those; after the last item the comments that
-//                follow it
-//   fS-E#..{..}  a function: its name, its comments and its body
-//   #S-E         a comment that is an entry
-//   ~            before an entry: it is blank
-//   &            after an entry: it is in the background
-//   #S-E         directly after an entry: the comment on its line
-//   !S-E         before a pipeline: its `!`
-//   | && ||      between operands, with `^` after it where the join is broken, and then with its comments
-//   $S-E(..)     directly after a word: one of its substitutions, with the entries in it
-//   fault K at O a fault by its number, and its offset
-//
-// So is a line, which is `blank` or `end` where it has no entry; then follow `to N`,
-// the offset after it, and `, ended`.
+//! Dumps of trees and faults as short texts.
+//!
+//! A script is dumped as its entries and then its fault, parted by spaces. `S-E` is a span.
+//!
+//!   [S-E S-E]    a simple command and its items; an item has `=` before it where it is an assignment, and
+//!                `^` before that where it is broken
+//!   S-E>S-E:W    an item that is a redirection: the number, where it has one, the text and the span of its
+//!                operator, and its word; those of a compound command stand after it
+//!   @S-E         directly after it: the body of its here-document, with `-` before it where tabs are taken
+//!                off, and then `'` where it is literal
+//!   {S-E ..}     a group and its entries; so is (S-E ..), a subshell
+//!   <S-E if .. then .. elif .. then .. else ..>, <S-E while .. do ..>, <S-E until .. do ..>
+//!   <S-E for W in I I do ..>
+//!                its name, and its words where `in` stands; an item that is broken has `^` before it
+//!   <S-E case W (S-E #.. P|P ..) ..>
+//!                its word, and its items: each with its span, its comments, its patterns and its entries;
+//!                where it falls through, `;&` stands after those; after the last item the comments that
+//!                follow it
+//!   fS-E#..{..}  a function: its name, its comments and its body
+//!   #S-E         a comment that is an entry
+//!   ~            before an entry: it is blank
+//!   &            after an entry: it is in the background
+//!   #S-E         directly after an entry: the comment on its line
+//!   !S-E         before a pipeline: its `!`
+//!   | && ||      between operands, with `^` after it where the join is broken, and then with its comments
+//!   $S-E(..)     directly after a word: one of its substitutions, with the entries in it
+//!   fault K at O a fault by its number, and its offset
+//!
+//! So is a line, which is `blank` or `end` where it has no entry; then follow `to N`,
+//! the offset after it, and `, ended`.
 use shread::{Fault, Line, LineKind, Reader};
 use shtext::{Flat, Source};
 use shtree::{

@@ -1,5 +1,5 @@
-// The bytes that are special in a mode, those with which only a word begins, and the text of a delimiter that
-// stands in its word.
+//! The bytes that are special in a mode, those with which only a word begins, and the text of a delimiter
+//! that stands in its word.
 use shgrammar::{Mode, begins_a_word, plain_part};
 
 #[test]

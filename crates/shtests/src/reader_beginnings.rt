@@ -1,5 +1,5 @@
-// The beginnings of one script, byte by byte: each has the fault that the grammar gives, is read as its lines
-// are, and is checked alike. The faults were told by a reading of the grammar written apart.
+//! The beginnings of one script, byte by byte: each has the fault that the grammar gives, is read as its
+//! lines are, and is checked alike. The faults were told by a reading of the grammar written apart.
 use crate::dump::Judge;
 use crate::reader_lines::judge_lines;
 use shread::Reader;

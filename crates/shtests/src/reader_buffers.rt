@@ -1,4 +1,4 @@
-// Scripts over a buffer, whose chunks end anywhere: they are read as in one piece.
+//! Scripts over a buffer, whose chunks end anywhere: they are read as in one piece.
 use crate::dump::{Judge, dumped};
 use crate::reader_sources::{all_lines, random_script};
 use shread::{Edition, Reader};

@@ -1,4 +1,4 @@
-// What the editions differ in: text in dollar-single quotes, and `;&`.
+//! What the editions differ in: text in dollar-single quotes, and `;&`.
 use crate::dump::Judge;
 use shpass::faultless_front;
 use shread::{Edition, Reader};

@@ -1,6 +1,6 @@
-// Scripts read line by line: what a line is, where it ends, and that lines come to what the whole script has.
-// The answers are worked out by hand from the grammar; none is what the reader told. `table.rt` of
-// `shtreetests` and `dump.rt` say how they are written.
+//! Scripts read line by line: what a line is, where it ends, and that lines come to what the whole script
+//! has. The answers are worked out by hand from the grammar; none is what the reader told. `table.rt` of
+//! `shtreetests` and `dump.rt` say how they are written.
 use crate::dump::{Judge, dump_end, dump_fault};
 use crate::reader_trees::ROWS;
 use shline::Stop;

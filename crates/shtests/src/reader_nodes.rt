@@ -1,5 +1,6 @@
-// What stands where in scripts that are read: the outline of a script, and the nodes at a byte of a line. The
-// nodes are worked out by hand. What both calls ask of a list is proved of those that the reader answers.
+//! What stands where in scripts that are read: the outline of a script, and the nodes at a byte of a line.
+//! The nodes are worked out by hand. What both calls ask of a list is proved of those that the reader
+//! answers.
 use crate::dump::Judge;
 use shread::{LineKind, Reader};
 use shtext::Flat;

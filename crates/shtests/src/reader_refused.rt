@@ -1,4 +1,4 @@
-// Each growth of a reading refused in turn: `growths.rt` says how.
+//! Each growth of a reading refused in turn: `growths.rt` says how.
 ghost use Rattle.std.specs.Prelude.{◌≤◌, length};
 ghost use Rattle.shpass.specs.LineByLine.{bytes_of, place_of};
 ghost use Rattle.shast.specs.Nodes.{AreWithin};

@@ -1,4 +1,4 @@
-// Sources told in pieces, and numbers: what no table of scripts holds.
+//! Sources told in pieces, and numbers: what no table of scripts holds.
 use crate::dump::{Judge, dumped};
 use crate::reader_trees::ROWS;
 use shread::{Edition, FaultKind, ReadError, Reader};

@@ -1,4 +1,4 @@
-// Lines that are read into vectors which earlier lines gave back: they have what they have without.
+//! Lines that are read into vectors which earlier lines gave back: they have what they have without.
 use crate::reader_trees::ROWS;
 use shast::{Entry, Spare};
 use shline::{ParsedLine, Stop};

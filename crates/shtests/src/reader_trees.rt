@@ -1,7 +1,7 @@
-// Scripts whose trees and faults pin each rule of the grammar: where a rule is turned, a
-// row fails. The answers are worked out by hand from the grammar; none is what the reader
-// told. Rows of one theme stand together, several on a line: `table.rt` of `shtreetests`
-// says how they are written, and `dump.rt` how the dumps are.
+//! Scripts whose trees and faults pin each rule of the grammar: where a rule is turned, a
+//! row fails. The answers are worked out by hand from the grammar; none is what the reader
+//! told. Rows of one theme stand together, several on a line: `table.rt` of `shtreetests`
+//! says how they are written, and `dump.rt` how the dumps are.
 use crate::dump::Judge;
 use shtext::Flat;
 use shtreetests::cell::{Cell, joined};

@@ -1,4 +1,4 @@
-// Lists that are appended at the bases where their lines stand are the list of the whole text.
+//! Lists that are appended at the bases where their lines stand are the list of the whole text.
 use crate::joined_lines::append_line;
 use shread::Reader;
 use shtext::Flat;

@@ -1,5 +1,5 @@
-// The nodes of scripts that are read, at a base above 0. A row is a node: its kind, its text, and the text of
-// its name. The rows of a script stand in the order of the nodes, so they tell both calls' answers.
+//! The nodes of scripts that are read, at a base above 0. A row is a node: its kind, its text, and the text
+//! of its name. The rows of a script stand in the order of the nodes, so they tell both calls' answers.
 ghost use Rattle.std.specs.Prelude.{◌-◌};
 ghost use Rattle.shast.specs.Nodes.{AreWithin};
 ghost use Rattle.shast.specs.View.{view_list};

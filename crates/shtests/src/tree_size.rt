@@ -1,7 +1,7 @@
-// What a tree takes, and what looking for a fault does in one piece and in pieces. `tests/bench` runs this
-// test over a file that it names, and takes the time and the memory: of the file alone, of the file and its
-// tree, of these and the outline, of the search for a fault, and how many nodes the tree has. Where no file
-// is named, a short script is read.
+//! What a tree takes, and what looking for a fault does in one piece and in pieces. `tests/bench` runs this
+//! test over a file that it names, and takes the time and the memory: of the file alone, of the file and its
+//! tree, of these and the outline, of the search for a fault, and how many nodes the tree has. Where no file
+//! is named, a short script is read.
 use crate::dump::dump_script;
 use shread::Reader;
 use shtext::{Flat, Source};

@@ -1,4 +1,4 @@
-// Each growth of a text refused in turn: `growths.rt` says how.
+//! Each growth of a text refused in turn: `growths.rt` says how.
 use crate::growths::Growths;
 use crate::spliced::part;
 use shtext::{Buffer, Source, TextError};

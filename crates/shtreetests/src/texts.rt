@@ -1,5 +1,5 @@
-// What no clause says: that calls succeed where nothing fails, that a failure of a
-// device is told, and the numbers of the errors.
+//! What no clause says: that calls succeed where nothing fails, that a failure of a
+//! device is told, and the numbers of the errors.
 use crate::both::Both;
 use crate::devices::{PAGE, Page, Tape};
 use crate::dice::Dice;

@@ -1,5 +1,5 @@
-// Documents in each place of a list. The body of each is the text of its delimiter,
-// which tells one from the other.
+//! Documents in each place of a list. The body of each is the text of its delimiter,
+//! which tells one from the other.
 use crate::shown::shown;
 use crate::tree_built::Script;
 use shtree::make::{

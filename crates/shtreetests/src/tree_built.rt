@@ -1,4 +1,4 @@
-// Trees built by hand, for the tests of `shtree`.
+//! Trees built by hand, for the tests of `shtree`.
 use shtree::make::{
     and_or_of, and_or_part_of, argument_of, assign_of, command_entry, comment_entry,
     compound_command, compound_of, list_of, pipeline_of, pipeline_part_of, simple_of, word_of,

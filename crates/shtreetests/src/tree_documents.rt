@@ -1,5 +1,5 @@
-// The body of a here-document in a list at another base: one that was not read is the empty text at 0, and
-// stays so.
+//! The body of a here-document in a list at another base: one that was not read is the empty text at 0, and
+//! stays so.
 ghost use Rattle.std.specs.Prelude.{◌≡◌, ◌≤◌, ℕ, false, IfOk, None, Some};
 ghost use Rattle.shast.specs.declared.tree.RedirectOperator.TheVariants.{Here};
 ghost use Rattle.shast.specs.Everywhere.{AllWithin};

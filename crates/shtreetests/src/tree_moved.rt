@@ -1,4 +1,4 @@
-// A list at another base, whose items of a case fall through where they did.
+//! A list at another base, whose items of a case fall through where they did.
 ghost use Rattle.std.specs.Prelude.{◌≡◌, ◌≤◌, ℕ, [], false, IfOk, None};
 ghost use Rattle.shast.specs.Everywhere.{AllWithin};
 ghost use Rattle.shast.specs.Tree.{case_in, case_item, compound, formed, more_cases, no_case, no_entry, no_item, no_pattern, no_subst, word};

@@ -1,4 +1,4 @@
-// Each rule of the normal form, turned: a tree that keeps all rules but one.
+//! Each rule of the normal form, turned: a tree that keeps all rules but one.
 use crate::tree_built::Script;
 use shtree::make::{
     and_or_of, argument_of, command_entry, comment_entry, list_of, pipeline_of, simple_of,

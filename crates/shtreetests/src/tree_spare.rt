@@ -1,4 +1,4 @@
-// The room of a tree that is done with is kept for the next one.
+//! The room of a tree that is done with is kept for the next one.
 use crate::growths::Growths;
 use crate::tree_bodies::Documents;
 use crate::tree_built::Script;

@@ -1,4 +1,4 @@
-// What comes to a device of the pieces that are gathered, and when.
+//! What comes to a device of the pieces that are gathered, and when.
 use super::{Page, WhenFull};
 use crate::gathering::Gathering;
 use shtext::Output;

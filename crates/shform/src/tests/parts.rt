@@ -1,5 +1,5 @@
-// Scripts longer than a piece, whose lines are passed as they are read: where a fault
-// stands is told as if all were held.
+//! Scripts longer than a piece, whose lines are passed as they are read: where a fault
+//! stands is told as if all were held.
 use crate::tests::print::print;
 use crate::tests::{Page, WhenFull, tells};
 use std::io;

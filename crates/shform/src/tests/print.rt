@@ -1,4 +1,4 @@
-// `print` over devices that give, take and fail.
+//! `print` over devices that give, take and fail.
 use super::{Hiccup, Page, Same, Tape, WAYS, WhenFull};
 use crate::engine::print_engine;
 use shprint::{Layout, LayoutError};

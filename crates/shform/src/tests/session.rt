@@ -1,4 +1,4 @@
-// `session` over devices that give, take and fail.
+//! `session` over devices that give, take and fail.
 use super::{Page, Same, Tape, WhenFull, file_of};
 use crate::session_engine::session_engine;
 use shprint::{Layout, LayoutError};

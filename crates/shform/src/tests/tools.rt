@@ -1,4 +1,4 @@
-// The tool that the settings ask for, over FILE and without it.
+//! The tool that the settings ask for, over FILE and without it.
 ghost use Rattle.std.specs.Prelude.{◌≡◌, IfSome, is_some};
 ghost use Rattle.shlive.specs.Ahead.{IsOpen};
 

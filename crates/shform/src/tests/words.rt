@@ -1,4 +1,4 @@
-// The words of the command line.
+//! The words of the command line.
 use crate::asked::Tool;
 use crate::usage::Usage;
 use crate::words::settings;
