@@ -208,24 +208,24 @@ Goes old form s (Ok x) view t new = Leads old form s (view x) t new
 Goes old form s (Err e) view t new = Fails (limits_of old) e (reads old form s) × Keeps old new
 
 -- from a place to a place
-abbrev pub Reads : {S X Y : Type 0} {k : ℕ} {g : _} → Cursor S k g → Form Y → Result X Stop → (X → Y) → Cursor S k g →
-    Type 0
-Reads old form result view new = Goes old form (at_place old) result view (at_place new) new
+abbrev pub PlaceToPlace : {S X Y : Type 0} {k : ℕ} {g : _} → Cursor S k g → Form Y → Result X Stop → (X → Y) →
+    Cursor S k g → Type 0
+PlaceToPlace old form result view new = Goes old form (at_place old) result view (at_place new) new
 
 -- from a token in hand to the place after what was read
-abbrev pub Passes : {S X Y : Type 0} {k : ℕ} {g : _} → Cursor S k g → Form Y → Result X Stop → (X → Y) → Cursor S k g →
-    Type 0
-Passes old form result view new = Goes old form (at_token old) result view (at_place new) new
+abbrev pub TokenToPlace : {S X Y : Type 0} {k : ℕ} {g : _} → Cursor S k g → Form Y → Result X Stop → (X → Y) →
+    Cursor S k g → Type 0
+TokenToPlace old form result view new = Goes old form (at_token old) result view (at_place new) new
 
 -- from a place to a token in hand
-abbrev pub Meets : {S X Y : Type 0} {k : ℕ} {g : _} → Cursor S k g → Form Y → Result X Stop → (X → Y) → Cursor S k g →
-    Type 0
-Meets old form result view new = Goes old form (at_place old) result view (at_token new) new
+abbrev pub PlaceToToken : {S X Y : Type 0} {k : ℕ} {g : _} → Cursor S k g → Form Y → Result X Stop → (X → Y) →
+    Cursor S k g → Type 0
+PlaceToToken old form result view new = Goes old form (at_place old) result view (at_token new) new
 
 -- from a token in hand to another
-abbrev pub Takes : {S X Y : Type 0} {k : ℕ} {g : _} → Cursor S k g → Form Y → Result X Stop → (X → Y) → Cursor S k g →
-    Type 0
-Takes old form result view new = Goes old form (at_token old) result view (at_token new) new
+abbrev pub TokenToToken : {S X Y : Type 0} {k : ℕ} {g : _} → Cursor S k g → Form Y → Result X Stop → (X → Y) →
+    Cursor S k g → Type 0
+TokenToToken old form result view new = Goes old form (at_token old) result view (at_token new) new
 
 -- The same of a form that cannot stop,
 abbrev pub Finds : {S X : Type 0} {k : ℕ} {g : _} → Cursor S k g → Form X → X → Cursor S k g → Type 0

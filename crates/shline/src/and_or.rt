@@ -1,7 +1,7 @@
 //! And-or lists: pipelines joined by `&&` and `||` (XCU 2.9.3).
 ghost use Rattle.std.specs.Prelude.{[]};
 ghost use Rattle.shgrammar.specs.Bytes.{past_byte};
-ghost use Rattle.shline.specs.Clauses.{Adds, IsLong, Takes, Turns};
+ghost use Rattle.shline.specs.Clauses.{Adds, IsLong, TokenToToken, Turns};
 ghost use Rattle.shgrammar.specs.Commands.{join_pipeline, joined_so, one_pipeline};
 ghost use Rattle.shgrammar.specs.Form.{many};
 ghost use Rattle.shgrammar.specs.Levels.{level};
@@ -64,7 +64,8 @@ impl<'a, S: Source, const KEEP: u8> Cursor<'a, S, KEEP> {
     #[inline(always)]
     #[tactic(auto, using(shgrammar::proofs::Turns::many_again, shgrammar::proofs::Turns::many_done, crate::proofs::Stops::many_stop))]
     pub(crate) fn joined_pipelines(&mut self, room: usize) -> Result<Vec<AndOrPart>, Stop>
-        ensures { Takes self.old (many (join_pipeline (level room)) (joined_so [] self.old.next))
+        ensures { TokenToToken self.old
+            (many (join_pipeline (level room)) (joined_so [] self.old.next))
             result (λ parts. joined_so (view_and_or_parts parts) self.new.next) self.new }
     {
         let mut parts = Vec::new(self.alloc);

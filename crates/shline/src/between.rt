@@ -1,6 +1,6 @@
 //! What may stand between commands: comments, newlines, separators, and what no row takes (XCU 2.3, 2.9.3).
 ghost use Rattle.std.specs.Prelude.{◌≤◌, IfOk, is_some, option_map};
-ghost use Rattle.shline.specs.Clauses.{end_of, Finds, Onward, Passes, start_of, Takes};
+ghost use Rattle.shline.specs.Clauses.{end_of, Finds, Onward, start_of, TokenToPlace, TokenToToken};
 ghost use Rattle.shgrammar.specs.Commands.{a_comment, a_newline, a_semicolon, a_separator, what_is_wrong};
 ghost use Rattle.shgrammar.specs.Levels.{level};
 ghost use Rattle.shast.specs.View.{view_comment};
@@ -35,7 +35,7 @@ impl<'a, S: Source, const KEEP: u8> Cursor<'a, S, KEEP> {
     #[inline(always)]
     #[tactic(auto, unfolding(shgrammar::specs::Commands::a_newline, shgrammar::specs::Commands::next_token, crate::specs::InHand::InHand))]
     pub(crate) fn newline(&mut self) -> Result<bool, Stop>
-        ensures value { Takes self.old (a_newline self.old.next) result
+        ensures value { TokenToToken self.old (a_newline self.old.next) result
             (λ more. (more, self.new.next)) self.new }
         ensures onward { IfOk result (Onward (start_of self.old) (start_of self.new)) }
     {
@@ -81,7 +81,7 @@ impl<'a, S: Source, const KEEP: u8> Cursor<'a, S, KEEP> {
     #[cycle(commands)]
     #[tactic(auto, unfolding(shgrammar::specs::Commands::what_is_wrong, crate::specs::InHand::InHand))]
     pub(crate) fn what_is_wrong(&mut self, room: usize) -> Result<Fault, Stop>
-        ensures value { Passes self.old (what_is_wrong (level room) self.old.next) result
+        ensures value { TokenToPlace self.old (what_is_wrong (level room) self.old.next) result
             (λ fault. (fault.kind, fault.at)) self.new }
         ensures within { IfOk result (λ fault. fault.at ≤ end_of self.old) }
     {

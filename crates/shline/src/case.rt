@@ -2,7 +2,7 @@
 ghost use Rattle.std.specs.Prelude.{◌≡◌, ◌<◌, [], false, IfOk};
 ghost use Rattle.shgrammar.specs.Bytes.{ends_word, past_byte};
 ghost use Rattle.shgrammar.specs.Shows.{IsRead};
-ghost use Rattle.shline.specs.Clauses.{Adds, Finds, IsLong, start_of, Takes, text_of, Turns};
+ghost use Rattle.shline.specs.Clauses.{Adds, Finds, IsLong, start_of, text_of, TokenToToken, Turns};
 ghost use Rattle.shgrammar.specs.Commands.{falls_through};
 ghost use Rattle.shgrammar.specs.Compounds.{a_case, a_case_head, a_case_word, an_ender, a_pattern, a_pattern_list, an_item_end, an_open_bracket, body_end, case_turn, item_end, one_case, one_pattern, pattern_turn, patterned, closed};
 ghost use Rattle.shgrammar.specs.Form.{many};
@@ -54,7 +54,7 @@ impl<'a, S: Source, const KEEP: u8> Cursor<'a, S, KEEP> {
     #[cycle(commands)]
     #[tactic(auto, unfolding(shgrammar::specs::Compounds::a_case_word, shgrammar::specs::Commands::next_token, crate::specs::InHand::InHand))]
     fn case_word(&mut self, room: usize) -> Result<Word, Stop>
-        ensures { Takes self.old (a_case_word (level room) self.old.next) result
+        ensures { TokenToToken self.old (a_case_word (level room) self.old.next) result
             (λ x. (view_word x, self.new.next)) self.new }
     {
         if !self.next.token.begins_word() {
@@ -73,7 +73,8 @@ impl<'a, S: Source, const KEEP: u8> Cursor<'a, S, KEEP> {
     #[tactic(auto, unfolding(shgrammar::specs::Compounds::a_pattern, shgrammar::specs::Commands::next_token))]
     fn pattern(&mut self, patterns: &mut Vec<Word>, room: usize) -> Result<(), Stop>
         requires { ends_word (text_of self.old) (start_of self.old) ≡ false }
-        ensures value { Takes self.old (a_pattern (level room) (view_words patterns.old)) result
+        ensures value { TokenToToken self.old
+            (a_pattern (level room) (view_words patterns.old)) result
             (λ _. patterned (view_words patterns.new) self.new.next) self.new }
         ensures onward { IfOk result (λ _. start_of self.old < start_of self.new) }
     {
@@ -123,7 +124,7 @@ impl<'a, S: Source, const KEEP: u8> Cursor<'a, S, KEEP> {
     #[cycle(commands)]
     #[tactic(auto, using(shgrammar::proofs::Turns::many_again, shgrammar::proofs::Turns::many_done, crate::proofs::Stops::many_stop))]
     fn more_patterns(&mut self, patterns: &mut Vec<Word>, room: usize) -> Result<(), Stop>
-        ensures { Takes self.old (many (pattern_turn (level room)) (patterned (view_words
+        ensures { TokenToToken self.old (many (pattern_turn (level room)) (patterned (view_words
             patterns.old) self.old.next)) result (λ _. patterned (view_words patterns.new)
             self.new.next) self.new }
     {
@@ -135,7 +136,8 @@ impl<'a, S: Source, const KEEP: u8> Cursor<'a, S, KEEP> {
     #[cycle(commands)]
     #[tactic(auto, unfolding(shgrammar::specs::Compounds::a_pattern_list, crate::specs::InHand::InHand))]
     fn patterns(&mut self, room: usize) -> Result<Vec<Word>, Stop>
-        ensures { Takes self.old (a_pattern_list (level room) self.old.next) result (λ patterns.
+        ensures { TokenToToken self.old (a_pattern_list (level room) self.old.next) result
+            (λ patterns.
             patterned (view_words patterns) self.new.next) self.new }
     {
         if !self.next.token.begins_pattern() {
@@ -163,7 +165,7 @@ impl<'a, S: Source, const KEEP: u8> Cursor<'a, S, KEEP> {
     #[tactic(auto, unfolding(shgrammar::specs::Compounds::an_ender, shgrammar::specs::Commands::next_token))]
     fn ender(&mut self, lines: &mut Join) -> Result<usize, Stop>
         requires { IsLong self.old × ((view_join lines.old).comments ≡ []) }
-        ensures { Takes self.old (an_ender (falls_through self.old.next.token)) result
+        ensures { TokenToToken self.old (an_ender (falls_through self.old.next.token)) result
             (λ end. item_end end (view_join lines.new).comments self.new.next) self.new }
     {
         self.step();
@@ -180,7 +182,7 @@ impl<'a, S: Source, const KEEP: u8> Cursor<'a, S, KEEP> {
     #[tactic(auto, unfolding(shgrammar::specs::Compounds::an_item_end, crate::specs::InHand::InHand))]
     fn item_end(&mut self, there: usize, lines: &mut Join, room: usize) -> Result<usize, Stop>
         requires { (view_join lines.old).comments ≡ [] }
-        ensures { Takes self.old (an_item_end (level room) there self.old.next) result
+        ensures { TokenToToken self.old (an_item_end (level room) there self.old.next) result
             (λ end. item_end end (view_join lines.new).comments self.new.next) self.new }
     {
         if self.next.token.ends_item() {
@@ -226,7 +228,7 @@ impl<'a, S: Source, const KEEP: u8> Cursor<'a, S, KEEP> {
     #[cycle(commands)]
     #[tactic(auto, unfolding(shgrammar::specs::Compounds::case_turn), using(shgrammar::proofs::Turns::many_again, shgrammar::proofs::Turns::many_done, crate::proofs::Stops::many_stop))]
     fn cases(&mut self, cases: &mut Cases, room: usize) -> Result<(), Stop>
-        ensures { Takes self.old (many (case_turn (level room)) (view_cases cases.old
+        ensures { TokenToToken self.old (many (case_turn (level room)) (view_cases cases.old
             self.old.next)) result (λ _. view_cases cases.new self.new.next) self.new }
     {
         'turns: while !self.next.token.is_closing(Closing::Esac) {
@@ -240,7 +242,7 @@ impl<'a, S: Source, const KEEP: u8> Cursor<'a, S, KEEP> {
     #[tactic(auto, unfolding(shgrammar::specs::Compounds::a_case_head))]
     fn case_head(&mut self, lines: &mut Join, room: usize) -> Result<Word, Stop>
         requires { (view_join lines.old).comments ≡ [] }
-        ensures { Takes self.old (a_case_head (level room) self.old.next) result
+        ensures { TokenToToken self.old (a_case_head (level room) self.old.next) result
             (λ word. (view_word word, (view_join lines.new).comments, self.new.next)) self.new }
     {
         let word = self.case_word(room)?;
@@ -254,7 +256,7 @@ impl<'a, S: Source, const KEEP: u8> Cursor<'a, S, KEEP> {
     #[cycle(commands)]
     #[tactic(auto, unfolding(shgrammar::specs::Compounds::a_case))]
     pub(crate) fn case_command(&mut self, room: usize) -> Result<(Form, Span), Stop>
-        ensures { Takes self.old (a_case (level room) self.old.next) result
+        ensures { TokenToToken self.old (a_case (level room) self.old.next) result
             (λ x. closed (view_form x.0) (x.1, self.new.next)) self.new }
     {
         let mut cases = Cases {

@@ -1,7 +1,7 @@
 //! Commands, and the simple ones among them (XCU 2.9, 2.9.1).
 ghost use Rattle.std.specs.Prelude.{◌≡◌, ◌<◌, ◌==◌, [], false, IfErr, IfOk, Some, true};
 ghost use Rattle.shgrammar.specs.Bytes.{ends_word};
-ghost use Rattle.shline.specs.Clauses.{keep_of, Keeps, start_of, Takes, text_of, Turns};
+ghost use Rattle.shline.specs.Clauses.{keep_of, Keeps, start_of, text_of, TokenToToken, Turns};
 ghost use Rattle.shgrammar.specs.Commands.{a_command, a_simple, a_word_command, an_item, as_item, after_word, item_turn, so_many};
 ghost use Rattle.shgrammar.specs.declared.token.Position.TheVariants.{Command as AsCommand, Suffix};
 ghost use Rattle.shgrammar.specs.declared.token.Position.{Position};
@@ -41,7 +41,7 @@ impl<'a, S: Source, const KEEP: u8> Cursor<'a, S, KEEP> {
         room: usize,
     ) -> Result<(), Stop>
         requires { ends_word (text_of self.old) (start_of self.old) ≡ false }
-        ensures value { (place : Position) → Takes self.old (an_item (level room) (so_many
+        ensures value { (place : Position) → TokenToToken self.old (an_item (level room) (so_many
             (view_items items.old) place self.old.next) position) result (λ _. again (so_many
             (view_items items.new) position self.new.next)) self.new }
         ensures onward { IfOk result (λ _. start_of self.old < start_of self.new) }
@@ -104,7 +104,8 @@ impl<'a, S: Source, const KEEP: u8> Cursor<'a, S, KEEP> {
         place: &mut Position,
         room: usize,
     ) -> Result<(), Stop>
-        ensures { Takes self.old (many (item_turn (level room)) (so_many (view_items items.old)
+        ensures { TokenToToken self.old
+            (many (item_turn (level room)) (so_many (view_items items.old)
             place.old self.old.next)) result (λ _. so_many (view_items items.new) place.new
             self.new.next) self.new }
     {
@@ -117,7 +118,8 @@ impl<'a, S: Source, const KEEP: u8> Cursor<'a, S, KEEP> {
     #[inline(always)]
     #[tactic(auto, unfolding(shgrammar::specs::Commands::a_simple))]
     fn simple(&mut self, room: usize) -> Result<Command, Stop>
-        ensures { Takes self.old (a_simple (level room) (so_many [] AsCommand self.old.next)) result
+        ensures { TokenToToken self.old
+            (a_simple (level room) (so_many [] AsCommand self.old.next)) result
             (λ x. (view_command x, self.new.next)) self.new }
     {
         let mut items = self.room_for_items();
@@ -150,7 +152,7 @@ impl<'a, S: Source, const KEEP: u8> Cursor<'a, S, KEEP> {
     #[tactic(auto, unfolding(shgrammar::specs::Commands::a_word_command, shgrammar::specs::Commands::a_simple, shgrammar::specs::Commands::next_token, crate::specs::InHand::InHand))]
     fn word_command(&mut self, room: usize) -> Result<Command, Stop>
         requires { after_word self.old.next.token ≡ Some Suffix }
-        ensures { Takes self.old (a_word_command (level room)) result
+        ensures { TokenToToken self.old (a_word_command (level room)) result
             (λ x. (view_command x, self.new.next)) self.new }
     {
         let start = self.start();
@@ -174,7 +176,7 @@ impl<'a, S: Source, const KEEP: u8> Cursor<'a, S, KEEP> {
     #[inline(always)]
     #[tactic(auto, unfolding(shgrammar::specs::Commands::a_command))]
     pub(crate) fn command(&mut self, room: usize) -> Result<Command, Stop>
-        ensures { Takes self.old (a_command (level room) self.old.next) result
+        ensures { TokenToToken self.old (a_command (level room) self.old.next) result
             (λ x. (view_command x, self.new.next)) self.new }
     {
         match self.next.token {

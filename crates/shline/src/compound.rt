@@ -2,7 +2,7 @@
 //! [`crate::for_loop`], `case` in [`crate::case`].
 ghost use Rattle.std.specs.Prelude.{◌<◌, [], IfOk};
 ghost use Rattle.shgrammar.specs.Shows.{IsRead};
-ghost use Rattle.shline.specs.Clauses.{Boxed, Finds, Keeps, start_of, Takes, text_of, Turns};
+ghost use Rattle.shline.specs.Clauses.{Boxed, Finds, Keeps, start_of, text_of, TokenToToken, Turns};
 ghost use Rattle.shgrammar.specs.Compounds.{a_branch, a_form, a_group, a_loop, an_else, an_if, branched, closing, elif_turn, reserved_or_paren, closed};
 ghost use Rattle.shgrammar.specs.Form.{many, Spelled};
 ghost use Rattle.shgrammar.specs.Levels.{level};
@@ -45,7 +45,7 @@ impl<'a, S: Source, const KEEP: u8> Cursor<'a, S, KEEP> {
     #[cycle(commands)]
     #[tactic(auto, unfolding(shgrammar::specs::Compounds::closing, crate::specs::InHand::InHand))]
     pub(crate) fn closing(&mut self, what: Closing, room: usize) -> Result<Span, Stop>
-        ensures value { Takes self.old (closing (level room) what self.old.next) result
+        ensures value { TokenToToken self.old (closing (level room) what self.old.next) result
             (λ span. (span, self.new.next)) self.new }
         ensures onward { IfOk result (λ span. start_of self.old < start_of self.new) }
     {
@@ -59,7 +59,7 @@ impl<'a, S: Source, const KEEP: u8> Cursor<'a, S, KEEP> {
     #[cycle(commands)]
     #[tactic(auto, unfolding(shgrammar::specs::Compounds::a_group))]
     pub(crate) fn group(&mut self, what: Closing, room: usize) -> Result<(List, Span), Stop>
-        ensures { Takes self.old (a_group (level room) what self.old.next) result
+        ensures { TokenToToken self.old (a_group (level room) what self.old.next) result
             (λ x. closed (view_list x.0) (x.1, self.new.next)) self.new }
     {
         let list = self.list(room)?;
@@ -71,7 +71,7 @@ impl<'a, S: Source, const KEEP: u8> Cursor<'a, S, KEEP> {
     #[cycle(commands)]
     #[tactic(auto, unfolding(shgrammar::specs::Compounds::a_branch))]
     fn branch(&mut self, room: usize) -> Result<Branch, Stop>
-        ensures { Takes self.old (a_branch (level room) self.old.next) result
+        ensures { TokenToToken self.old (a_branch (level room) self.old.next) result
             (λ x. (view_branch x, self.new.next)) self.new }
     {
         let condition = self.list(room)?;
@@ -102,7 +102,8 @@ impl<'a, S: Source, const KEEP: u8> Cursor<'a, S, KEEP> {
     #[cycle(commands)]
     #[tactic(auto, using(shgrammar::proofs::Turns::many_again, shgrammar::proofs::Turns::many_done, crate::proofs::Stops::many_stop))]
     fn elifs(&mut self, room: usize) -> Result<Vec<Branch>, Stop>
-        ensures { Takes self.old (many (elif_turn (level room)) (branched [] self.old.next)) result
+        ensures { TokenToToken self.old
+            (many (elif_turn (level room)) (branched [] self.old.next)) result
             (λ branches. branched (view_branches branches) self.new.next) self.new }
     {
         let mut branches = Vec::new(self.alloc);
@@ -114,7 +115,7 @@ impl<'a, S: Source, const KEEP: u8> Cursor<'a, S, KEEP> {
     #[cycle(commands)]
     #[tactic(auto, unfolding(shgrammar::specs::Compounds::an_else, crate::specs::InHand::InHand))]
     fn otherwise(&mut self, room: usize) -> Result<Option<List>, Stop>
-        ensures { Takes self.old (an_else (level room) self.old.next) result
+        ensures { TokenToToken self.old (an_else (level room) self.old.next) result
             (λ x. (view_otherwise x, self.new.next)) self.new }
     {
         if !self.next.token.is_closing(Closing::Else) {
@@ -128,7 +129,7 @@ impl<'a, S: Source, const KEEP: u8> Cursor<'a, S, KEEP> {
     #[cycle(commands)]
     #[tactic(auto, unfolding(shgrammar::specs::Compounds::an_if))]
     fn if_command(&mut self, room: usize) -> Result<(Form, Span), Stop>
-        ensures { Takes self.old (an_if (level room) self.old.next) result
+        ensures { TokenToToken self.old (an_if (level room) self.old.next) result
             (λ x. closed (view_form x.0) (x.1, self.new.next)) self.new }
     {
         let first = self.branch(room)?;
@@ -142,7 +143,7 @@ impl<'a, S: Source, const KEEP: u8> Cursor<'a, S, KEEP> {
     #[cycle(commands)]
     #[tactic(auto, unfolding(shgrammar::specs::Compounds::a_loop))]
     fn loop_command(&mut self, room: usize) -> Result<(Branch, Span), Stop>
-        ensures { Takes self.old (a_loop (level room) self.old.next) result
+        ensures { TokenToToken self.old (a_loop (level room) self.old.next) result
             (λ x. closed (view_branch x.0) (x.1, self.new.next)) self.new }
     {
         let condition = self.list(room)?;
@@ -155,7 +156,7 @@ impl<'a, S: Source, const KEEP: u8> Cursor<'a, S, KEEP> {
     /// What an opener opens, from just after it, and its closer.
     #[cycle(commands)]
     fn form(&mut self, opener: Opener, room: usize) -> Result<(Form, Span), Stop>
-        ensures { Takes self.old (a_form (level room) opener self.old.next) result
+        ensures { TokenToToken self.old (a_form (level room) opener self.old.next) result
             (λ x. closed (view_form x.0) (x.1, self.new.next)) self.new }
     {
         match opener {
@@ -186,7 +187,7 @@ impl<'a, S: Source, const KEEP: u8> Cursor<'a, S, KEEP> {
     #[tactic(auto, unfolding(shgrammar::specs::Compounds::a_compound), using(shgrammar::proofs::Levels::compound_below, shgrammar::proofs::Levels::compound_closed))]
     pub(crate) fn compound(&mut self, opener: Opener, room: usize) -> Result<Command, Stop>
         requires { IsRead (text_of self.old) (start_of self.old) }
-        ensures value { Takes self.old ((level room).compound opener) result
+        ensures value { TokenToToken self.old ((level room).compound opener) result
             (λ x. (view_command x, self.new.next)) self.new }
         ensures tree { IfOk result (Boxed KEEP) }
     {

@@ -1,6 +1,6 @@
 //! Here-documents: those that wait, and their bodies (XCU 2.7.4).
 ghost use Rattle.std.specs.Prelude.{◌≡◌, ◌+◌, ◌<◌, ◌≤◌, ◌==◌, ◌&&◌, All, bytes_eq, fold, nat_lt, not, [], IfOk, IfSome, List as Row, ◌∷◌, length, option_map, ◌-◌, true, false};
-ghost use Rattle.shline.specs.Clauses.{at_place, at_token, Between, BodyRead, bytes_between, end_of, given_of, here_of, Inside, Keeps, limits_of, line_bytes_from, on, Reaches, Reads, seen, Stays, Takes, text_of, view_waiting};
+ghost use Rattle.shline.specs.Clauses.{at_place, at_token, Between, BodyRead, bytes_between, end_of, given_of, here_of, Inside, Keeps, limits_of, line_bytes_from, on, PlaceToPlace, Reaches, seen, Stays, text_of, TokenToToken, view_waiting};
 ghost use Rattle.shline.specs.Limits.{Waits};
 ghost use Rattle.shgrammar.specs.States.{Waiting as Awaited};
 ghost use Rattle.shgrammar.specs.Commands.{a_document, is_strip, nothing_waits, takes_here};
@@ -85,7 +85,7 @@ impl<'a, S: Source, const KEEP: u8> Cursor<'a, S, KEEP> {
     #[inline(always)]
     #[tactic(auto, unfolding(shgrammar::specs::Commands::nothing_waits))]
     pub(crate) fn nothing_waits(&self) -> Result<(), Stop>
-        ensures { Takes self.now nothing_waits result (λ _. tt) self.now }
+        ensures { TokenToToken self.now nothing_waits result (λ _. tt) self.now }
     {
         match self.first_waiting() {
             Some(operator) => Err(Stop::Wrong(Fault {
@@ -162,7 +162,8 @@ impl<'a, S: Source, const KEEP: u8> Cursor<'a, S, KEEP> {
     ) -> Result<Option<HereDocument>, Stop>
         requires places { (start ≤ here_of self.old) × (mark ≤ end_of self.old) }
         requires memory { takes_here operator ≡ true → (limits_of self.old).memory ≡ true }
-        ensures value { Reads self.old (a_document operator mark (self.old.origin + start) (raw
+        ensures value { PlaceToPlace self.old
+            (a_document operator mark (self.old.origin + start) (raw
             (text_of self.old) start (here_of self.old))) result (option_map view_here) self.new }
         ensures place { here_of self.new ≡ here_of self.old }
     {
@@ -344,7 +345,7 @@ impl<'a, S: Source, const KEEP: u8> Cursor<'a, S, KEEP> {
     #[inline(never)]
     #[tactic(auto, using(crate::proofs::Awaited::bodies_read, crate::proofs::Awaited::bodies_stop))]
     pub(crate) fn bodies(&mut self) -> Result<(), Stop>
-        ensures { Reads self.old (change bodies_here) result (λ _. tt) self.new }
+        ensures { PlaceToPlace self.old (change bodies_here) result (λ _. tt) self.new }
     {
         let mut waiting = mem::replace(&mut self.documents.waiting, Vec::new(self.alloc));
         'documents: for document in &waiting {
@@ -359,7 +360,7 @@ impl<'a, S: Source, const KEEP: u8> Cursor<'a, S, KEEP> {
     #[inline(always)]
     #[tactic(auto, using(crate::proofs::Awaited::none_awaited))]
     pub(crate) fn bodies_here(&mut self) -> Result<(), Stop>
-        ensures { Reads self.old (change bodies_here) result (λ _. tt) self.new }
+        ensures { PlaceToPlace self.old (change bodies_here) result (λ _. tt) self.new }
     {
         if self.documents.waiting.is_empty() {
             return Ok(());

@@ -1,7 +1,7 @@
 //! `for` (XCU 2.9.4.2): its name, the words after its `in`, and what it runs.
 ghost use Rattle.std.specs.Prelude.{◌≡◌, ◌<◌, [], false, length, true, map, option_map, IfErr, IfOk, Some};
 ghost use Rattle.shgrammar.specs.Shows.{IsRead};
-ghost use Rattle.shline.specs.Clauses.{GrowsNone, start_of, Takes, text_of, Turns};
+ghost use Rattle.shline.specs.Clauses.{GrowsNone, start_of, text_of, TokenToToken, Turns};
 ghost use Rattle.shgrammar.specs.Commands.{join_so, so_many};
 ghost use Rattle.shgrammar.specs.Compounds.{a_for, a_for_head, a_for_name, a_linebreak, a_sequential_sep, begins_words, after_remarks, for_words, headed, word_turn, closed};
 ghost use Rattle.shgrammar.specs.declared.token.Position.TheVariants.{Suffix};
@@ -52,7 +52,7 @@ impl<'a, S: Source, const KEEP: u8> Cursor<'a, S, KEEP> {
     #[cycle(commands)]
     #[tactic(auto, unfolding(shgrammar::specs::Compounds::a_for_name, shgrammar::specs::Commands::next_token, crate::specs::InHand::InHand))]
     fn for_name(&mut self, room: usize) -> Result<Word, Stop>
-        ensures { Takes self.old (a_for_name (level room) self.old.next) result
+        ensures { TokenToToken self.old (a_for_name (level room) self.old.next) result
             (λ x. (view_word x, self.new.next)) self.new }
     {
         if !self.next.token.begins_word() {
@@ -75,7 +75,8 @@ impl<'a, S: Source, const KEEP: u8> Cursor<'a, S, KEEP> {
     /// Newlines and comments, which go after these.
     #[tactic(auto, unfolding(shgrammar::specs::Compounds::a_linebreak))]
     pub(crate) fn linebreak(&mut self, lines: &mut Join) -> Result<(), Stop>
-        ensures value { Takes self.old (a_linebreak (view_join lines.old).comments self.old.next)
+        ensures value { TokenToToken self.old
+            (a_linebreak (view_join lines.old).comments self.old.next)
             result (λ _. join_so (view_join lines.new) self.new.next) self.new }
         ensures tree { IfOk result (λ _. GrowsNone KEEP lines.old lines.new) }
     {
@@ -87,7 +88,8 @@ impl<'a, S: Source, const KEEP: u8> Cursor<'a, S, KEEP> {
     #[cycle(commands)]
     #[tactic(auto, unfolding(shgrammar::specs::Compounds::a_sequential_sep))]
     fn sequential_sep(&mut self, lines: &mut Join, room: usize) -> Result<(), Stop>
-        ensures value { Takes self.old (a_sequential_sep (level room) (view_join lines.old).comments
+        ensures value { TokenToToken self.old
+            (a_sequential_sep (level room) (view_join lines.old).comments
             self.old.next) result (λ _. join_so (view_join lines.new) self.new.next) self.new }
         ensures tree { IfOk result (λ _. GrowsNone KEEP lines.old lines.new) }
     {
@@ -118,7 +120,8 @@ impl<'a, S: Source, const KEEP: u8> Cursor<'a, S, KEEP> {
     #[cycle(commands)]
     #[tactic(auto, using(shgrammar::proofs::Turns::many_again, shgrammar::proofs::Turns::many_done, crate::proofs::Stops::many_stop))]
     fn words(&mut self, room: usize) -> Result<Vec<Item>, Stop>
-        ensures { Takes self.old (many (word_turn (level room)) (so_many [] Suffix self.old.next))
+        ensures { TokenToToken self.old
+            (many (word_turn (level room)) (so_many [] Suffix self.old.next))
             result (λ words. so_many (view_items words) Suffix self.new.next) self.new }
     {
         let mut words = Vec::new(self.alloc);
@@ -131,7 +134,8 @@ impl<'a, S: Source, const KEEP: u8> Cursor<'a, S, KEEP> {
     #[tactic(auto, unfolding(shgrammar::specs::Compounds::for_words))]
     fn for_words(&mut self, lines: &mut Join, room: usize) -> Result<Vec<Item>, Stop>
         requires { IsRead (text_of self.old) (start_of self.old) }
-        ensures value { Takes self.old (for_words (level room) (view_join lines.old).comments)
+        ensures value { TokenToToken self.old
+            (for_words (level room) (view_join lines.old).comments)
             result (λ words. headed (for_words_of (Some (view_items words))) (join_so (view_join
             lines.new) self.new.next)) self.new }
         ensures tree { IfOk result (λ words. GrowsNone KEEP lines.old lines.new) }
@@ -148,7 +152,8 @@ impl<'a, S: Source, const KEEP: u8> Cursor<'a, S, KEEP> {
     #[tactic(auto, unfolding(shgrammar::specs::Compounds::a_for_head, crate::specs::InHand::InHand))]
     fn for_head(&mut self, lines: &mut Join, room: usize) -> Result<Option<Vec<Item>>, Stop>
         requires { (view_join lines.old).comments ≡ [] }
-        ensures value { Takes self.old (a_for_head (level room) self.old.next) result (λ words.
+        ensures value { TokenToToken self.old (a_for_head (level room) self.old.next) result
+            (λ words.
             headed (for_words_of (option_map (view_items) words)) (join_so (view_join lines.new)
             self.new.next)) self.new }
         ensures tree { IfOk result (λ words. GrowsNone KEEP lines.old lines.new) }
@@ -165,7 +170,7 @@ impl<'a, S: Source, const KEEP: u8> Cursor<'a, S, KEEP> {
     #[cycle(commands)]
     #[tactic(auto, unfolding(shgrammar::specs::Compounds::a_for), using(crate::proofs::Wanted::kept_some))]
     pub(crate) fn for_command(&mut self, room: usize) -> Result<(Form, Span), Stop>
-        ensures { Takes self.old (a_for (level room) self.old.next) result
+        ensures { TokenToToken self.old (a_for (level room) self.old.next) result
             (λ x. closed (view_form x.0) (x.1, self.new.next)) self.new }
     {
         let name = self.for_name(room)?;

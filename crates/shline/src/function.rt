@@ -1,7 +1,7 @@
 //! Functions (XCU 2.9.5), from the `(` after their names.
 ghost use Rattle.std.specs.Prelude.{◌≡◌, ◌+◌, ◌≤◌, map, IfErr, IfOk, true};
 ghost use Rattle.shgrammar.specs.Shows.{IsRead};
-ghost use Rattle.shline.specs.Clauses.{Boxed, is_compound, start_of, Takes, text_of};
+ghost use Rattle.shline.specs.Clauses.{Boxed, is_compound, start_of, text_of, TokenToToken};
 ghost use Rattle.shgrammar.specs.Commands.{compound_by, named_function, opener_of};
 ghost use Rattle.shgrammar.specs.Compounds.{a_function, under_name};
 ghost use Rattle.shgrammar.specs.Levels.{level};
@@ -42,7 +42,7 @@ impl<'a, S: Source, const KEEP: u8> Cursor<'a, S, KEEP> {
     #[cycle(commands)]
     #[tactic(auto, unfolding(crate::specs::InHand::InHand))]
     pub(crate) fn compound_by(&mut self, room: usize) -> Result<Command, Stop>
-        ensures value { Takes self.old (compound_by (level room) self.old.next (opener_of
+        ensures value { TokenToToken self.old (compound_by (level room) self.old.next (opener_of
             self.old.next.token)) result (λ x. (view_command x, self.new.next)) self.new }
         ensures tree { IfOk result (Boxed KEEP) }
     {
@@ -60,7 +60,7 @@ impl<'a, S: Source, const KEEP: u8> Cursor<'a, S, KEEP> {
     #[tactic(auto, unfolding(shgrammar::specs::Compounds::a_function))]
     fn function(&mut self, name: Span, room: usize) -> Result<Command, Stop>
         requires { IsRead (text_of self.old) (start_of self.old) }
-        ensures { Takes self.old (a_function (level room) name) result
+        ensures { TokenToToken self.old (a_function (level room) name) result
             (λ x. (view_command x, self.new.next)) self.new }
     {
         let _ = self.reserved_or_paren(true, Position::Command);
@@ -85,7 +85,7 @@ impl<'a, S: Source, const KEEP: u8> Cursor<'a, S, KEEP> {
     ) -> Result<Command, Stop>
         requires here { IsRead (text_of self.old) (start_of self.old) }
         requires name { (start ≤ start_of self.old) × (name.start ≡ self.old.origin + start) }
-        ensures { Takes self.old
+        ensures { TokenToToken self.old
             (named_function (level room) (is_name_at (text_of self.old) start) name)
             result (λ x. (view_command x, self.new.next)) self.new }
     {

@@ -1,6 +1,6 @@
 //! What stands around an operator that joins two operands (XCU 2.9.2, 2.9.3).
 ghost use Rattle.std.specs.Prelude.{IfOk};
-ghost use Rattle.shline.specs.Clauses.{GrowsNone, Meets, Takes, Turns};
+ghost use Rattle.shline.specs.Clauses.{GrowsNone, PlaceToToken, TokenToToken, Turns};
 ghost use Rattle.shgrammar.specs.Commands.{a_join, join_so, join_turn};
 ghost use Rattle.shgrammar.specs.Form.{many};
 ghost use Rattle.shast.specs.View.{view_join};
@@ -33,7 +33,8 @@ impl<'a, S: Source, const KEEP: u8> Cursor<'a, S, KEEP> {
     /// The newlines and comments after an operator, up to its operand.
     #[tactic(auto, using(shgrammar::proofs::Turns::many_again, shgrammar::proofs::Turns::many_done, crate::proofs::Stops::many_stop))]
     pub(crate) fn join_on(&mut self, join: &mut Join) -> Result<(), Stop>
-        ensures value { Takes self.old (many join_turn (join_so (view_join join.old) self.old.next))
+        ensures value { TokenToToken self.old
+            (many join_turn (join_so (view_join join.old) self.old.next))
             result (λ _. join_so (view_join join.new) self.new.next) self.new }
         ensures tree { IfOk result (λ _. GrowsNone KEEP join.old join.new) }
     {
@@ -45,7 +46,7 @@ impl<'a, S: Source, const KEEP: u8> Cursor<'a, S, KEEP> {
     /// operand begins.
     #[tactic(auto, unfolding(shgrammar::specs::Commands::a_join, shgrammar::specs::Commands::next_token))]
     pub(crate) fn join(&mut self, broken: bool) -> Result<Join, Stop>
-        ensures { Meets self.old (a_join broken) result
+        ensures { PlaceToToken self.old (a_join broken) result
             (λ x. (view_join x, self.new.next)) self.new }
     {
         self.next_token(Position::Command);

@@ -1,6 +1,6 @@
 //! A line of a script: its entries, and its end (XCU 2.10.2).
 ghost use Rattle.std.specs.Prelude.{◌≡◌, map, IfOk};
-ghost use Rattle.shline.specs.Clauses.{Ended, here_of, Onward, Passes, Reads, start_of, text_of};
+ghost use Rattle.shline.specs.Clauses.{Ended, here_of, Onward, PlaceToPlace, start_of, text_of, TokenToPlace};
 ghost use Rattle.shgrammar.specs.Levels.{level};
 ghost use Rattle.shgrammar.specs.Lines.{an_open_line, end_of_line};
 ghost use Rattle.shast.specs.Bodies.{filled_row};
@@ -27,7 +27,7 @@ impl<'a, S: Source, const KEEP: u8> Cursor<'a, S, KEEP> {
     #[inline(always)]
     #[tactic(auto, unfolding(shgrammar::specs::Lines::end_of_line, shgrammar::specs::Bytes::past_byte, crate::specs::InHand::InHand))]
     fn end_of_line(&mut self, room: usize) -> Result<bool, Stop>
-        ensures value { Passes self.old (end_of_line (level room) self.old.next) result
+        ensures value { TokenToPlace self.old (end_of_line (level room) self.old.next) result
             (λ newline. newline) self.new }
         ensures onward { IfOk result (Onward (start_of self.old) (here_of self.new)) }
         ensures end { IfOk result (Ended (text_of self.old) (here_of self.new)) }
@@ -51,7 +51,7 @@ impl<'a, S: Source, const KEEP: u8> Cursor<'a, S, KEEP> {
     /// and whether a newline ended it.
     #[tactic(auto, unfolding(shgrammar::specs::Lines::an_open_line, shgrammar::specs::Commands::next_token))]
     pub(crate) fn open_line(&mut self, blank: bool, room: usize) -> Result<(Vec<Entry>, bool), Stop>
-        ensures value { Reads self.old (an_open_line (level room) blank) result
+        ensures value { PlaceToPlace self.old (an_open_line (level room) blank) result
             (λ x. (map view_entry x.0.items, x.1)) self.new }
         ensures onward { IfOk result (λ x. Onward (here_of self.old) (here_of self.new) x.1) }
         ensures end { IfOk result (λ x. Ended (text_of self.old) (here_of self.new) x.1) }

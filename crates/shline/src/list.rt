@@ -1,6 +1,6 @@
 //! Lists: entries on one line or on many (XCU 2.9.3, 2.10.2).
 ghost use Rattle.std.specs.Prelude.{◌≡◌, ◌++◌, [], ◌∷◌, IfOk, None, false, map};
-ghost use Rattle.shline.specs.Clauses.{Holds, Takes, Turns};
+ghost use Rattle.shline.specs.Clauses.{Holds, TokenToToken, Turns};
 ghost use Rattle.shgrammar.specs.Commands.{past_separator};
 ghost use Rattle.shgrammar.specs.Compounds.{a_body};
 ghost use Rattle.shgrammar.specs.Form.{many};
@@ -168,7 +168,8 @@ impl<'a, S: Source, const KEEP: u8> Cursor<'a, S, KEEP> {
     #[cycle(commands)]
     #[tactic(auto, using(shgrammar::proofs::Turns::many_again, shgrammar::proofs::Turns::many_done, crate::proofs::Stops::many_stop, shgrammar::proofs::Turns::last_entry))]
     fn entries(&mut self, listed: &mut Listed, room: usize) -> Result<(), Stop>
-        ensures { Takes self.old (many (entry_turn (level room)) (list_so (view_listed listed.old)
+        ensures { TokenToToken self.old
+            (many (entry_turn (level room)) (list_so (view_listed listed.old)
             self.old.next)) result (λ _. list_so (view_listed listed.new) self.new.next) self.new }
     {
         'turns: while self.entry_turn(listed, room)? && self.next.token.begins_pipeline() {}
@@ -179,7 +180,8 @@ impl<'a, S: Source, const KEEP: u8> Cursor<'a, S, KEEP> {
     #[inline(always)]
     #[tactic(auto, unfolding(shgrammar::specs::Lists::a_remark))]
     fn own_comment(&mut self, listed: &mut Listed) -> Result<(), Stop>
-        ensures { Takes self.old (a_remark (list_so (view_listed listed.old) self.old.next)) result
+        ensures { TokenToToken self.old
+            (a_remark (list_so (view_listed listed.old) self.old.next)) result
             (λ _. list_so (view_listed listed.new) self.new.next) self.new }
     {
         if let Some(comment) = self.comment() {
@@ -199,7 +201,7 @@ impl<'a, S: Source, const KEEP: u8> Cursor<'a, S, KEEP> {
     #[inline(always)]
     #[tactic(auto, unfolding(shgrammar::specs::Lists::on_line), using(shgrammar::proofs::Turns::no_entries))]
     pub(crate) fn on_line(&mut self, listed: &mut Listed, room: usize) -> Result<(), Stop>
-        ensures { Takes self.old (on_line (level room) (list_so (view_listed listed.old)
+        ensures { TokenToToken self.old (on_line (level room) (list_so (view_listed listed.old)
             self.old.next)) result (λ _. list_so (view_listed listed.new) self.new.next) self.new }
     {
         if self.next.token.begins_pipeline() {
@@ -227,7 +229,8 @@ impl<'a, S: Source, const KEEP: u8> Cursor<'a, S, KEEP> {
     #[cycle(commands)]
     #[tactic(auto, using(shgrammar::proofs::Turns::many_again, shgrammar::proofs::Turns::many_done, crate::proofs::Stops::many_stop))]
     pub(crate) fn list_lines(&mut self, listed: &mut Listed, room: usize) -> Result<(), Stop>
-        ensures { Takes self.old (many (list_turn (level room)) (list_so (view_listed listed.old)
+        ensures { TokenToToken self.old
+            (many (list_turn (level room)) (list_so (view_listed listed.old)
             self.old.next)) result (λ _. list_so (view_listed listed.new) self.new.next) self.new }
     {
         'turns: while self.list_turn(listed, room)? {}
@@ -238,7 +241,7 @@ impl<'a, S: Source, const KEEP: u8> Cursor<'a, S, KEEP> {
     #[cycle(commands)]
     #[tactic(auto, unfolding(shgrammar::specs::Compounds::a_body))]
     pub(crate) fn body(&mut self, room: usize) -> Result<Listed, Stop>
-        ensures { Takes self.old (a_body (level room) self.old.next) result
+        ensures { TokenToToken self.old (a_body (level room) self.old.next) result
             (λ listed. list_so (view_listed listed) self.new.next) self.new }
     {
         let mut listed = Listed::new(self.alloc, false);
@@ -251,7 +254,7 @@ impl<'a, S: Source, const KEEP: u8> Cursor<'a, S, KEEP> {
     #[cycle(commands)]
     #[tactic(auto, unfolding(shgrammar::specs::Lists::a_list))]
     pub(crate) fn list(&mut self, room: usize) -> Result<List, Stop>
-        ensures { Takes self.old (a_list (level room) self.old.next) result
+        ensures { TokenToToken self.old (a_list (level room) self.old.next) result
             (λ x. (view_list x, self.new.next)) self.new }
     {
         let mut listed = Listed::new(self.alloc, false);

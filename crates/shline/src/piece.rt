@@ -3,7 +3,7 @@ ghost use Rattle.std.specs.Prelude.{◌≡◌, ◌≢◌, ◌⊎◌, ◌+◌, �
 ghost use Rattle.shgrammar.specs.Bytes.{ends, ends_word, past_byte, stands};
 ghost use Rattle.shgrammar.specs.Shows.{IsRead};
 ghost use Rattle.shline.specs.Pieces.{PieceShows};
-ghost use Rattle.shline.specs.Clauses.{ByteHere, here_of, Inside, IsHere, Moves, on, Reads, text_of};
+ghost use Rattle.shline.specs.Clauses.{ByteHere, here_of, Inside, IsHere, Moves, on, PlaceToPlace, text_of};
 ghost use Rattle.shgrammar.specs.Form.{many, step_if};
 ghost use Rattle.shgrammar.specs.Pieces.{bracket_by, byte_by, dollar_at, past_parameter, piece_at, piece_in, rest_mode};
 ghost use Rattle.shgrammar.specs.Words.{backquoted_text, dollar_single, escaped_turn, single};
@@ -156,7 +156,7 @@ impl<'a, S: Source, const KEEP: u8> Cursor<'a, S, KEEP> {
     #[tactic(auto, unfolding(shgrammar::specs::Words::single, shgrammar::specs::Pieces::past_taken, shgrammar::specs::Bytes::past_byte), using(shgrammar::proofs::Places::quote_clear, shgrammar::proofs::Stretches::place_low))]
     pub(crate) fn single(&mut self, here: usize) -> Result<(), Stop>
         requires here { ByteHere self.old here }
-        ensures value { Reads self.old single result (λ _. tt) self.new }
+        ensures value { PlaceToPlace self.old single result (λ _. tt) self.new }
         ensures onward { IfOk result (λ _. on self.old here < here_of self.new) }
     {
         let closer = self.next_quote(here + 1);
@@ -173,7 +173,8 @@ impl<'a, S: Source, const KEEP: u8> Cursor<'a, S, KEEP> {
     #[tactic(auto, unfolding(shgrammar::specs::Words::escaped_turn, shgrammar::specs::Pieces::past_taken), using(shgrammar::proofs::Places::backslash_next, shgrammar::proofs::Places::closer_is))]
     fn escaped_turn(&mut self, escaping: Escaping, opener: usize) -> Result<bool, Stop>
         requires { opener ≤ here_of self.old }
-        ensures value { Reads self.old (escaped_turn escaping (self.old.origin + opener) tt) result
+        ensures value { PlaceToPlace self.old
+            (escaped_turn escaping (self.old.origin + opener) tt) result
             (λ more. step_if more tt) self.new }
         ensures onward { IfOk result (λ more. here_of self.old < here_of self.new) }
     {
@@ -198,7 +199,8 @@ impl<'a, S: Source, const KEEP: u8> Cursor<'a, S, KEEP> {
     #[tactic(auto, using(shgrammar::proofs::Turns::many_again, shgrammar::proofs::Turns::many_done, crate::proofs::Stops::many_stop))]
     fn escaped_text(&mut self, escaping: Escaping, opener: usize) -> Result<(), Stop>
         requires { opener ≤ here_of self.old }
-        ensures value { Reads self.old (many (escaped_turn escaping (self.old.origin + opener)) tt)
+        ensures value { PlaceToPlace self.old
+            (many (escaped_turn escaping (self.old.origin + opener)) tt)
             result (λ _. tt) self.new }
         ensures onward { IfOk result (λ _. here_of self.old < here_of self.new) }
     {
@@ -210,7 +212,7 @@ impl<'a, S: Source, const KEEP: u8> Cursor<'a, S, KEEP> {
     #[tactic(auto, unfolding(shgrammar::specs::Words::backquoted_text, shgrammar::specs::Bytes::past_byte), using(shgrammar::proofs::Stretches::place_low))]
     pub(crate) fn backquoted_text(&mut self, here: usize) -> Result<(), Stop>
         requires here { ByteHere self.old here }
-        ensures value { Reads self.old backquoted_text result (λ _. tt) self.new }
+        ensures value { PlaceToPlace self.old backquoted_text result (λ _. tt) self.new }
         ensures onward { IfOk result (λ _. on self.old here < here_of self.new) }
     {
         let opener = self.begin + here;
@@ -223,7 +225,7 @@ impl<'a, S: Source, const KEEP: u8> Cursor<'a, S, KEEP> {
     pub(crate) fn dollar_single(&mut self, here: usize) -> Result<(), Stop>
         requires here { ByteHere self.old here }
         requires two { IsRead (text_of self.old) (on self.old here + 1) }
-        ensures value { Reads self.old dollar_single result (λ _. tt) self.new }
+        ensures value { PlaceToPlace self.old dollar_single result (λ _. tt) self.new }
         ensures onward { IfOk result (λ _. on self.old here < here_of self.new) }
     {
         let opener = self.begin + here;

@@ -1,7 +1,7 @@
 //! Pipelines (XCU 2.9.2).
 ghost use Rattle.std.specs.Prelude.{[]};
 ghost use Rattle.shgrammar.specs.Shows.{IsRead};
-ghost use Rattle.shline.specs.Clauses.{Adds, Finds, start_of, Takes, text_of, Turns};
+ghost use Rattle.shline.specs.Clauses.{Adds, Finds, start_of, text_of, TokenToToken, Turns};
 ghost use Rattle.shgrammar.specs.Commands.{a_bang, a_pipeline, one_command, pipe_turn, piped};
 ghost use Rattle.shgrammar.specs.Form.{many};
 ghost use Rattle.shgrammar.specs.Levels.{level};
@@ -74,7 +74,8 @@ impl<'a, S: Source, const KEEP: u8> Cursor<'a, S, KEEP> {
     #[inline(always)]
     #[tactic(auto, using(shgrammar::proofs::Turns::many_again, shgrammar::proofs::Turns::many_done, crate::proofs::Stops::many_stop))]
     pub(crate) fn pipes(&mut self, room: usize) -> Result<Vec<PipelinePart>, Stop>
-        ensures { Takes self.old (many (pipe_turn (level room)) (piped [] self.old.next)) result
+        ensures { TokenToToken self.old
+            (many (pipe_turn (level room)) (piped [] self.old.next)) result
             (λ parts. piped (view_pipeline_parts parts) self.new.next) self.new }
     {
         let mut parts = Vec::new(self.alloc);
@@ -87,7 +88,7 @@ impl<'a, S: Source, const KEEP: u8> Cursor<'a, S, KEEP> {
     #[inline(always)]
     #[tactic(auto, unfolding(shgrammar::specs::Commands::a_pipeline))]
     pub(crate) fn pipeline(&mut self, room: usize) -> Result<Pipeline, Stop>
-        ensures { Takes self.old (a_pipeline (level room) self.old.next) result
+        ensures { TokenToToken self.old (a_pipeline (level room) self.old.next) result
             (λ x. (view_pipeline x, self.new.next)) self.new }
     {
         let bang = self.bang();

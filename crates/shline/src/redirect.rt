@@ -1,6 +1,6 @@
 //! Redirections (XCU 2.7): among the items of a simple command, and after a compound command.
 ghost use Rattle.std.specs.Prelude.{◌≡◌, ◌+◌, ◌<◌, ◌≤◌, [], IfOk, Some};
-ghost use Rattle.shline.specs.Clauses.{Adds, at_place, at_token, end_of, Finds, here_of, is_compound, Leads, Reads, start_of, Takes, text_of};
+ghost use Rattle.shline.specs.Clauses.{Adds, at_place, at_token, end_of, Finds, here_of, is_compound, Leads, PlaceToPlace, start_of, text_of, TokenToToken};
 ghost use Rattle.shgrammar.specs.Commands.{a_number, a_target, an_operator, is_long, one_redirect, redirect_operator_of, redirect_turn, so_many, with_redirect_list};
 ghost use Rattle.shgrammar.specs.declared.token.Position.TheVariants.{Command as AsCommand};
 ghost use Rattle.shgrammar.specs.Form.{many, raw};
@@ -65,7 +65,7 @@ impl<'a, S: Source, const KEEP: u8> Cursor<'a, S, KEEP> {
     #[cycle(commands)]
     #[tactic(auto, unfolding(shgrammar::specs::Commands::a_target, shgrammar::specs::Commands::next_token, crate::specs::InHand::InHand))]
     fn target(&mut self, room: usize) -> Result<(Word, usize), Stop>
-        ensures value { Reads self.old (a_target (level room)) result (λ x.
+        ensures value { PlaceToPlace self.old (a_target (level room)) result (λ x.
             (view_word x.0, raw (text_of self.old) x.1 (here_of self.new))) self.new }
         ensures place { IfOk result (λ x. (x.1 ≤ here_of self.new) × ((word_span (view_word
             x.0)).start ≡ self.old.origin + x.1)) }
@@ -116,7 +116,7 @@ impl<'a, S: Source, const KEEP: u8> Cursor<'a, S, KEEP> {
     #[cycle(commands)]
     #[tactic(auto, unfolding(shgrammar::specs::Commands::redirect_turn), using(shgrammar::proofs::Turns::many_again, shgrammar::proofs::Turns::many_done, crate::proofs::Stops::many_stop))]
     fn redirects(&mut self, room: usize) -> Result<Vec<Item>, Stop>
-        ensures { Takes self.old (many (redirect_turn (level room)) (so_many [] AsCommand
+        ensures { TokenToToken self.old (many (redirect_turn (level room)) (so_many [] AsCommand
             self.old.next)) result (λ redirects. so_many (view_items redirects) AsCommand
             self.new.next) self.new }
     {
@@ -136,7 +136,7 @@ impl<'a, S: Source, const KEEP: u8> Cursor<'a, S, KEEP> {
         inner: Command,
         room: usize,
     ) -> Result<Command, Stop>
-        ensures value { Takes self.old
+        ensures value { TokenToToken self.old
             (with_redirect_list (level room) (view_command inner, self.old.next))
             result (λ x. (view_command x, self.new.next)) self.new }
         ensures kind { IfOk result

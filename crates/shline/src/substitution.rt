@@ -1,6 +1,6 @@
 //! Command substitutions (XCU 2.6.3).
 ghost use Rattle.std.specs.Prelude.{◌≡◌, ◌+◌, ◌≤◌, ◌==◌, IfErr, IfOk, true};
-ghost use Rattle.shline.specs.Clauses.{here_of, keep_of, Reads};
+ghost use Rattle.shline.specs.Clauses.{here_of, keep_of, PlaceToPlace};
 ghost use Rattle.shgrammar.specs.Comments.{span};
 ghost use Rattle.shgrammar.specs.Form.{grows, pushed};
 ghost use Rattle.shgrammar.specs.Levels.{level};
@@ -33,7 +33,7 @@ impl<'a, S: Source, const KEEP: u8> Cursor<'a, S, KEEP> {
     #[cycle(commands)]
     #[tactic(auto, unfolding(shgrammar::specs::Substitutions::substitution_list, shgrammar::specs::Commands::next_token, crate::specs::InHand::InHand))]
     fn substitution_list(&mut self, room: usize) -> Result<List, Stop>
-        ensures { Reads self.old (substitution_list (level room)) result view_list self.new }
+        ensures { PlaceToPlace self.old (substitution_list (level room)) result view_list self.new }
     {
         self.next_token(Position::Command);
         let mut listed = Listed::new(self.alloc, false);
@@ -81,7 +81,7 @@ impl<'a, S: Source, const KEEP: u8> Cursor<'a, S, KEEP> {
         room: usize,
     ) -> Result<(), Stop>
         requires { opener ≤ here_of self.old }
-        ensures { Reads self.old (one_substitution (level room) (self.old.origin + opener)
+        ensures { PlaceToPlace self.old (one_substitution (level room) (self.old.origin + opener)
             (view_substs substs.old)) result (λ _. view_substs substs.new) self.new }
     {
         let outer = self.open_level();
@@ -114,7 +114,8 @@ impl<'a, S: Source, const KEEP: u8> Cursor<'a, S, KEEP> {
         room: usize,
     ) -> Result<(), Stop>
         requires { opener ≤ here_of self.old }
-        ensures { Reads self.old ((level room).substitution (self.old.origin + opener) (view_substs
+        ensures { PlaceToPlace self.old
+            ((level room).substitution (self.old.origin + opener) (view_substs
             substs.old)) result (λ _. view_substs substs.new) self.new }
     {
         if room == 0 {

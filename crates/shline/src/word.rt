@@ -3,7 +3,7 @@ ghost use Rattle.std.specs.Prelude.{◌≡◌, ◌≢◌, ◌+◌, ◌<◌, ◌�
 ghost use Rattle.shgrammar.specs.Bytes.{ends_word};
 ghost use Rattle.shgrammar.specs.Shows.{IsRead};
 ghost use Rattle.shline.specs.Pieces.{PieceShows};
-ghost use Rattle.shline.specs.Clauses.{here_of, IsHere, Keeps, Moves, on, Onward, Passes, Reads, SomeRead, start_of, text_of, word_from};
+ghost use Rattle.shline.specs.Clauses.{here_of, IsHere, Keeps, Moves, on, Onward, PlaceToPlace, SomeRead, start_of, text_of, TokenToPlace, word_from};
 ghost use Rattle.shgrammar.specs.Form.{again, step_if};
 ghost use Rattle.shgrammar.specs.Pieces.{past_closer};
 ghost use Rattle.shline.specs.Rows.{view_substs};
@@ -49,7 +49,7 @@ impl<'a, S: Source, const KEEP: u8> Cursor<'a, S, KEEP> {
         room: usize,
     ) -> Result<(), Stop>
         requires { opener ≤ here_of self.old }
-        ensures { Reads self.old ((level room).construct mode (self.old.origin + opener)
+        ensures { PlaceToPlace self.old ((level room).construct mode (self.old.origin + opener)
             (view_substs substs.old)) result (λ _. view_substs substs.new) self.new }
     {
         if room == 0 {
@@ -87,7 +87,7 @@ impl<'a, S: Source, const KEEP: u8> Cursor<'a, S, KEEP> {
         requires closed { (holds_others piece ≡ false) × IsHere self.old here }
         requires shows { PieceShows mode nested.old piece (text_of self.old) (on self.old here) }
         requires before { (opener ≤ here_of self.old) × (nested.old ≤ here_of self.old) }
-        ensures value { (ss : Row ASubst) → Reads self.old
+        ensures value { (ss : Row ASubst) → PlaceToPlace self.old
             (piece_row (level 0) mode (self.old.origin + opener) (having nested.old ss) piece)
             result (λ _. again (having nested.new ss)) self.new }
         ensures onward { IfOk result (λ _. here_of self.old < here_of self.new) }
@@ -137,7 +137,8 @@ impl<'a, S: Source, const KEEP: u8> Cursor<'a, S, KEEP> {
         room: usize,
     ) -> Result<bool, Stop>
         requires before { (opener ≤ here_of self.old) × (nested.old ≤ here_of self.old) }
-        ensures value { Reads self.old (a_piece (level room) mode (self.old.origin + opener) (having
+        ensures value { PlaceToPlace self.old
+            (a_piece (level room) mode (self.old.origin + opener) (having
             nested.old (view_substs substs.old))) result (λ more. step_if more (having nested.new
             (view_substs substs.new))) self.new }
         ensures onward { IfOk result (Onward (here_of self.old) (here_of self.new)) }
@@ -164,7 +165,8 @@ impl<'a, S: Source, const KEEP: u8> Cursor<'a, S, KEEP> {
         room: usize,
     ) -> Result<bool, Stop>
         requires before { (opener ≤ here_of self.old) × (nested.old ≤ here_of self.old) }
-        ensures value { Reads self.old (a_piece (level room) mode (self.old.origin + opener) (having
+        ensures value { PlaceToPlace self.old
+            (a_piece (level room) mode (self.old.origin + opener) (having
             nested.old (view_substs substs.old))) result (λ more. step_if more (having nested.new
             (view_substs substs.new))) self.new }
         ensures onward { IfOk result (Onward (here_of self.old) (here_of self.new)) }
@@ -214,7 +216,7 @@ impl<'a, S: Source, const KEEP: u8> Cursor<'a, S, KEEP> {
         room: usize,
     ) -> Result<(), Stop>
         requires { opener ≤ here_of self.old }
-        ensures value { Reads self.old (contents (level room) mode (self.old.origin + opener)
+        ensures value { PlaceToPlace self.old (contents (level room) mode (self.old.origin + opener)
             (view_substs substs.old)) result (λ _. view_substs substs.new) self.new }
         ensures some { IfOk result (λ _. SomeRead self.old mode self.new) }
     {
@@ -232,7 +234,7 @@ impl<'a, S: Source, const KEEP: u8> Cursor<'a, S, KEEP> {
     pub(crate) fn pass_word(&mut self, substs: &mut Vec<Subst>, room: usize) -> Result<(), Stop>
         requires word { ends_word (text_of self.old) (start_of self.old) ≡ false }
         requires none { substs.old.items ≡ [] }
-        ensures value { Passes self.old (a_word (level room)) result
+        ensures value { TokenToPlace self.old (a_word (level room)) result
             (λ _. word_from self.old.origin (start_of self.old) self.new substs.new) self.new }
         ensures onward { IfOk result (λ _. start_of self.old < here_of self.new) }
     {
