@@ -383,7 +383,7 @@ module _ (g : Given) where
     alike_unexpected n = alike_then (alike_wrong n) (λ w v so. rw (← so) alike_stop)
 
     abbrev SameItems : Items → Items → Type 0
-    SameItems i j = (i.place ≡ j.place) × (i.next ≡ j.next)
+    SameItems i j = (i.position ≡ j.position) × (i.next ≡ j.next)
 
     alike_item : (i j : Items) (position : Position) →
         Alike (SameStep SameItems) (an_item inner i position) (an_item inner j position)
@@ -456,8 +456,8 @@ module _ (g : Given) where
     alike_item_by i j (Some position) same = alike_item i j position
     alike_item_by i j None same =
         alike_pick _ _ (ap (λ (n : Next). begins_redirect n.token) same.1)
-        (alike_redirect_at (breaks i) (breaks j) (after_redirect i.place)
-        (after_redirect j.place) i.items j.items i.next j.next (ap after_redirect same.0) same.1)
+        (alike_redirect_at (breaks i) (breaks j) (after_redirect i.position)
+        (after_redirect j.position) i.items j.items i.next j.next (ap after_redirect same.0) same.1)
         (alike_give same)
 
     alike_item_turn : (i j : Items) → SameItems i j → Alike (SameStep SameItems) (item_turn inner i) (item_turn inner j)

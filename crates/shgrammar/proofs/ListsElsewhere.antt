@@ -384,7 +384,7 @@ module _ {edition : Edition} {T U : List ℕ} {a M : ℕ} {to : ℕ → ℕ} {li
 
     abbrev SameItems : Items → Items → Type 0
     SameItems i j = (map (shape_of_item B) i.items ≡ map (shape_of_item B2) j.items)
-        × ((i.place ≡ j.place) × (i.next ≡ j.next))
+        × ((i.position ≡ j.position) × (i.next ≡ j.next))
 
     item_same : (position : Position) (b c : Bool) (w v : AWord) → b ≡ c → SameWord w v →
         shape_of_item B (item b (as_item position w)) ≡ shape_of_item B2 (item c (as_item position v))
@@ -509,8 +509,8 @@ module _ {edition : Edition} {T U : List ℕ} {a M : ℕ} {to : ℕ → ℕ} {li
     item_by_same i j (Some position) same = one_item i j position same
     item_by_same i j None same =
         picks _ _ (ap (λ (k : Next). begins_redirect k.token) same.1.1)
-        (redirect_at (breaks i) (breaks j) (after_redirect i.place)
-        (after_redirect j.place) i.items j.items i.next j.next (breaks_same i j same) same.0
+        (redirect_at (breaks i) (breaks j) (after_redirect i.position)
+        (after_redirect j.position) i.items j.items i.next j.next (breaks_same i j same) same.0
         (ap after_redirect same.1.0) same.1.1) (gives same)
 
     item_on : (i j : Items) → SameItems i j → Goes2 (SameStep SameItems) (item_turn inner i) (item_turn inner j)

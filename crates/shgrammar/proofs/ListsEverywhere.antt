@@ -257,7 +257,7 @@ module _ {g : Given} {limit : ℕ} where
     item_in_by i (Some position) s is so = one_item_in i position s so.0
     item_in_by i None s is so =
         picks_by (begins_redirect i.next.token)
-        (λ yes. redirect_in (breaks i) (after_redirect i.place) i.items i.next s so.0)
+        (λ yes. redirect_in (breaks i) (after_redirect i.position) i.items i.next s so.0)
         (λ no. gives (so.0, so.1 (none_begins i.next.token is no)))
 
     item_turn_in : (i : Items) (s : State) → ItemsBegin limit i →

@@ -54,7 +54,7 @@ module _ (z : Place) where
   -- ---- items
 
   abbrev pub items_to : Items → Items
-  items_to i = so_many (map (item_to k deep) i.items) i.place i.next
+  items_to i = so_many (map (item_to k deep) i.items) i.position i.next
 
   abbrev pub SomeItems : Items → Type 0
   SomeItems i = is_empty i.items ≡ false
@@ -200,7 +200,7 @@ module _ (z : Place) where
     moves_item_by i begun (Some position) is = moves_item i position
     moves_item_by i begun None is =
         moves_pick_by _ (λ e. moves_redirect (breaks i) (breaks (items_to i)) (breaks_to i)
-        (after_redirect i.place) i.items i.next)
+        (after_redirect i.position) i.items i.next)
         (λ e. moves_give refl (begun_none (is_empty i.items) (after_word i.next.token)
         (begins_redirect i.next.token) begun is e))
 

@@ -345,7 +345,7 @@ module _ (g : Given) where
     normal_item_by i (Some position) s so = normal_item i position s so
     normal_item_by i None s so =
         normal_pick (begins_redirect i.next.token)
-        (λ e. normal_redirect ItemsSo (breaks i) (after_redirect i.place) i.items i.next s
+        (λ e. normal_redirect ItemsSo (breaks i) (after_redirect i.position) i.items i.next s
         (λ x m t good is. row_more i.items x i.next.broken so good is)) (tells_give Whole g so)
 
     normal_item_turn : (i : Items) (s : State) → NormalRow i.items → N (item_turn inner i) (Turned Whole g ItemsSo) s

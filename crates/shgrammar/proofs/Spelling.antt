@@ -474,7 +474,7 @@ module _ (B : List ℕ) (g : Given) (stands : g.text ≡ drop g.offset B) where
         Passing g (item_by inner i o) (Grows g spelled_items i) s
     pass_item_by i (Some position) s = pass_item i position s
     pass_item_by i None s = pass_pick g (begins_redirect i.next.token)
-        (pass_redirect i (breaks i) (after_redirect i.place) i.next s) (pass_give g (grows_none g spelled_items i))
+        (pass_redirect i (breaks i) (after_redirect i.position) i.next s) (pass_give g (grows_none g spelled_items i))
 
     pass_item_turn : (i : Items) (s : State) → Passing g (item_turn inner i) (Grows g spelled_items i) s
     unfolding item_turn

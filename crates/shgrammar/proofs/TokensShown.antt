@@ -152,7 +152,7 @@ module _ (g : Given) where
     shown_item_by i (Some position) s so =
         after (λ w t. after (λ is u. tells_then Whole g (shown_next position u) (λ n v good. tells_give Whole g good)))
     shown_item_by i None s so = picked (begins_redirect i.next.token)
-        (shown_redirect (breaks i) (after_redirect i.place) i.items i.next s) (tells_give Whole g so)
+        (shown_redirect (breaks i) (after_redirect i.position) i.items i.next s) (tells_give Whole g so)
 
     shown_item_turn : (i : Items) (s : State) → Begins i.next s → N (item_turn inner i) (Turned Whole g ItemsShown) s
     unfolding item_turn

@@ -289,7 +289,7 @@ module _ (keep : Keep) (g : Given) (limit : ℕ) where
         R (item_by inner i position) (Stepped ItemsFit) s
     item_fits_by i (Some position) s so = one_item_fits i position s so
     item_fits_by i None s so = picks (begins_redirect i.next.token)
-        (redirect_fits (breaks i) (after_redirect i.place) i.items i.next s so) (gives so)
+        (redirect_fits (breaks i) (after_redirect i.position) i.items i.next s so) (gives so)
 
     item_turn_fits : (i : Items) (s : State) → ItemsFit i → R (item_turn inner i) (Stepped ItemsFit) s
     unfolding item_turn

@@ -155,11 +155,11 @@ unexpected inner n = what_is_wrong inner n >>= λ w. stop w.0 w.1
 -- the items so far, the position in which the token after them stands, and that token
 pub record Items : Type 0 where
   pub items : Row AnItem
-  pub place : Position
+  pub position : Position
   pub next : Next
 
 abbrev pub so_many : Row AnItem → Position → Next → Items
-so_many is position n = record { items = is; place = position; next = n }
+so_many is position n = record { items = is; position = position; next = n }
 
 -- a continuation stands before an item that is not the first
 abbrev pub breaks : Items → Bool
@@ -259,7 +259,7 @@ after_redirect _ = Prefix
 abbrev pub item_by : Inner → Items → Option Position → Form (Step Items)
 item_by inner i (Some position) = an_item inner i position
 item_by inner i None = pick (begins_redirect i.next.token)
-    (one_redirect inner (breaks i) (after_redirect i.place) i.items i.next) (give (done i))
+    (one_redirect inner (breaks i) (after_redirect i.position) i.items i.next) (give (done i))
 
 -- one more item, or none
 unfoldable pub item_turn : Inner → Items → Form (Step Items)

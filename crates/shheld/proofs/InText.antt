@@ -300,7 +300,7 @@ module _ (g : Given) where
     item_by_in i (Some position) s so = an_item_in i position s so.within
     item_by_in i None s so =
         picked (begins_redirect i.next.token)
-        (λ e. redirect_in (breaks i) (after_redirect i.place) i.items i.next s so)
+        (λ e. redirect_in (breaks i) (after_redirect i.position) i.items i.next s so)
         (gives so)
 
     item_turn_in : (i : Items) (s : State) → Handed i.next s

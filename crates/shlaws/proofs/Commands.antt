@@ -228,7 +228,7 @@ module _ (g : Given) where
     item_on_by i s so (Some position) is = item_on i position s so (ap is_some is)
     item_on_by i s so None is =
         picks g (begins_redirect i.next.token)
-        (redirect_on (breaks i) (after_redirect i.place) i.items i.next s so) (gives g so)
+        (redirect_on (breaks i) (after_redirect i.position) i.items i.next s so) (gives g so)
 
     item_turn_on : (i : Items) (s : State) → Begins g i.next s
         → Goes g (item_turn inner i) (Steps g ItemsShown s) s

@@ -659,8 +659,8 @@ module _ (B : List ℕ) (g : Given) (here : g.text ≡ drop g.offset B) where
 
     -- the items so far, after the documents C, and the token after them; where it begins none there is one
     record ItemsSo (C : Row Due) (i : Items) (D : Row Due) (p : ℕ) : Type 0 where
-      pub good : OpenItems of_command Command C i.items D i.place
-      pub stands : Stands g i.place i.next p
+      pub good : OpenItems of_command Command C i.items D i.position
+      pub stands : Stands g i.position i.next p
       pub begun : begins_simple i.next.token ≡ false → SomeOf g i.items
 
     abbrev ItemsOn : Row Due → Items → Row Due → ℕ → Type 0
@@ -677,7 +677,7 @@ module _ (B : List ℕ) (g : Given) (here : g.text ≡ drop g.offset B) where
     simple_is : (C : Row Due) (i : Items) (D : Row Due) (p : ℕ) → ItemsOn C i D p → ItemsDone C i D p
     simple_is C i D p (so, some) =
         opens_one g (items_of i.items) items_of (items_going i.items)
-        (λ is good. record { last = i.place; items = good.0; some = some_item is good.1 })
+        (λ is good. record { last = i.position; items = good.0; some = some_item is good.1 })
         (opens_some g fill_item some so.good)
 
     -- the shape of the word that was read from p up to q
@@ -754,7 +754,7 @@ module _ (B : List ℕ) (g : Given) (here : g.text ≡ drop g.offset B) where
         add_gives g (
           record {
             good =
-                one_item Command i.place i.items (breaks i) i.next next p q w is so.good so.stands read;
+                one_item Command i.position i.items (breaks i) i.next next p q w is so.good so.stands read;
             stands = stands;
             begun = λ y. some;
           },
@@ -923,20 +923,20 @@ module _ (B : List ℕ) (g : Given) (here : g.text ≡ drop g.offset B) where
         on_done (done j) E e on = simple_is C j E e on
 
         is_item : (s : Shape AnItemOf) → IsRedirect (breaks i) s →
-            GoodItem g.edition room of_command i.place s (after_redirect i.place)
+            GoodItem g.edition room of_command i.position s (after_redirect i.position)
         is_item s (number, o, t, ss, h, is, good) =
-            subst (λ (r : Shape AnItemOf). GoodItem g.edition room of_command i.place r (after_redirect i.place))
+            subst (λ (r : Shape AnItemOf). GoodItem g.edition room of_command i.position r (after_redirect i.position))
             (sym is) (of_redirect good)
 
         by_redirect : (b : Bool) → begins_redirect i.next.token ≡ b → after_word i.next.token ≡ None
-            → Adds g D (pick b (one_redirect inner (breaks i) (after_redirect i.place) i.items i.next) (give (done i)))
-            (Turns g (ItemsOn C) (ItemsDone C)) p
+            → Adds g D (pick b (one_redirect inner (breaks i) (after_redirect i.position) i.items i.next)
+            (give (done i))) (Turns g (ItemsOn C) (ItemsDone C)) p
         by_redirect true is none =
-            so_adds g (reads_redirect (ItemsOn C) (breaks i) i.place
-            (after_redirect i.place) i.items i.next D p so.stands (λ j m E e one stands.
+            so_adds g (reads_redirect (ItemsOn C) (breaks i) i.position
+            (after_redirect i.position) i.items i.next D p so.stands (λ j m E e one stands.
             let some = some_last g i.items j in (
               record {
-                good = one_more_open of_command Command i.place (after_redirect i.place) i.items j
+                good = one_more_open of_command Command i.position (after_redirect i.position) i.items j
                     (opens_so g (λ x good. is_item (shape_of_item B x) good) one) so.good;
                 stands = stands;
                 begun = λ y. some;
@@ -989,7 +989,7 @@ module _ (B : List ℕ) (g : Given) (here : g.text ≡ drop g.offset B) where
     module _ (fine : Fine) where
       -- the redirections after a compound command
       record RedirectsSo (C : Row Due) (r : Items) (D : Row Due) (p : ℕ) : Type 0 where
-        pub place : r.place ≡ Command
+        pub position : r.position ≡ Command
         pub good : OpenItems of_compound Command C r.items D Command
         pub stands : Stands g Command r.next p
 
@@ -1007,7 +1007,7 @@ module _ (B : List ℕ) (g : Given) (here : g.text ≡ drop g.offset B) where
           (λ is. reads_redirect (RedirectsSo C) r.next.broken Command Command r.items r.next D p so.stands
           (λ j m E e one stands.
           record {
-            place = refl;
+            position = refl;
             good =
                 one_more_open of_compound Command Command Command r.items j
                 (opens_so g (λ x good. is_after r.next.broken (shape_of_item B x) good) one) so.good;
@@ -1030,7 +1030,7 @@ module _ (B : List ℕ) (g : Given) (here : g.text ≡ drop g.offset B) where
       reads_with_redirect_list C c D p (form, mark, is, under, stands) =
           add_first g (add_repeats g (redirect_turn inner) (RedirectsSo D) (RedirectsSo D) (RedirectsSo D)
           (reads_redirect_turn D) (λ r E e on. on) (λ r E e on. on) (so_many [] Command c.1) D p
-          (record { place = refl; good = opens_none g fill_item none_more; stands = stands }))
+          (record { position = refl; good = opens_none g fill_item none_more; stands = stands }))
           (λ r E e all. add_gives g (
             formed form mark (items_of r.items),
             ap (λ (x : ACommand). with_redirects x (items_of r.items)) is,
