@@ -14,7 +14,7 @@ use std::io::{Error, ErrorKind, Write};
 const LARGE: usize = 4096;
 
 /// The room that is asked for beyond a large piece: what ends a reply has it, so that nothing grows for that.
-const BEHIND_LARGE: usize = 16;
+const ROOM_AFTER_LARGE: usize = 16;
 
 /// A writer before a device.
 #[derive(Drop)]
@@ -59,7 +59,7 @@ impl<W: Write> Gathering<W> {
     {
         if bytes.len() >= LARGE {
             self.held
-                .reserve_exact(bytes.len().saturating_add(BEHIND_LARGE))?;
+                .reserve_exact(bytes.len().saturating_add(ROOM_AFTER_LARGE))?;
         }
         self.held.extend_from_slice(bytes)
     }
