@@ -7,6 +7,7 @@ use Rattle.shgrammar.specs.declared.mode.Mode.TheVariants.{Double}
 use Rattle.shgrammar.specs.declared.mode.Piece.{Piece}
 use Rattle.shgrammar.specs.declared.mode.Piece.TheVariants as pieces
 use Rattle.shgrammar.specs.Bytes.{byte_at, past_byte, past_continuations}
+use Rattle.shgrammar.specs.Characters.{quotation_mark, dollar_sign, backslash, grave_accent}
 use Rattle.shgrammar.specs.Form.{raw}
 use Rattle.shgrammar.specs.Pieces.{next_quote, past_closer, piece_at, piece_in}
 use Rattle.shgrammar.specs.Standing.{at_end}
@@ -18,7 +19,8 @@ piece_by_edition edition T mode p = piece_in edition mode (piece_at T mode 0 p)
 -- What is left of a backslash and the byte after it: the byte. In double quotes the backslash is left too,
 -- but before `$`, a backquote, `"` and a backslash (XCU 2.2.3).
 abbrev pub escape_leaves : Mode → ℕ → List ℕ
-escape_leaves Double c = if c == 36 || c == 96 || c == 34 || c == 92 then c ∷ [] else 92 ∷ c ∷ []
+escape_leaves Double c = if c == dollar_sign || c == grave_accent || c == quotation_mark || c == backslash then c ∷ []
+    else backslash ∷ c ∷ []
 escape_leaves mode c = c ∷ []
 
 -- In a mode pieces stand from p on, what closes them ends at q, and this is left of them when quotes are
@@ -33,7 +35,7 @@ pub data Leaves (edition : Edition) (T : List ℕ) : Mode → ℕ → ℕ → Li
   -- `$$`
   pid : {mode : Mode} {p q : ℕ} {left : List ℕ} → piece_by_edition edition T mode p ≡ pieces.Pid
       → Leaves edition T mode (past_byte T (past_byte T p)) q left
-      → Leaves edition T mode p q (36 ∷ 36 ∷ left)
+      → Leaves edition T mode p q (dollar_sign ∷ dollar_sign ∷ left)
   escape : {mode : Mode} {p q : ℕ} {left : List ℕ} (c : ℕ) → piece_by_edition edition T mode p ≡ pieces.Escape
       → slice_get T (past_continuations T p + 1) ≡ Some c
       → Leaves edition T mode (past_continuations T p + 2) q left

@@ -1,6 +1,7 @@
 -- What the line of a request asks for: words, parted by one blank each, and numbers.
 use Rattle.std.specs.Prelude.{ℕ, ◌+◌, ◌-◌, ◌*◌, ◌<◌, ◌==◌, Bool, ◌&&◌, not, nat_le, nat_lt, List, [], ◌∷◌, ◌++◌, length, Option, None, Some, option_and_then, option_map, codes, if◌then◌else◌}
 use Rattle.std.specs.Str.{bytes_eq}
+use Rattle.shgrammar.specs.Characters.{space}
 use Rattle.shlive.specs.declared.order.EditForm.{EditForm}
 use Rattle.shlive.specs.declared.order.EditForm.TheVariants.{Alone, Batch}
 use Rattle.shlive.specs.declared.order.Order.{Order}
@@ -19,7 +20,7 @@ before text (w ∷ ws) = (text ++ w) ∷ ws
 -- without a byte beside each blank too many
 abbrev pub words : List ℕ → List (List ℕ)
 words [] = [] ∷ []
-words (b ∷ bs) = if b == 32 then [] ∷ words bs else before (b ∷ []) (words bs)
+words (b ∷ bs) = if b == space then [] ∷ words bs else before (b ∷ []) (words bs)
 
 -- ---- numbers
 

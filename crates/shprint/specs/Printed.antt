@@ -6,6 +6,7 @@ use Rattle.shast.specs.declared.tree.RedirectOperator.TheVariants as redirects
 use Rattle.shast.specs.Tree.{AHereOf, AJoinOf, EntriesOf, no_entry, more_entries, AnEntryOf, entry, AContentOf, command, remark, AnAndOrOf, and_or, AndOrPartsOf, no_and_or, more_and_or, APipelineOf, pipeline, PipelinePartsOf, no_pipe, more_pipes, ACommandOf, simple, compound, function, ACompoundOf, formed, AFormOf, brace, subshell, if_then, while_do, until_do, for_in, case_in, ABranchOf, branch, BranchesOf, no_branch, more_branches, OtherwiseOf, no_else, otherwise, ForWordsOf, no_in, in_words, CaseItemsOf, no_case, more_cases, ACaseItemOf, case_item, PatternsOf, no_pattern, more_patterns, ItemsOf, no_item, more_items, AnItemOf, item, assign, argument, redirect, AWordOf, word}
 use Rattle.shast.specs.Shape.{Text, Shape}
 use Rattle.shast.specs.Spelling.{and_or_text, redirect_text}
+use Rattle.shgrammar.specs.Characters.{hyphen}
 use Rattle.shgrammar.specs.HereDocuments.{ADelimiter, delimiter_of}
 use Rattle.shprint.specs.declared.layout.Layout.{Layout}
 use Rattle.shprint.specs.Marks.{text, line_end, document, Marks, laid, deeper, one, lines_between}
@@ -74,7 +75,7 @@ duplicates _ = false
 
 -- `<<` and a word that begins with `-` would be `<<-`
 abbrev pub would_lengthen : RedirectOperator → Text → Bool
-would_lengthen redirects.Here (b ∷ bs) = b == 45
+would_lengthen redirects.Here (b ∷ bs) = b == hyphen
 would_lengthen _ _ = false
 
 abbrev pub print_operator : Layout → RedirectOperator → Shape AWordOf → Marks

@@ -4,6 +4,7 @@ ghost use Rattle.shgrammar.specs.declared.edition.Edition.{Edition};
 ghost use Rattle.shgrammar.specs.Lines.{ALine, IsLine};
 ghost use Rattle.shgrammar.specs.Scripts.{AScript, Outcome};
 ghost use Rattle.shgrammar.specs.Bytes.{ends_word, stands};
+ghost use Rattle.shgrammar.specs.Characters.{left_parenthesis};
 ghost use Rattle.shgrammar.specs.Form.{Spelled, may, raw};
 ghost use Rattle.shgrammar.specs.Sights.{Given, State, seen, standing, the_delimiter, the_piece, the_token};
 ghost use Rattle.shgrammar.specs.By2017.{next_2017, piece_2017};
@@ -39,12 +40,13 @@ pub fn word_anywhere()
         ends_word g.text p ≡ false → 0 < n }
     ensures word { (room p q n : ℕ) (g h : Given) → h.edition ≡ g.edition → ReadsWord room g p n →
         take n (drop q h.text) ≡ take n (drop p g.text) →
-        ends_word h.text (q + n) ≡ true → stands h.text (q + n) 40 ≡ false → ReadsWord room h q n }
+        ends_word h.text (q + n) ≡ true → stands h.text (q + n) left_parenthesis ≡ false →
+        ReadsWord room h q n }
     ensures shape { (room p q n : ℕ) (g h : Given) (w : AWord) (told : Row Spelled) (B C : List ℕ) →
         h.edition ≡ g.edition →
         may (a_word (level room)) g (standing p) (Ok (w, standing (p + n))) told →
         take n (drop q h.text) ≡ take n (drop p g.text) →
-        ends_word h.text (q + n) ≡ true → stands h.text (q + n) 40 ≡ false →
+        ends_word h.text (q + n) ≡ true → stands h.text (q + n) left_parenthesis ≡ false →
         g.text ≡ drop g.offset B → h.text ≡ drop h.offset C →
         (v : AWord) × (may (a_word (level room)) h (standing q) (Ok (v, standing (q + n)))
         (raw h.text q (q + n) ∷ []) ×
