@@ -1,4 +1,5 @@
--- The replies to requests: a fold over what a session holds, the bytes of its script and its meter.
+-- The replies to requests: their texts, the reply to each request, and a fold over what a session holds, the
+-- bytes of its script, how it reads and prints them, and its meter.
 use Rattle.std.specs.Prelude.{◌≡◌, ◌⊎◌, ℕ, ◌<◌, ◌++◌, [], ◌∷◌, List, List as Row, flat_map, length, Option, None, Some, codes, decimal}
 use Rattle.shgrammar.specs.Scripts.{FirstFault}
 use Rattle.shgrammar.specs.declared.fault.Fault.{Fault}

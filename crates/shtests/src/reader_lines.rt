@@ -313,7 +313,7 @@ fn dumped_counts(alloc: Global, script: &[u8]) -> Result<String, Fail> {
     Ok(text)
 }
 
-/// Lines of a megabyte, which are read where memory is there, in a script with a fault behind it and alone.
+/// Lines of a megabyte, which are read where memory is there, in a script with a fault after it and alone.
 const LONG: &[u8] = br###"
 (" " * 1048576, "0 0 fault 11 at 1048577 to 1048577, ended, 2097155")
 ("\\\n" * 524288, "0 0 fault 11 at 1048577 to 1048577, ended, 2097155")

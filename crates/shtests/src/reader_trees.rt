@@ -1467,7 +1467,7 @@ fn trees(rt: HostRuntime) -> Result<(), Fail> {
     judge.verdict()
 }
 
-/// Each byte in some places, which `?` marks between the bytes before and behind it: the
+/// Each byte in some places, which `?` marks between the bytes before and after it: the
 /// dumps for some bytes each, and at last for all others.
 const BYTES: &[u8] = br###"
 // between two letters
