@@ -1,6 +1,6 @@
 -- What a shape has so that its printed text is read back, beside its normal form: its words are words
 -- wherever they stand, its comments comments, and no more constructs are open than may be. What was read has
--- it (proofs/Readable); what has it is read back (proofs/ReadBack).
+-- it (proofs/ReadableCompounds); what has it is read back (proofs/ReadBack).
 use Rattle.std.specs.Prelude.{◌≡◌, ℕ, zero, suc, Bool, true, false, ◌&&◌, [], ◌∷◌, List as Row, Option, None, Some}
 use Rattle.shgrammar.specs.declared.edition.Edition.{Edition}
 use Rattle.shgrammar.specs.declared.token.Position.{Position}

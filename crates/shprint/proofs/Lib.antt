@@ -4,6 +4,7 @@ pub mod Digits
 pub mod Due
 pub mod Gives
 pub mod Good
+pub mod GoodRows
 pub mod Held
 pub mod ReadBack
 pub mod PrintedText
@@ -13,7 +14,9 @@ pub mod PrintedLists
 pub mod PrintedCompounds
 pub mod PrintedCases
 pub mod PrintedRows
-pub mod Readable
+pub mod ReadableForms
+pub mod ReadableCommands
+pub mod ReadableCompounds
 pub mod Parts
 pub mod Rows
 pub mod Spaced

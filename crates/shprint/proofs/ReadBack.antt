@@ -19,7 +19,7 @@ use Rattle.shprint.specs.Marks.{text, Marks, laid}
 use Rattle.shprint.specs.Printed.{print_blank, print_content, print_entries, printed}
 use Rattle.shprint.specs.ReadBack.{ReadsBack}
 use Rattle.shprint.proofs.Good.{GoodEntries}
-use Rattle.shprint.proofs.Readable.{script_readable}
+use Rattle.shprint.proofs.ReadableCompounds.{script_readable}
 use Rattle.shprint.proofs.Held.{StandsIn}
 use Rattle.shprint.proofs.PrintedLists.{entry_rest, entry_marks, blank_first}
 use Rattle.shprint.proofs.PrintedRows.{ScriptLine, EntryLine, entry_line, blank_line_read, end_line_read}
