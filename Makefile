@@ -33,6 +33,7 @@ scripts: $(PROGRAM) $(TESTS)
 	tests/launcher
 	tests/install
 	tests/completions
+	tests/git-hook
 	tests/pre-commit
 	tests/columns
 
