@@ -4,8 +4,9 @@
 //!
 //! Start with the module of what is tested: `grammar_bytes` has the tests of `shgrammar`, `reader_..` are
 //! those of `shread` and `shpass`, `tree_append` and `tree_nodes` those of `shtree`; `reader_refused` refuses
-//! each growth of memory in turn. `dump` writes trees as short texts, and [`joined_lines`] joins the lists of
-//! lines. `tree_size` is for `tests/bench`.
+//! each growth of memory in turn. `rows_of_..` are the tables of scripts and their trees, which
+//! `reader_trees` and others go over. `dump` writes trees as short texts, and [`joined_lines`] joins the
+//! lists of lines. `tree_size` is for `tests/bench`.
 #![tactic(auto)]
 
 #[cfg(test)]
@@ -17,6 +18,10 @@ pub mod joined_lines;
 mod reader_beginnings;
 #[cfg(test)]
 mod reader_buffers;
+#[cfg(test)]
+mod reader_bytes;
+#[cfg(test)]
+mod reader_depths;
 #[cfg(test)]
 mod reader_editions;
 #[cfg(test)]
@@ -31,6 +36,18 @@ mod reader_sources;
 mod reader_spare;
 #[cfg(test)]
 mod reader_trees;
+#[cfg(test)]
+mod rows_of_compounds;
+#[cfg(test)]
+mod rows_of_lines;
+#[cfg(test)]
+mod rows_of_lists;
+#[cfg(test)]
+mod rows_of_redirections;
+#[cfg(test)]
+mod rows_of_scripts;
+#[cfg(test)]
+mod rows_of_words;
 #[cfg(test)]
 mod tree_append;
 #[cfg(test)]

@@ -2,7 +2,7 @@
 //! has. The answers are worked out by hand from the grammar; none is what the reader told. `table.rt` of
 //! `shtreetests` and `dump.rt` say how they are written.
 use crate::dump::{Judge, dump_end, dump_fault};
-use crate::reader_trees::ROWS;
+use crate::reader_trees::all_rows;
 use shline::Stop;
 use shpass::{ScriptLines, faultless_front};
 use shread::{Edition, Fault, Line, LineKind, Reader};
@@ -268,7 +268,7 @@ fn judge_scripts(judge: &mut Judge, reader: &mut Reader, row: &[Cell]) -> Result
 fn line_by_line(rt: HostRuntime) -> Result<(), Fail> {
     let mut judge = Judge::new(rt.alloc());
     let mut reader = Reader::new(rt.alloc());
-    for row in &rows(rt.alloc(), ROWS)? {
+    for row in &all_rows(rt.alloc())? {
         judge_scripts(&mut judge, &mut reader, row)?;
     }
     judge.verdict()

@@ -1,10 +1,10 @@
 //! Sources told in pieces, and numbers: what no table of scripts holds.
 use crate::dump::{Judge, dumped};
-use crate::reader_trees::ROWS;
+use crate::reader_trees::all_rows;
 use shread::{Edition, FaultKind, ReadError, Reader};
 use shtext::Flat;
 use shtreetests::in_pieces::InPieces;
-use shtreetests::table::{rows, split};
+use shtreetests::table::split;
 use std::alloc::Global;
 use std::test::Fail;
 
@@ -38,7 +38,7 @@ fn numbers(rt: HostRuntime) {
 /// The scripts of the table that have no fault and do not join a line after them, a line each or more.
 pub(crate) fn all_lines(alloc: Global) -> Result<Vec<u8>, Fail> {
     let mut text = Vec::new(alloc);
-    for row in &rows(alloc, ROWS)? {
+    for row in &all_rows(alloc)? {
         for script in split(row)?.0 {
             let is_joined = script.bytes.last() == Some(&b'\\');
             let fault = Reader::new(alloc).first_fault(&Flat::new(&script.bytes))?;

@@ -1,11 +1,11 @@
 //! Lines that are read into vectors which earlier lines gave back: they have what they have without.
-use crate::reader_trees::ROWS;
+use crate::reader_trees::all_rows;
 use shast::{Entry, Spare};
 use shline::{ParsedLine, Stop};
 use shpass::{LinesBefore, ScriptLines};
 use shread::Edition;
 use shtext::Flat;
-use shtreetests::table::{rows, split};
+use shtreetests::table::split;
 use std::alloc::Global;
 use std::test::Fail;
 
@@ -79,7 +79,7 @@ fn are_whole_alike(alloc: Global, script: &[u8], spare: &mut Spare) -> Result<bo
 fn the_same_lines(rt: HostRuntime) -> Result<(), Fail> {
     let alloc = rt.alloc();
     let mut spare = Spare::new(alloc);
-    for row in &rows(alloc, ROWS)? {
+    for row in &all_rows(alloc)? {
         let (scripts, _) = split(row)?;
         for script in scripts {
             let alike = are_alike(alloc, &script.bytes, &mut spare)?
