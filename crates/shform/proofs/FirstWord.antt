@@ -24,17 +24,17 @@ unfolding walk_fault walked
 passes s names word words met other = rw (met, other) (stopped_fault s names (walk_from nothing_held) (word, []) words)
 
 -- how a command that is built fails by such words: as the subcommand, or by what it is itself
-abbrev fault_by : App → Text → List Text → Kinds
+abbrev pub fault_by : App → Text → List Text → Kinds
 fault_by a word words = or_else (entered_fault a (Some (word, words)))
     (or_else (defaults_fault [] a.top.rules)
     (check_fault a.top (finished a.top.rules nothing_held) (is_some (entered a (Some (word, words))))))
 
 module _ (a : App) (word : Text) (words : List Text) (met : subcommand_met (names_of a) idle word ≡ Some word) where
   -- the subcommand that is entered
-  enters : entered a (stop_after a.top.rules (names_of a) (word ∷ words)) ≡ entered a (Some (word, words))
+  pub enters : entered a (stop_after a.top.rules (names_of a) (word ∷ words)) ≡ entered a (Some (word, words))
   enters = ap (λ (w : Walk). entered a w.stopped) (stops a.top.rules (names_of a) word words met)
 
-  fails : bytes_eq word (codes "help") ≡ false → built_fault a nothing_held (word ∷ words) ≡ fault_by a word words
+  pub fails : bytes_eq word (codes "help") ≡ false → built_fault a nothing_held (word ∷ words) ≡ fault_by a word words
   fails other = rw (stops a.top.rules (names_of a) word words met, passes a.top (names_of a) word words met other) refl
 
 -- a command takes these words as the whole one does

@@ -3,3 +3,4 @@ pub mod Options
 pub mod Reported
 pub mod Parts
 pub mod FirstWord
+pub mod PlainWords

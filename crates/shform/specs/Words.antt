@@ -1,13 +1,12 @@
 -- The program's command as clap's model has it, and the settings that its matches give.
-use Rattle.std.specs.Prelude.{◌≡◌, ◌≢◌, ◌<◌, ℕ, Bool, true, false, [], ◌∷◌, List, map, Option, None, Some, Result, Ok, Err, codes, option_map, option_and_then, pos, if◌then◌else◌}
+use Rattle.std.specs.Prelude.{◌≡◌, ◌≢◌, ◌<◌, ◌==◌, ℕ, not, Bool, true, false, [], ◌∷◌, List, map, Option, None, Some, Result, Ok, Err, codes, option_map, option_and_then, pos, if◌then◌else◌}
 use denote.Ref.{Bor}
 use Rattle.std.specs.Str.{bytes_eq}
 use Rattle.std.specs.Option.{option_map_or}
-use Rattle.clap.specs.Words.{App, HasKind, Rule, Text, fault_of, first_value, found_of, new_app, new_rule, one_text, rows_of, subcommand_of, with_rule, with_subcommand}
+use Rattle.clap.specs.Words.{App, HasKind, Row, Rule, Text, fault_of, first_of, new_app, new_rule, one_of, subcommand_of, with_rule, with_subcommand}
 use Rattle.clap.specs.Walk.{byte_or_zero}
 use Rattle.clap.specs.declared.builder.action.ArgAction.TheVariants.{SetTrue}
 use Rattle.clap.specs.declared.builder.value_parser.ValueParser.TheVariants.{Names, Signed}
-use Rattle.clap.specs.declared.parser.matches.ArgMatches.{ArgMatches}
 use Rattle.shgrammar.specs.declared.edition.Edition.{Edition}
 use Rattle.shgrammar.specs.declared.edition.Edition.TheVariants.{Y2017, Y2024}
 use Rattle.shprint.specs.declared.layout.Layout.{Layout}
@@ -105,6 +104,19 @@ abbrev pub app_for : Years → List Text → App
 app_for years [] = tool_app years
 app_for years (word ∷ words) = app_named years word
 
+-- ---- plain words, which need no clap
+
+-- what begins with another byte than a hyphen is FILE wherever it may stand
+abbrev pub is_plain_file : Text → Bool
+is_plain_file [] = false
+is_plain_file (c ∷ cs) = not (c == 45)
+
+-- the words are the name of check or of print, and FILE
+abbrev pub AreToolAndFile : List Text → Tool → Text → Type 0
+AreToolAndFile words Check file = (words ≡ codes "check" ∷ file ∷ []) × (is_plain_file file ≡ true)
+AreToolAndFile words Print file = (words ≡ codes "print" ∷ file ∷ []) × (is_plain_file file ≡ true)
+AreToolAndFile words Session file = ⊥
+
 -- ---- what its matches give
 
 -- the tool of a subcommand's name
@@ -131,37 +143,37 @@ abbrev pub indent_in : Option Text → ℕ
 indent_in given = option_map_or byte_or_zero given 0
 
 -- The layout's choices are those of the options of print and session; a check has none.
-pub record AreOptions (own : ArgMatches) (layout : Layout) : Type 0 where
-  pub indent : layout.indent ≡ indent_in (one_text (found_of own) (codes "indent"))
-  pub case_indent : IsFlag (one_text (found_of own) (codes "case-indent")) layout.case_indent
-  pub space_redirects : IsFlag (one_text (found_of own) (codes "space-redirects")) layout.space_redirects
-  pub func_next_line : IsFlag (one_text (found_of own) (codes "func-next-line")) layout.func_next_line
+pub record AreOptions (own : List Row) (layout : Layout) : Type 0 where
+  pub indent : layout.indent ≡ indent_in (one_of (codes "indent") own)
+  pub case_indent : IsFlag (one_of (codes "case-indent") own) layout.case_indent
+  pub space_redirects : IsFlag (one_of (codes "space-redirects") own) layout.space_redirects
+  pub func_next_line : IsFlag (one_of (codes "func-next-line") own) layout.func_next_line
 
-abbrev pub IsLayoutFor : Tool → ArgMatches → Layout → Type 0
+abbrev pub IsLayoutFor : Tool → List Row → Layout → Type 0
 IsLayoutFor Check own layout = layout
     ≡ record { indent = 0; case_indent = false; space_redirects = false; func_next_line = false }
 IsLayoutFor Print own layout = AreOptions own layout
 IsLayoutFor Session own layout = AreOptions own layout
 
--- The settings are those of clap's matches of the words: the name of a subcommand, and its own matches.
+-- The settings are those of clap's matches of the words: the name of a subcommand, and the rows of its own.
 pub record AreSettingsOf (words : List Text) (s : Settings) : Type 0 where
   pub years : Years
   pub are_years : AreYears years
   pub name : Text
-  pub own : ArgMatches
-  pub matches : subcommand_of (tool_app years) words ≡ Some (name, rows_of (found_of own))
+  pub own : List Row
+  pub matches : subcommand_of (tool_app years) words ≡ Some (name, own)
   pub tool : s.tool ≡ tool_named name
-  pub edition : s.edition ≡ edition_in (first_value (found_of own) (codes "edition"))
+  pub edition : s.edition ≡ edition_in (first_of (codes "edition") own)
   pub layout : IsLayoutFor s.tool own s.layout
-  pub file : option_map (λ t. t.now) s.file ≡ file_in (first_value (found_of own) (codes "FILE"))
+  pub file : option_map (λ t. t.now) s.file ≡ file_in (first_of (codes "FILE") own)
 
 -- clap let an indent above 16 pass
 pub record HasWideIndent (years : Years) (words : List Text) : Type 0 where
   pub name : Text
-  pub own : ArgMatches
-  pub matches : subcommand_of (tool_app years) words ≡ Some (name, rows_of (found_of own))
+  pub own : List Row
+  pub matches : subcommand_of (tool_app years) words ≡ Some (name, own)
   pub tool : tool_named name ≢ Check
-  pub indent : 16 < indent_in (one_text (found_of own) (codes "indent"))
+  pub indent : 16 < indent_in (one_of (codes "indent") own)
 
 -- What there is in place of settings: clap's answer, of a kind that its model has for
 -- the words, or an indent that clap should not let pass.

@@ -6,8 +6,9 @@
 //! piece into a `sink`, which is a `part` of it, for a print with its text a `printed_part`; they have the
 //! first fault or the text from the reader and the printer, and tell the one by `report`, or write the
 //! other. `session_engine` reads FILE so, into a vector, and its session is that of `shlive`. `words` reads
-//! the command line. The ends, which remember how their devices fared, are those of `shtext`, and before
-//! what is written stands a writer that is `gathering` it; what is opened, is opened here.
+//! the command line: the `plain_words` of most runs by itself, all others by `clap`. The ends, which remember
+//! how their devices fared, are those of `shtext`, and before what is written stands a writer that is
+//! `gathering` it; what is opened, is opened here.
 #![tactic(auto)]
 
 ghost use Rattle.std.specs.Prelude.{◌≡◌, IfSome, false, is_some};
@@ -20,6 +21,7 @@ mod front;
 mod gathering;
 mod partial_script;
 mod passing;
+mod plain_words;
 mod printed_part;
 #[cfg(test)]
 mod refused;

@@ -1,12 +1,13 @@
 //! Reading the words of the command line.
 ghost use Rattle.std.specs.Prelude.{◌≡◌, ◌≢◌, ◌<◌, ◌≤◌, IfErr, IfOk, codes, false, map, option_map, true};
 ghost use Rattle.clap.specs.Matches.{has_subcommand};
-ghost use Rattle.clap.specs.Words.{FailsBy, app_of, fault_of, first_value, found_of, one_text, rule_of, subcommand_of, subcommand_rows_of, with_rule};
+ghost use Rattle.clap.specs.Words.{FailsBy, app_of, fault_of, first_of, found_of, one_of, rows_of, rule_of, subcommand_of, subcommand_rows_of, with_rule};
 ghost use Rattle.clap.specs.declared.builder.command.Command.TheViews.{out-Command};
 ghost use Rattle.shform.specs.declared.asked.Tool.TheVariants.{Check};
 ghost use Rattle.shform.specs.Words.{AreOptions, AreSettingsOf, FailsFor, IsLayoutFor, app_for, app_named, check_app, edition_in, edition_rule, file_in, file_rule, first_app, flag_rule, indent_in, indent_rule, print_app, printing_app, reading_app, second_app, session_app, tool_app, tool_named, top_app};
 
 use crate::asked::{Settings, Tool};
+use crate::plain_words::plain_settings;
 use crate::usage::Usage;
 use clap::{Arg, ArgAction, ArgMatches, Command, value_parser};
 use shprint::{Layout, LayoutError};
@@ -261,17 +262,17 @@ fn tool_of(name: &str) -> Tool
 
 /// The indent that is asked for.
 fn indent_of(matches: &ArgMatches<'_>) -> u8
-    ensures { result ≡ indent_in (one_text (found_of matches.now) (codes "indent")) }
+    ensures { result ≡ indent_in (one_of (codes "indent") (rows_of (found_of matches.now))) }
 {
     matches.get_one::<u8>("indent").unwrap_or(0)
 }
 
 /// The layout of the options.
 fn options_of(matches: &ArgMatches<'_>) -> Result<Layout, LayoutError>
-    ensures options { IfOk result (λ layout. AreOptions matches.now layout) }
+    ensures options { IfOk result (λ layout. AreOptions (rows_of (found_of matches.now)) layout) }
     ensures indent { IfOk result (λ layout. layout.indent ≤ 16) }
     ensures err { IfErr result
-        (λ e. 16 < indent_in (one_text (found_of matches.now) (codes "indent"))) }
+        (λ e. 16 < indent_in (one_of (codes "indent") (rows_of (found_of matches.now)))) }
 {
     Layout::new(
         indent_of(matches),
@@ -283,11 +284,12 @@ fn options_of(matches: &ArgMatches<'_>) -> Result<Layout, LayoutError>
 
 /// The layout that a tool is asked to print in.
 fn layout_of(tool: Tool, matches: &ArgMatches<'_>) -> Result<Layout, LayoutError>
-    ensures layout { IfOk result (λ layout. IsLayoutFor tool matches.now layout) }
+    ensures layout { IfOk result
+        (λ layout. IsLayoutFor tool (rows_of (found_of matches.now)) layout) }
     ensures indent { IfOk result (λ layout. layout.indent ≤ 16) }
     ensures err { IfErr result
         (λ e. (tool ≢ Check) × (16 < indent_in
-        (one_text (found_of matches.now) (codes "indent")))) }
+        (one_of (codes "indent") (rows_of (found_of matches.now))))) }
 {
     match tool {
         Tool::Check => Layout::new(0, false, false, false),
@@ -297,7 +299,7 @@ fn layout_of(tool: Tool, matches: &ArgMatches<'_>) -> Result<Layout, LayoutError
 
 /// The edition that is asked for.
 fn edition_of(matches: &ArgMatches<'_>) -> Edition
-    ensures { result ≡ edition_in (first_value (found_of matches.now) (codes "edition")) }
+    ensures { result ≡ edition_in (first_of (codes "edition") (rows_of (found_of matches.now))) }
 {
     match matches.get_str("edition") {
         Some("2024") => Edition::Y2024,
@@ -308,7 +310,7 @@ fn edition_of(matches: &ArgMatches<'_>) -> Edition
 /// FILE, where it is given and is not `-`.
 fn file_of<'a>(matches: &ArgMatches<'a>) -> Option<&'a str>
     ensures { option_map (λ t. t.now) result
-        ≡ file_in (first_value (found_of matches.now) (codes "FILE")) }
+        ≡ file_in (first_of (codes "FILE") (rows_of (found_of matches.now))) }
 {
     match matches.get_str("FILE") {
         Some("-") => None,
@@ -316,14 +318,10 @@ fn file_of<'a>(matches: &ArgMatches<'a>) -> Option<&'a str>
     }
 }
 
-/// What the words after the program's name ask for. It stands apart, so that nothing of `clap` lies on the
-/// stack while a script is read.
-///
-/// # Errors
-///
-/// [`Usage`], where they ask for no run.
+/// The settings as `clap` reads the words. It stands apart, so that nothing of `clap` lies on the stack while
+/// a script is read.
 #[inline(never)]
-pub fn settings<'a>(alloc: Global, words: &'a [&'a str]) -> Result<Settings<'a>, Usage>
+fn clap_settings<'a>(alloc: Global, words: &'a [&'a str]) -> Result<Settings<'a>, Usage>
     ensures settings { IfOk result (AreSettingsOf (map (λ w. w.now) words.entry.now)) }
     ensures indent { IfOk result (λ s. s.layout.indent ≤ 16) }
     ensures fails { FailsFor (map (λ w. w.now) words.entry.now) result }
@@ -341,5 +339,21 @@ pub fn settings<'a>(alloc: Global, words: &'a [&'a str]) -> Result<Settings<'a>,
             file: file_of(own),
         }),
         Err(error) => Err(Usage::Indent(error)),
+    }
+}
+
+/// What the words after the program's name ask for.
+///
+/// # Errors
+///
+/// [`Usage`], where they ask for no run.
+pub fn settings<'a>(alloc: Global, words: &'a [&'a str]) -> Result<Settings<'a>, Usage>
+    ensures settings { IfOk result (AreSettingsOf (map (λ w. w.now) words.entry.now)) }
+    ensures indent { IfOk result (λ s. s.layout.indent ≤ 16) }
+    ensures fails { FailsFor (map (λ w. w.now) words.entry.now) result }
+{
+    match plain_settings(words) {
+        Some(settings) => Ok(settings),
+        None => clap_settings(alloc, words),
     }
 }

@@ -13,8 +13,11 @@ fn check(rt: HostRuntime) -> Result<(), Fail> {
     for (words, file) in [
         (["check", "a b.sh"].as_slice(), Some("a b.sh")),
         (&["check", "--", "-x"], Some("-x")),
+        (&["check", "help"], Some("help")),
+        (&["check", "é-"], Some("é-")),
         (&["check", ""], Some("")),
         (&["check", "-"], None),
+        (&["check", "--"], None),
         (&["check"], None),
     ] {
         let settings = settings(rt.alloc(), words)?;
@@ -30,7 +33,10 @@ fn print(rt: HostRuntime) -> Result<(), Fail> {
     for (words, layout, file) in [
         (["print"].as_slice(), plain, None),
         (&["print", "-"], plain, None),
+        (&["print", "--"], plain, None),
+        (&["print", ""], plain, Some("")),
         (&["print", "check"], plain, Some("check")),
+        (&["print", "a b.sh"], plain, Some("a b.sh")),
         (&["print", "-i", "0", "a"], plain, Some("a")),
         (
             &["print", "-i", "16"],
@@ -102,6 +108,7 @@ fn edition(rt: HostRuntime) -> Result<(), Fail> {
         (["check", "a"].as_slice(), Edition::Y2017),
         (&["check", "--edition", "2017"], Edition::Y2017),
         (&["check", "--edition=2024", "a"], Edition::Y2024),
+        (&["print", "a"], Edition::Y2017),
         (&["print", "-i", "2"], Edition::Y2017),
         (&["print", "-", "--edition", "2024"], Edition::Y2024),
         (&["session"], Edition::Y2017),
@@ -123,9 +130,13 @@ fn refused(rt: HostRuntime) {
         (&["check", "a", "b"], ErrorKind::UnknownArgument),
         (&["check", "-x"], ErrorKind::UnknownArgument),
         (&["check", "-i", "2"], ErrorKind::UnknownArgument),
+        (&["check", "--x"], ErrorKind::UnknownArgument),
+        (&["check", "-h"], ErrorKind::DisplayHelp),
+        (&["print", "-x"], ErrorKind::UnknownArgument),
         (&["print", "a", "b"], ErrorKind::UnknownArgument),
         (&["print", "-i", "17"], ErrorKind::ValueValidation),
         (&["print", "-i", "x"], ErrorKind::ValueValidation),
+        (&["chekc", "a"], ErrorKind::InvalidSubcommand),
         (&["session", "a", "b"], ErrorKind::UnknownArgument),
         (&["session", "-i", "17"], ErrorKind::ValueValidation),
         (&["print", "-i=-1"], ErrorKind::ValueValidation),
