@@ -30,7 +30,7 @@ fn plain_words<'a>(words: &'a [&'a str]) -> Option<(Tool, &'a str)>
 }
 
 /// The settings that `clap` would give, where the words are `check` or `print` and FILE alone; `None` for all
-/// others. A hook starts the program anew for each script, and a sixth of the instructions of such a run
+/// others. A hook starts the program anew for each script, and an eighth of the instructions of such a run
 /// would be `clap`'s.
 pub fn plain_settings<'a>(words: &'a [&'a str]) -> Option<Settings<'a>>
     ensures settings { IfSome result (AreSettingsOf (map (λ w. w.now) words.entry.now)) }
