@@ -2,9 +2,10 @@
 
      measure WORD .. -- FILE ..
 
-   For each FILE it runs WORD .. FILE with no input and no output, and fails if one does not end with status 0. It prints the sum of
-   their user and system times in microseconds, and the greatest peak memory of one in KiB. It is written in C since a process counts
-   the memory of the one that started it as its own until it runs its program: this one has next to none. */
+   For each FILE it runs WORD .. FILE with no input and no output, and fails if one does not end with status
+   0. It prints the sum of their user and system times in microseconds, and the greatest peak memory of one in
+   KiB. It is written in C since a process counts the memory of the one that started it as its own until it
+   runs its program: this one has next to none. */
 #define _GNU_SOURCE
 #include <fcntl.h>
 #include <stdio.h>
