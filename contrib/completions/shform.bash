@@ -1,4 +1,5 @@
-# Completions of shform for bash. bash-completion finds them where `make install` puts them; without it, `source` this file.
+# Completions of shform for bash. bash-completion finds them where `make install` puts them; without it,
+# `source` this file.
 
 _shform() {
     local cur=${COMP_WORDS[COMP_CWORD]} awaited='' command='' file='' ended='' given=' ' offered='' word i
@@ -44,7 +45,8 @@ _shform() {
                         return
                     fi
                     offered='--edition -h --help'
-                    [[ $command == check ]] || offered+=' -i --indent --case-indent --space-redirects --func-next-line'
+                    [[ $command == check ]] ||
+                        offered+=' -i --indent --case-indent --space-redirects --func-next-line'
                     [[ $command == session || $file ]] || offered+=' -' # standard input
                     ;;
             esac

@@ -20,7 +20,8 @@ function __shform_operands
     end
 end
 
-# Whether none of some options was given. One whose value is at hand counts as not given, or fish would not offer the value.
+# Whether none of some options was given. One whose value is at hand counts as not given, or fish would not
+# offer the value.
 function __shform_lacks
     set -l words (commandline -opc)
     contains -- $words[-1] -i --indent --edition; and set -e words[-1]
@@ -30,7 +31,8 @@ function __shform_lacks
     return 0
 end
 
-# Whether the command is one of some ('' for none yet), and nothing is given after which the rest would not count.
+# Whether the command is one of some ('' for none yet), and nothing is given after which the rest would not
+# count.
 function __shform_runs
     set -l operands (__shform_operands)
     __shform_lacks -h --help -V --version; and contains -- "$operands[1]" $argv
