@@ -46,42 +46,97 @@ CHANGES_BY_NEWLINES = (
 
 
 def apart(count):
-    """A script of two commands that have so many bytes between them: the one ends at 1, the other begins so many after it."""
+    """A script of two commands that have so many bytes between them: the one ends at 1, the other begins so
+    many after it."""
     return f"a\n#{'x' * (count - 3)}\nb"
 
 
-# Changes of one notification: the text before, the changes, and the requests that come of them, with the parts of each.
+# Changes of one notification: the text before, the changes, and the requests that come of them, with the
+# parts of each.
 SENT = (
     # at several cursors, from the first on, from the last on, and neither
-    ("a\nb\nc\n", [("x", 0, 0, 0, 0), ("x", 1, 0, 1, 0), ("x", 2, 0, 2, 0)], [("batch", (0, 0, "x"), (2, 2, "x"), (4, 4, "x"))]),
-    ("a\nb\nc\n", [("x", 2, 0, 2, 0), ("x", 1, 0, 1, 0), ("x", 0, 0, 0, 0)], [("batch", (0, 0, "x"), (2, 2, "x"), (4, 4, "x"))]),
-    ("a\nb\nc\n", [("x", 1, 0, 1, 0), ("x", 2, 0, 2, 0), ("x", 0, 0, 0, 0)], [("batch", (0, 0, "x"), (2, 2, "x"), (4, 4, "x"))]),
+    (
+        "a\nb\nc\n",
+        [("x", 0, 0, 0, 0), ("x", 1, 0, 1, 0), ("x", 2, 0, 2, 0)],
+        [("batch", (0, 0, "x"), (2, 2, "x"), (4, 4, "x"))],
+    ),
+    (
+        "a\nb\nc\n",
+        [("x", 2, 0, 2, 0), ("x", 1, 0, 1, 0), ("x", 0, 0, 0, 0)],
+        [("batch", (0, 0, "x"), (2, 2, "x"), (4, 4, "x"))],
+    ),
+    (
+        "a\nb\nc\n",
+        [("x", 1, 0, 1, 0), ("x", 2, 0, 2, 0), ("x", 0, 0, 0, 0)],
+        [("batch", (0, 0, "x"), (2, 2, "x"), (4, 4, "x"))],
+    ),
     ("é b é", [("é", 0, 0, 0, 1), ("é", 0, 4, 0, 5)], [("batch", (0, 2, "é"), (5, 7, "é"))]),
-    ("a b c", [("xy", 0, 0, 0, 1), ("xy", 0, 3, 0, 4), ("xy", 0, 6, 0, 7)], [("batch", (0, 1, "xy"), (2, 3, "xy"), (4, 5, "xy"))]),
-    ("a b c", [("xy", 0, 4, 0, 5), ("xy", 0, 2, 0, 3), ("xy", 0, 0, 0, 1)], [("batch", (0, 1, "xy"), (2, 3, "xy"), (4, 5, "xy"))]),
-    ("aa bb cc", [("", 0, 0, 0, 2), ("", 0, 1, 0, 3), ("", 0, 2, 0, 4)], [("batch", (0, 2, ""), (3, 5, ""), (6, 8, ""))]),
-    ("a\nb\nc\n", [("\n\n", 0, 1, 0, 1), ("", 2, 0, 3, 0), ("x", 3, 0, 3, 1)], [("batch", (1, 1, "\n\n"), (1, 2, ""), (4, 5, "x"))]),
+    (
+        "a b c",
+        [("xy", 0, 0, 0, 1), ("xy", 0, 3, 0, 4), ("xy", 0, 6, 0, 7)],
+        [("batch", (0, 1, "xy"), (2, 3, "xy"), (4, 5, "xy"))],
+    ),
+    (
+        "a b c",
+        [("xy", 0, 4, 0, 5), ("xy", 0, 2, 0, 3), ("xy", 0, 0, 0, 1)],
+        [("batch", (0, 1, "xy"), (2, 3, "xy"), (4, 5, "xy"))],
+    ),
+    (
+        "aa bb cc",
+        [("", 0, 0, 0, 2), ("", 0, 1, 0, 3), ("", 0, 2, 0, 4)],
+        [("batch", (0, 2, ""), (3, 5, ""), (6, 8, ""))],
+    ),
+    (
+        "a\nb\nc\n",
+        [("\n\n", 0, 1, 0, 1), ("", 2, 0, 3, 0), ("x", 3, 0, 3, 1)],
+        [("batch", (1, 1, "\n\n"), (1, 2, ""), (4, 5, "x"))],
+    ),
     # next to what came before
-    ("a", [("x", 0, 1, 0, 1), ("y", 0, 2, 0, 2), ("z", 0, 1, 0, 1)], [("batch", (1, 1, "z"), (1, 1, "x"), (1, 1, "y"))]),
-    ("abc", [("", 0, 1, 0, 2), ("x", 0, 1, 0, 1), ("", 0, 2, 0, 3)], [("batch", (1, 2, ""), (2, 2, "x"), (2, 3, ""))]),
-    ("abc", [("", 0, 0, 0, 1), ("", 0, 0, 0, 1), ("", 0, 0, 0, 1)], [("batch", (0, 1, ""), (1, 2, ""), (2, 3, ""))]),
-    ("abc", [("", 0, 2, 0, 3), ("", 0, 1, 0, 2), ("", 0, 0, 0, 1)], [("batch", (0, 1, ""), (1, 2, ""), (2, 3, ""))]),
+    (
+        "a",
+        [("x", 0, 1, 0, 1), ("y", 0, 2, 0, 2), ("z", 0, 1, 0, 1)],
+        [("batch", (1, 1, "z"), (1, 1, "x"), (1, 1, "y"))],
+    ),
+    (
+        "abc",
+        [("", 0, 1, 0, 2), ("x", 0, 1, 0, 1), ("", 0, 2, 0, 3)],
+        [("batch", (1, 2, ""), (2, 2, "x"), (2, 3, ""))],
+    ),
+    (
+        "abc",
+        [("", 0, 0, 0, 1), ("", 0, 0, 0, 1), ("", 0, 0, 0, 1)],
+        [("batch", (0, 1, ""), (1, 2, ""), (2, 3, ""))],
+    ),
+    (
+        "abc",
+        [("", 0, 2, 0, 3), ("", 0, 1, 0, 2), ("", 0, 0, 0, 1)],
+        [("batch", (0, 1, ""), (1, 2, ""), (2, 3, ""))],
+    ),
     ("a\nb\nc\n", ["a\nx\nc\n", ("y", 2, 0, 2, 1)], [("batch", (2, 4, "x\n"), (4, 5, "y"))]),
     # across what came before
     ("abc", [("xyz", 0, 1, 0, 1), ("", 0, 2, 0, 3)], [("edit", (1, 1, "xyz")), ("edit", (2, 3, ""))]),
     ("abc", [("xyz", 0, 1, 0, 1), ("u", 0, 2, 0, 2)], [("edit", (1, 1, "xyz")), ("edit", (2, 2, "u"))]),
     ("abc", [("", 0, 1, 0, 2), ("x", 0, 0, 0, 2)], [("edit", (1, 2, "")), ("edit", (0, 2, "x"))]),
     ("abc", [("x", 0, 1, 0, 2), ("y", 0, 1, 0, 2)], [("edit", (1, 2, "x")), ("edit", (1, 2, "y"))]),
-    ("abc", [("x", 0, 0, 0, 0), ("y", 0, 4, 0, 4), "z"], [("edit", (0, 0, "x")), ("edit", (4, 4, "y")), ("edit", (0, 5, "z"))]),
+    (
+        "abc",
+        [("x", 0, 0, 0, 0), ("y", 0, 4, 0, 4), "z"],
+        [("edit", (0, 0, "x")), ("edit", (4, 4, "y")), ("edit", (0, 5, "z"))],
+    ),
     # one, none, as many as a batch may have, and one more
     ("abc", [("x", 0, 1, 0, 2)], [("edit", (1, 2, "x"))]),
     ("abc", [], []),
     ("", [("x", 0, 0, 0, 0)] * 64, [("batch", *[(0, 0, "x")] * 64)]),
     ("", [("x", 0, 0, 0, 0)] * 65, [("edit", (0, 0, "x"))] * 65),
-    ("a\n" * 64, [("", line, 0, line, 1) for line in range(64)], [("batch", *((2 * line, 2 * line + 1, "") for line in range(64)))]),
+    (
+        "a\n" * 64,
+        [("", line, 0, line, 1) for line in range(64)],
+        [("batch", *((2 * line, 2 * line + 1, "") for line in range(64)))],
+    ),
 )
 
-# The same, of changes that may stand far from one another. What begins after the end of the first command does so at B, or after it.
+# The same, of changes that may stand far from one another. What begins after the end of the first command
+# does so at B, or after it.
 B = FURTHEST + 1
 X, Y, Z = ("x", 0, 1, 0, 1), ("y", 2, 0, 2, 0), ("z", 4, 0, 4, 0)
 QUOTES = [("'", 0, 1, 0, 1), ("'", 2, 0, 2, 0), ("'", 4, 0, 4, 0)]
@@ -96,17 +151,41 @@ SENT_FAR = (
     (apart(B), [("; x", 0, 1, 1, 1), ("y", 1, 0, 1, 0)], [("batch", (1, 3, "; x"), (1 + B, 1 + B, "y"))]),
     (apart(B), [("", 0, 0, 0, 1), ("", 2, 0, 2, 1)], [("edit", (1 + B, 2 + B, "")), ("edit", (0, 1, ""))]),
     # near some of the others
-    (apart(B) + " c", [X, Y, ("z", 2, 3, 2, 3)], [("batch", (1 + B, 1 + B, "y"), (3 + B, 3 + B, "z")), ("edit", (1, 1, "x"))]),
-    (apart(B), [("z", 0, 0, 0, 0), ("x", 0, 2, 0, 2), Y], [("edit", (1 + B, 1 + B, "y")), ("batch", (0, 0, "z"), (1, 1, "x"))]),
-    (apart(FURTHEST) + apart(FURTHEST)[1:], [X, ("y", 2, 0, 2, 1), Z], [("batch", (1, 1, "x"), (B, 1 + B, "y"), (2 * B, 2 * B, "z"))]),
-    (THRICE, [X, Y, Z], [("edit", (2 + 2 * B, 2 + 2 * B, "z")), ("edit", (1 + B, 1 + B, "y")), ("edit", (1, 1, "x"))]),
+    (
+        apart(B) + " c",
+        [X, Y, ("z", 2, 3, 2, 3)],
+        [("batch", (1 + B, 1 + B, "y"), (3 + B, 3 + B, "z")), ("edit", (1, 1, "x"))],
+    ),
+    (
+        apart(B),
+        [("z", 0, 0, 0, 0), ("x", 0, 2, 0, 2), Y],
+        [("edit", (1 + B, 1 + B, "y")), ("batch", (0, 0, "z"), (1, 1, "x"))],
+    ),
+    (
+        apart(FURTHEST) + apart(FURTHEST)[1:],
+        [X, ("y", 2, 0, 2, 1), Z],
+        [("batch", (1, 1, "x"), (B, 1 + B, "y"), (2 * B, 2 * B, "z"))],
+    ),
+    (
+        THRICE,
+        [X, Y, Z],
+        [("edit", (2 + 2 * B, 2 + 2 * B, "z")), ("edit", (1 + B, 1 + B, "y")), ("edit", (1, 1, "x"))],
+    ),
     # in a script that is faulty, or gets so by the last of them, or by the one in the middle
     (apart(B) + " '", [X, Y], [("batch", (1, 1, "x"), (1 + B, 1 + B, "y"))]),
     ("(" + apart(B)[1:], [X, Y], [("batch", (1, 1, "x"), (1 + B, 1 + B, "y"))]),
     (apart(B) + " '", [X, ("", 2, 2, 2, 3)], [("batch", (1, 1, "x"), (3 + B, 4 + B, ""))]),
     (THRICE, QUOTES, [("edit", (2 + 2 * B, 2 + 2 * B, "'")), ("batch", (1, 1, "'"), (1 + B, 1 + B, "'"))]),
-    (THRICE, [X, *QUOTES[1:]], [("edit", (2 + 2 * B, 2 + 2 * B, "'")), ("batch", (1, 1, "x"), (1 + B, 1 + B, "'"))]),
-    (THRICE, [X, QUOTES[1], Z], [("edit", (2 + 2 * B, 2 + 2 * B, "z")), ("edit", (1 + B, 1 + B, "'")), ("edit", (1, 1, "x"))]),
+    (
+        THRICE,
+        [X, *QUOTES[1:]],
+        [("edit", (2 + 2 * B, 2 + 2 * B, "'")), ("batch", (1, 1, "x"), (1 + B, 1 + B, "'"))],
+    ),
+    (
+        THRICE,
+        [X, QUOTES[1], Z],
+        [("edit", (2 + 2 * B, 2 + 2 * B, "z")), ("edit", (1 + B, 1 + B, "'")), ("edit", (1, 1, "x"))],
+    ),
 )
 
 
@@ -119,7 +198,8 @@ def part_of(line, source):
 
 
 def replayed(log):
-    """What a session held each time it was asked for its fault, as it is after a notification, and the requests that had made it so."""
+    """What a session held each time it was asked for its fault, as it is after a notification, and the
+    requests that had made it so."""
     states, data, sent, source = [], b"", [], io.BytesIO(log)
     for line in iter(source.readline, b""):
         if line == b"fault\n":
@@ -127,7 +207,11 @@ def replayed(log):
             sent = []
         elif line.startswith((b"edit ", b"batch ")):
             word, number = line.decode().split()[:2]
-            made = [part_of(line, source)] if word == "edit" else [part_of(source.readline(), source) for _ in range(int(number))]
+            made = (
+                [part_of(line, source)]
+                if word == "edit"
+                else [part_of(source.readline(), source) for _ in range(int(number))]
+            )
             sent.append((word, *made))
             for start, end, new in reversed(made):
                 data = data[:start] + new + data[end:]
@@ -168,7 +252,11 @@ def changes(program, room):
             open(log, "wb").close()
             with served(path, name=name) as client:
                 client.open(before)
-                expect(f"the fault of {after!r}, by newlines", [it[:2] for it in told(client.change(*made))], wanted)
+                expect(
+                    f"the fault of {after!r}, by newlines",
+                    [it[:2] for it in told(client.change(*made))],
+                    wanted,
+                )
             expect(f"the session's text after {made}, by newlines", recorded(log)[-1][0], after.encode())
     open(log, "wb").close()
     with served(path, utf8=True) as client:
@@ -186,12 +274,15 @@ def requests(program, room):
             client.open(before)
             client.change(*made)
         _, (_, sent) = recorded(log)
-        wanted = [(word, *((start, end, new.encode()) for start, end, new in parts)) for word, *parts in wanted]
+        wanted = [
+            (word, *((start, end, new.encode()) for start, end, new in parts)) for word, *parts in wanted
+        ]
         expect(f"what is sent for {made}", sent, wanted)
 
 
 def random_edits(chance, text):
-    """Edits by chance, one after the other, the text that they make, and whether each lies in front of what those before it did, or past it."""
+    """Edits by chance, one after the other, the text that they make, and whether each lies in front of what
+    those before it did, or past it."""
     edits, places, apart = [], [], True
     for _ in range(chance.randint(1, 5)):
         start = chance.randint(0, len(text))
@@ -199,14 +290,17 @@ def random_edits(chance, text):
         new = b"xyz"[: chance.randrange(4)]
         apart = apart and all(last <= start or end <= first for first, last in places)
         more = len(new) - (end - start)
-        places = [(first, last) if last <= start else (first + more, last + more) for first, last in places] + [(start, start + len(new))]
+        places = [
+            (first, last) if last <= start else (first + more, last + more) for first, last in places
+        ] + [(start, start + len(new))]
         edits.append((start, end, new))
         text = text[:start] + new + text[end:]
     return edits, text, apart
 
 
 def compositions(seed):
-    """Edits of short texts: that they come to a batch which does the same, and to none only where one of them lies across others."""
+    """Edits of short texts: that they come to a batch which does the same, and to none only where one of them
+    lies across others."""
     parts_of, chance, kinds = module("server", SERVER).parts_of, random.Random(seed), [0, 0]
     for _ in range(20000):
         text = b"abcdef"[: chance.randrange(7)]
@@ -228,9 +322,9 @@ def compositions(seed):
 # Random changes.
 
 PIECES = (
-    "a", "b c", " ", "\t", "\n", "\n\n", "\r\n", "\r", "\n\r", "é", "€", "😀", "𝒳=😀", "# 😀 é\n", "'", '"', "`", "\\", "\\\n", "$(a)",
-    "$(", ")", "(", "{ ", "}\n", "; ", "&& ", "| ", "\nf() { 😀; }\n", "if é; then\n", "fi\n", "\ncat <<E\n€\nE\n", "<<😀\n", "😀\n",
-    "for 𝒳", "case a in", "${é", "$((1))", "${é-𝒳}", "'😀'",
+    "a", "b c", " ", "\t", "\n", "\n\n", "\r\n", "\r", "\n\r", "é", "€", "😀", "𝒳=😀", "# 😀 é\n", "'", '"', "`",
+    "\\", "\\\n", "$(a)", "$(", ")", "(", "{ ", "}\n", "; ", "&& ", "| ", "\nf() { 😀; }\n", "if é; then\n",
+    "fi\n", "\ncat <<E\n€\nE\n", "<<😀\n", "😀\n", "for 𝒳", "case a in", "${é", "$((1))", "${é-𝒳}", "'😀'",
 )
 
 
@@ -238,7 +332,11 @@ def random_change(chance, text):
     """Two indices of a text, and what is to stand between them."""
     start = chance.randrange(len(text) + 1)
     end = min(len(text), start + chance.choice((0, 0, 0, 1, 1, 2, 5, 30, 300 if len(text) > 3000 else 3)))
-    return uncut(text, start), uncut(text, end), "".join(chance.choice(PIECES) for _ in range(chance.choice((0, 1, 1, 1, 2, 4))))
+    return (
+        uncut(text, start),
+        uncut(text, end),
+        "".join(chance.choice(PIECES) for _ in range(chance.choice((0, 1, 1, 1, 2, 4)))),
+    )
 
 
 def uncut(text, index):
@@ -276,10 +374,14 @@ class Typist:
         return self.text if self.chance.random() < 0.02 else change
 
     def type_at_cursors(self):
-        """Changes of one notification, each at a place of its own: by the places they rise or fall, or neither."""
+        """Changes of one notification, each at a place of its own: by the places they rise or fall, or
+        neither."""
         count, new = self.chance.choice((2, 2, 3, 5, 20, 64, 65)), self.chance.choice(PIECES)
         starts = sorted(self.chance.sample(range(len(self.text) + 1), min(count, len(self.text) + 1)))
-        cursors = [(start, min(start + self.chance.choice((0, 0, 1, 5)), behind)) for start, behind in zip(starts, starts[1:] + [len(self.text)])]
+        cursors = [
+            (start, min(start + self.chance.choice((0, 0, 1, 5)), behind))
+            for start, behind in zip(starts, starts[1:] + [len(self.text)])
+        ]
         order = list(range(len(cursors)))
         self.chance.choice((list, list.reverse, self.chance.shuffle))(order)
         made, moved = [], [0] * len(cursors)
@@ -312,7 +414,8 @@ class Typist:
         return made
 
     def saw(self, faulty):
-        """Decides whether the last change is taken back. That cannot be sent where it would begin or end between \r and \n."""
+        """Decides whether the last change is taken back. That cannot be sent where it would begin or end
+        between \r and \n."""
         cut = any(uncut(self.text, at) != at for at in self.undo[:2])
         if not faulty or cut or self.chance.random() < 0.2:
             self.undo = None
@@ -338,7 +441,9 @@ def compare(client, typist, program, session):
 
     found = [(it["name"], it["range"]) for it in flattened(client.ask("documentSymbol")) if it["kind"] == 12]
     rows = [row for row in session.outline() if row[2] == "function"]
-    expect("the functions", found, [(name, range_of(*place(start), *place(end))) for start, end, _, name in rows])
+    expect(
+        "the functions", found, [(name, range_of(*place(start), *place(end))) for start, end, _, name in rows]
+    )
 
 
 def flattened(symbols):
@@ -354,7 +459,13 @@ def type_on(client, typist, program, session):
         found = told(client.change(*made, version=len(typist.states)))
         session.become(typist.states[-1])
         fault = session.fault()
-        wanted = [] if fault is None else [position(typist.text, len(typist.states[-1][: fault[0]].decode()), typist.utf8) + (fault[3],)]
+        wanted = (
+            []
+            if fault is None
+            else [
+                position(typist.text, len(typist.states[-1][: fault[0]].decode()), typist.utf8) + (fault[3],)
+            ]
+        )
         expect("the diagnostics", [it[:3] for it in found], wanted)
         left[not found] += 1
         faulty = faulty + 1 if found else 0
@@ -370,21 +481,36 @@ def batches_of(sent, counts_of):
     kinds = {"one": 0, "a batch": 0, "several": 0, "edits": 0, "too many": 0, "another": 0}
     for requests_sent, count in zip(sent, counts_of):
         kinds[kind_of(requests_sent, count)] += 1
-    expect(f"that there were notifications of each kind, and no other: {kinds}", [it > 0 for it in kinds.values()], [True] * 5 + [False])
+    expect(
+        f"that there were notifications of each kind, and no other: {kinds}",
+        [it > 0 for it in kinds.values()],
+        [True] * 5 + [False],
+    )
     return kinds["a batch"] + kinds["several"]
 
 
 def kind_of(requests_sent, count):
-    """What a notification of so many changes came to. Parts of one text are sent from the last on, and those that are near at once."""
+    """What a notification of so many changes came to. Parts of one text are sent from the last on, and those
+    that are near at once."""
     words, rows = [word for word, *_ in requests_sent], [parts for _, *parts in requests_sent]
     ends = [(parts[0][0], parts[-1][1]) for parts in rows]
     offsets = [offset for parts in reversed(rows) for start, end, _ in parts for offset in (start, end)]
     if sum(map(len, rows)) != count:
         return "another"
     if count < 2 or count > MOST_PARTS or offsets != sorted(offsets):
-        return "another" if "batch" in words else "one" if count < 2 else "edits" if count <= MOST_PARTS else "too many"
+        return (
+            "another"
+            if "batch" in words
+            else "one"
+            if count < 2
+            else "edits"
+            if count <= MOST_PARTS
+            else "too many"
+        )
     cut = all(behind[0] - before[1] > FURTHEST for behind, before in zip(ends, ends[1:]))
-    near = all(behind[0] - before[1] <= FURTHEST for parts in rows[:-1] for before, behind in zip(parts, parts[1:]))
+    near = all(
+        behind[0] - before[1] <= FURTHEST for parts in rows[:-1] for before, behind in zip(parts, parts[1:])
+    )
     named = words == ["edit" if len(parts) == 1 else "batch" for parts in rows]
     return "another" if not (cut and near and named) else "a batch" if len(rows) == 1 else "several"
 
@@ -393,7 +519,8 @@ def random_changes(program, room, seed):
     library = module("client", f"{ROOT}/examples/client.py")
     path, log = recorder(program, room)
     with open(f"{ROOT}/examples/service.sh", encoding="utf-8") as file:
-        start = "# 😀\nf() {\n\techo '𝒳' é\r\n}\n" + 3 * file.read()  # so long that cursors may be far from one another
+        # so long that cursors may be far from one another
+        start = "# 😀\nf() {\n\techo '𝒳' é\r\n}\n" + 3 * file.read()
     for utf8 in (False, True):
         open(log, "wb").close()
         typist = Typist(random.Random(f"{seed} {utf8}"), start, utf8)
@@ -404,7 +531,9 @@ def random_changes(program, room, seed):
         session.quit()
         states, sent = zip(*recorded(log))
         expect("how many texts the session had", len(states), len(typist.states))
-        expect("how many of them were others", [a == b for a, b in zip(states, typist.states)].count(False), 0)
+        expect(
+            "how many of them were others", [a == b for a, b in zip(states, typist.states)].count(False), 0
+        )
         batches = batches_of(sent[1:], typist.counts[1:])
         told = f"{sum(typist.counts)} changes in {len(states) - 1} notifications, {batches} of which came to batches"
         encoding = "utf-8" if utf8 else "utf-16"

@@ -79,7 +79,9 @@ class Client:
         self.send({"method": method, "params": params})
 
     def begin(self, name="test", **capabilities):
-        params = {"processId": None, "clientInfo": {"name": name}, "rootUri": None, "capabilities": capabilities}
+        params = {
+            "processId": None, "clientInfo": {"name": name}, "rootUri": None, "capabilities": capabilities
+        }
         result = self.answer("initialize", params)["result"]
         self.notify("initialized", {})
         return result
@@ -91,13 +93,22 @@ class Client:
         return message["params"]
 
     def open(self, text, uri=URI, version=1):
-        self.notify("textDocument/didOpen", {"textDocument": {"uri": uri, "languageId": "sh", "version": version, "text": text}})
+        self.notify(
+            "textDocument/didOpen",
+            {"textDocument": {"uri": uri, "languageId": "sh", "version": version, "text": text}},
+        )
         return self.diagnostics()
 
     def change(self, *changes, version=2):
         """Makes changes: a text, or a text with the range it stands in, as four numbers."""
-        listed = [{"text": it} if isinstance(it, str) else {"text": it[0], "range": range_of(*it[1:])} for it in changes]
-        self.notify("textDocument/didChange", {"textDocument": {"uri": URI, "version": version}, "contentChanges": listed})
+        listed = [
+            {"text": it} if isinstance(it, str) else {"text": it[0], "range": range_of(*it[1:])}
+            for it in changes
+        ]
+        self.notify(
+            "textDocument/didChange",
+            {"textDocument": {"uri": URI, "version": version}, "contentChanges": listed},
+        )
         return self.diagnostics()
 
     def close(self, uri=URI):
@@ -115,7 +126,10 @@ class Client:
 
 
 def range_of(line, character, last_line, last_character):
-    return {"start": {"line": line, "character": character}, "end": {"line": last_line, "character": last_character}}
+    return {
+        "start": {"line": line, "character": character},
+        "end": {"line": last_line, "character": last_character},
+    }
 
 
 @contextlib.contextmanager
@@ -162,7 +176,8 @@ def told(diagnostics):
     return [(*it["range"]["start"].values(), it["code"], it["message"]) for it in diagnostics["diagnostics"]]
 
 def checked(program, text, *words):
-    """What `shform check` tells of a text: nothing, or the index at which the first fault stands, and its text."""
+    """What `shform check` tells of a text: nothing, or the index at which the first fault stands, and its
+    text."""
     data = text.encode()
     done = subprocess.run([program, "check", *words], input=data, capture_output=True)
     if done.returncode == 0:

@@ -61,7 +61,8 @@ EMACS = r""";;; -*- lexical-binding: t -*-
   (setq-local indent-tabs-mode nil tab-width 2)
   (setq eglot-sync-connect 10)
   (add-to-list 'eglot-server-programs
-               (list major-mode (getenv "LSP_PYTHON") (getenv "LSP_SERVER") "--program" (getenv "LSP_PROGRAM")))
+               (list major-mode (getenv "LSP_PYTHON") (getenv "LSP_SERVER")
+                     "--program" (getenv "LSP_PROGRAM")))
   (apply #'eglot--connect (eglot--guess-contact))
   (remove-hook 'flymake-diagnostic-functions 'sh-shellcheck-flymake t)
   (wait "attached" (lambda () (eglot-managed-p)))
@@ -71,7 +72,8 @@ EMACS = r""";;; -*- lexical-binding: t -*-
   (let ((fault (car (flymake-diagnostics))))
     (goto-char (flymake-diagnostic-beg fault))
     (tell (format "%d:%d %s" (1- (line-number-at-pos)) (current-column)
-                  (if (string-match-p "unclosed single quote" (flymake-diagnostic-text fault)) "unclosed single quote" "?"))))
+                  (if (string-match-p "unclosed single quote" (flymake-diagnostic-text fault))
+                      "unclosed single quote" "?"))))
   (change (lambda () (goto-char (point-min)) (forward-line 1) (end-of-line) (delete-char -1)))
   (wait "faultless" (faults 0))
   (eglot-format-buffer)
@@ -89,7 +91,8 @@ EMACS = r""";;; -*- lexical-binding: t -*-
 
 
 def edits_by(program, room, name, source, command, column):
-    """Lets an editor open a script, type a quote and take it away, format, and list the symbols; compares what it saw."""
+    """Lets an editor open a script, type a quote and take it away, format, and list the symbols; compares
+    what it saw."""
     if not shutil.which(name):
         print(f"lsp: skipped: no {name}")
         return
@@ -98,9 +101,22 @@ def edits_by(program, room, name, source, command, column):
     for file, text in (("script.sh", ": '\rx' || f() {\necho   é\n}\n"), ("steps", source)):
         with open(f"{place}/{file}", "w", encoding="utf-8", newline="") as out:
             out.write(text)
-    ours = {"PYTHON": sys.executable, "SERVER": SERVER, "PROGRAM": program, "TOLD": f"{place}/told", "FILE": f"{place}/script.sh"}
-    variables = {**os.environ, **{f"LSP_{key}": value for key, value in ours.items()}, "HOME": place, "LC_ALL": "C.UTF-8"}
-    done = subprocess.run(command, cwd=place, env=variables, capture_output=True, stdin=subprocess.DEVNULL, timeout=60)
+    ours = {
+        "PYTHON": sys.executable,
+        "SERVER": SERVER,
+        "PROGRAM": program,
+        "TOLD": f"{place}/told",
+        "FILE": f"{place}/script.sh",
+    }
+    variables = {
+        **os.environ,
+        **{f"LSP_{key}": value for key, value in ours.items()},
+        "HOME": place,
+        "LC_ALL": "C.UTF-8",
+    }
+    done = subprocess.run(
+        command, cwd=place, env=variables, capture_output=True, stdin=subprocess.DEVNULL, timeout=60
+    )
     saw = [done.stderr.decode(errors="replace")]
     if os.path.exists(ours["TOLD"]):
         with open(ours["TOLD"], encoding="utf-8", newline="") as file:
@@ -109,9 +125,14 @@ def edits_by(program, room, name, source, command, column):
         print(f"lsp: skipped: {name}: {saw[0]}")
         return
     fault = f"1:{column} unclosed single quote"
-    expect(f"what {name} saw", saw, ["attached", "faulty", fault, "faultless", ": '\rx' || f() {", "  echo é", "}", "f"])
+    expect(
+        f"what {name} saw",
+        saw,
+        ["attached", "faulty", fault, "faultless", ": '\rx' || f() {", "  echo é", "}", "f"],
+    )
 
 
 def editors(program, room):
-    edits_by(program, room, "nvim", NEOVIM, ["nvim", "--clean", "--headless", "script.sh", "-c", "luafile steps"], 9)  # bytes
+    nvim = ["nvim", "--clean", "--headless", "script.sh", "-c", "luafile steps"]
+    edits_by(program, room, "nvim", NEOVIM, nvim, 9)  # bytes
     edits_by(program, room, "emacs", EMACS, ["emacs", "-Q", "--batch", "-l", "./steps"], 8)  # columns

@@ -16,9 +16,13 @@ class Kept:
         self.sent.append(message)
 
     def told(self):
-        """What was sent since this was asked last: methods, or codes of errors, with the texts for the user."""
+        """What was sent since this was asked last: methods, or codes of errors, with the texts for the
+        user."""
         sent, self.sent = self.sent, []
-        return [it.get("error", {}).get("code") or dig(it, "params", "message") or it.get("method", "result") for it in sent]
+        return [
+            it.get("error", {}).get("code") or dig(it, "params", "message") or it.get("method", "result")
+            for it in sent
+        ]
 
 
 def dig(value, *names):
@@ -62,7 +66,9 @@ class Within:
     """A server within this process, and the channel that it writes to."""
 
     OPENED = {"textDocument": {"uri": URI, "languageId": "sh", "version": 1, "text": "echo  a\n"}}
-    COMMENTS = [{"text": "# b\n", "range": range_of(0, 0, 0, 0)}, {"text": "# c\n", "range": range_of(0, 0, 0, 0)}]
+    COMMENTS = [
+        {"text": "# b\n", "range": range_of(0, 0, 0, 0)}, {"text": "# c\n", "range": range_of(0, 0, 0, 0)}
+    ]
     CHANGED = {"textDocument": {"uri": URI, "version": 2}, "contentChanges": COMMENTS}
     PRINTED = {"textDocument": {"uri": URI}, "options": {"tabSize": 8, "insertSpaces": False}}
     LOST = f"shform: {URI}: out of memory; open it anew"
@@ -88,7 +94,9 @@ def lost_changes(program):
     """A script whose text is no longer known, since memory was wanting amid its changes, is let go of."""
     within = Within(program)
     text = within.module.Text
-    rows = ((within.module, "change_of", 1), (text, "lines_of", 0), (text, "lines_of", 1), (text, "changed", 1))
+    rows = (
+        (within.module, "change_of", 1), (text, "lines_of", 0), (text, "lines_of", 1), (text, "changed", 1)
+    )
     for owner, name, after in rows:
         within.take("textDocument/didOpen", within.OPENED)
         within.channel.told()
@@ -100,12 +108,15 @@ def lost_changes(program):
 
 
 def lost_answers(program):
-    """Where the session or an answer alone is lost, the next answer is that of the text that all changes make."""
+    """Where the session or an answer alone is lost, the next answer is that of the text that all changes
+    make."""
     within = Within(program)
     with wanting(within.module, "parts_of"):
         within.take("textDocument/didChange", within.CHANGED)
     within.channel.told()
-    for owner, name, code in ((within.module.Session, "outline", -32803), (within.module.Server, "request", -32603)):
+    for owner, name, code in (
+        (within.module.Session, "outline", -32803), (within.module.Server, "request", -32603)
+    ):
         with wanting(owner, name):
             within.take("textDocument/documentSymbol", {"textDocument": {"uri": URI}}, id=3)
         expect(f"the error at {name}", within.channel.told()[-1], code)
@@ -118,7 +129,8 @@ def lost_answers(program):
 
 
 def lost_messages(program):
-    """No message ends the server for which there is no memory; the scripts are let go of, since it may have been a change."""
+    """No message ends the server for which there is no memory; the scripts are let go of, since it may have
+    been a change."""
     within = Within(program)
     source = io.BytesIO(framed(b"x" * 5000) + framed(b'{"jsonrpc":"2.0","method":"exit"}'))
     source.read = refused_once(source.read)
