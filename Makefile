@@ -1,14 +1,16 @@
 # make             proves and builds the program, if it is older than its sources
-# make test        the gate: proves every crate from nothing, runs every test; then the scripts over what the gate has built
+# make test        the gate: proves every crate from nothing, runs every test; then the scripts over what the
+#                  gate has built
 # make scripts     those scripts alone, over what the last gate has left
 # make bench       times the program beside dash and cat, and prints a table
-# make install     installs the program, its language server, its manual page and its completions for bash, zsh and fish below PREFIX,
-#                  itself below DESTDIR where that is given
+# make install     installs the program, its language server, its manual page and its completions for bash,
+#                  zsh and fish below PREFIX, itself below DESTDIR where that is given
 
 PREFIX = /usr/local
 PROGRAM = crates/shform/out/shform
 SHARE = $(DESTDIR)$(PREFIX)/share
-TESTS = crates/shtreetests/out/shtreetests_tests crates/shtests/out/shtests_tests crates/shlivetests/out/shlivetests_tests crates/shform/out/shform_tests
+TESTS = crates/shtreetests/out/shtreetests_tests crates/shtests/out/shtests_tests \
+	crates/shlivetests/out/shlivetests_tests crates/shform/out/shform_tests
 
 .PHONY: all test scripts bench install
 

@@ -4,9 +4,9 @@
   examples/client.py PROGRAM FILE [SECONDS]
   examples/client.py PROGRAM FILE OLD NEW
 
-Looks at FILE each half second, sends what changed as one edit, and shows what is new. It ends after SECONDS, where they are given,
-or when it is interrupted. With OLD and NEW it shows what the script is like with NEW in the place of each OLD, which it sends as
-batches, and ends. FILE is not written.
+Looks at FILE each half second, sends what changed as one edit, and shows what is new. It ends after SECONDS,
+where they are given, or when it is interrupted. With OLD and NEW it shows what the script is like with NEW in
+the place of each OLD, which it sends as batches, and ends. FILE is not written.
 """
 import os
 import re
@@ -44,7 +44,8 @@ class Session:
         self.text = self.text[:start] + new + self.text[end:]
 
     def batch(self, parts):
-        """Makes at most MOST_PARTS edits (start, end, new) at once: they rise, by offsets before them all. Refused as an edit is."""
+        """Makes at most MOST_PARTS edits (start, end, new) at once: they rise, by offsets before them all.
+        Refused as an edit is."""
         rows = [b"%d %d %d\n%b\n" % (start, end, len(new), new) for start, end, new in parts]
         reply = self.ask(b"batch %d\n%b" % (len(rows), b"".join(rows)))
         if not reply.startswith("ok "):
@@ -53,14 +54,16 @@ class Session:
             self.text = self.text[:start] + new + self.text[end:]
 
     def replace(self, old, new):
-        """Puts bytes in the place of others wherever these stand: the last first, so that those before stay where they are."""
+        """Puts bytes in the place of others wherever these stand: the last first, so that those before stay
+        where they are."""
         parts = [(found.start(), found.end(), new) for found in re.finditer(re.escape(old), self.text)]
         while parts:
             self.batch(parts[-MOST_PARTS:])
             del parts[-MOST_PARTS:]
 
     def become(self, text):
-        """Makes the script this text: one edit for what stands between the common begin and the common end."""
+        """Makes the script this text: one edit for what stands between the common begin and the common
+        end."""
         if text == self.text:
             return
         least = min(len(text), len(self.text))

@@ -117,8 +117,10 @@ def scripts_of(shape):
 
 
 def among_lines(shape):
-    """With the most open constructs, among more lines than the program reads at once or holds before it passes
-    them."""
+    """With the most open constructs, among more lines than the program reads at once or holds before it
+    passes them."""
     before, behind = parts(shape, MOST)
     lines = 10_000 * b"a b # c\n"
-    return Script(f"{shape} (among lines)", lines + before + CORE + behind + b"\n" + lines, len(lines + before), b"")
+    return Script(
+        f"{shape} (among lines)", lines + before + CORE + behind + b"\n" + lines, len(lines + before), b""
+    )

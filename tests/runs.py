@@ -52,10 +52,21 @@ def requests_of(script):
         "edit of a quote": edit(0, 0, b"'") + b"outline\n" + edit(0, 1, b""),
         "edit of all": edit(0, size, b"") + edit(0, 0, text),
         "refused": edit(1, 0, b"") + b"edit 0 0 0\nx\nstatus\n",
-        "batch": batch((at, at + len(old), b"cc"), (size, size, b"\n")) + batch((at, at + 2, old), (behind, behind + 1, b"")),
-        "batch of quotes": batch((0, 0, b"'"), (size, size, b"'")) + b"outline\n" + batch((0, 1, b""), (size + 1, size + 2, b"")),
+        "batch": (
+            batch((at, at + len(old), b"cc"), (size, size, b"\n"))
+            + batch((at, at + 2, old), (behind, behind + 1, b""))
+        ),
+        "batch of quotes": (
+            batch((0, 0, b"'"), (size, size, b"'"))
+            + b"outline\n"
+            + batch((0, 1, b""), (size + 1, size + 2, b""))
+        ),
         "batch of all": batch((0, at, b""), (at, size, b"")) + batch((0, 0, text[:at]), (0, 0, text[at:])),
-        "refused batches": batch((0, 0, text), (1, 0, b"")) + batch((size, size, text), (0, 0, text)) + b"batch 2\n0 0 1\nb\n0 0 1\nbb\n",
+        "refused batches": (
+            batch((0, 0, text), (1, 0, b""))
+            + batch((size, size, text), (0, 0, text))
+            + b"batch 2\n0 0 1\nb\n0 0 1\nbb\n"
+        ),
     }
 
 
