@@ -38,6 +38,7 @@ scripts: $(PROGRAM) $(TESTS)
 	tests/git-hook
 	tests/pre-commit
 	tests/columns
+	tests/names
 
 $(PROGRAM) $(TESTS):
 	@echo "make scripts: there is no $@: run make test, whose gate leaves it" >&2; exit 1
