@@ -1,18 +1,21 @@
 -- What a part prints, by the cases that the code tells apart.
-use Rattle.std.proofs.Common.{◌≡◌, ◌∙◌, ℕ, ◌<◌, ◌&&◌, Bool, true, false, List, List as Row, [], ◌∷◌, ◌++◌, Some, None, length, take, map, codes, if◌then◌else◌, rules, refl, sym, ap, append_assoc, arith}
+use Rattle.std.proofs.Common.{◌≡◌, ◌∙◌, ℕ, ◌<◌, ◌&&◌, Bool, true, false, List, List as Row, [], ◌∷◌, ◌++◌, Some, None, length, take, map, codes, if◌then◌else◌, rules, refl, sym, ap, append_assoc, arith, subst}
 use Rattle.std.proofs.Math.Seq.{take-append_seam, take-length}
 use Rattle.shast.specs.declared.tree.Comment.{Comment}
 use Rattle.shast.specs.declared.tree.Entry.{Entry}
+use Rattle.shast.specs.declared.tree.Function.{Function}
 use Rattle.shast.specs.declared.tree.List as the_list
-use Rattle.shast.specs.declared.tree.Command.TheViews.{out-List}
+use Rattle.shast.specs.declared.tree.Command.TheViews.{out-Function, out-List}
 use Rattle.shast.specs.declared.tree.Command.TheFolds.{fold_out-List}
-use Rattle.shast.specs.Shape.{Text, Shape, shape_of, shape_of_comments}
+use Rattle.shast.specs.Shape.{Text, Shape, shape_of, shape_of_command, shape_of_comments, shape_of_compound, text_at}
 use Rattle.shast.specs.Tree.{ACompoundOf, AWordOf, AnEntryOf, EntriesOf, command, entries_of, entry, more_entries, no_entry, remark, word}
-use Rattle.shast.specs.View.{view_comment, view_entry, view_list}
+use Rattle.shast.specs.View.{view_comment, view_compound, view_entry, view_function, view_list}
+use Rattle.shast.proofs.Seen.{function_seen}
 use Rattle.shprint.specs.declared.layout.Layout.{Layout}
+use Rattle.shprint.specs.declared.page.Page.{Page}
 use Rattle.shprint.specs.Marks.{Marks, text, line_end, deeper, one}
-use Rattle.shprint.specs.Printed.{case_margin, is_brace, is_one_line, operand_margin, print_body, print_comments, print_entries, print_function_gap, print_here, print_only}
-use Rattle.shprint.specs.Written.{Sheet, is_bare, written}
+use Rattle.shprint.specs.Printed.{case_margin, is_brace, is_one_line, operand_margin, print_body, print_command, print_comments, print_compound, print_entries, print_function_gap, print_here, print_only}
+use Rattle.shprint.specs.Written.{Prints, Sheet, is_bare, sheet, written}
 use Rattle.shprint.proofs.Writing.{written_append, written_cons}
 
 pub list_seen : (l : the_list.List) → view_list l ≡ entries_of (map view_entry (out-List l).entries.items)
@@ -121,3 +124,47 @@ module _ (B : List ℕ) (y : Layout) (m : Text) where
       ≡ print_comments m (shape_of_comments B (map view_comment cs)) ++ (line_end ∷ text m ∷ [])
   gap_some body [] lt = absurd (omega (arith, lt))
   gap_some body (c ∷ cs) lt = refl
+
+-- ---- a function
+
+-- some marks and then others on a page
+prints_then : (before mid after : Page) (ms ns : Marks) → Prints before mid ms → Prints mid after ns →
+    Prints before after (ms ++ ns)
+prints_then before mid after ms ns first second =
+    (second.0 ∙ ap (λ s. written s ns) first.0 ∙ written_append (sheet before) ms ns, second.1 ∙ first.1)
+
+module _ (B : Text) (y : Layout) (f : Function) where
+  abbrev function_body : Shape ACompoundOf
+  function_body = shape_of_compound B (view_compound (out-Function f).body)
+
+  -- up to its body, of which the gap stands at a margin
+  abbrev function_head : Text → Marks
+  function_head m = one (text_at B (out-Function f).name) ++ one (codes "()")
+      ++ print_function_gap y m (shape_of_comments B (map view_comment (out-Function f).comments.items)) function_body
+
+  function_is : (m at_gap at_body : Text) → at_gap ≡ m → at_body ≡ m
+      → function_head at_gap ++ print_compound y at_body function_body
+      ≡ print_command y m (shape_of_command B (view_function f))
+  function_is m at_gap at_body gap body =
+      ap (λ x. function_head x ++ print_compound y at_body function_body) gap
+      ∙ ap (λ x. function_head m ++ print_compound y x function_body) body
+      ∙ ap (λ v. print_command y m (shape_of_command B v)) (sym (function_seen f))
+
+  -- its parts, one after the other, each at the margin that the page had then
+  pub function_printed : (p q r s t : Page) → Prints p q (one (text_at B (out-Function f).name))
+      → Prints q r (one (codes "()"))
+      → Prints r s (print_function_gap y r.margin.items
+      (shape_of_comments B (map view_comment (out-Function f).comments.items)) function_body)
+      → Prints s t (print_compound y s.margin.items function_body)
+      → Prints p t (print_command y p.margin.items (shape_of_command B (view_function f)))
+  function_printed p q r s t name parens gap body =
+      let at_gap : r.margin.items ≡ p.margin.items = parens.1 ∙ name.1 in
+      let at_body : s.margin.items ≡ p.margin.items = gap.1 ∙ at_gap in
+      let gap_marks = print_function_gap y r.margin.items
+      (shape_of_comments B (map view_comment (out-Function f).comments.items)) function_body in
+      let head : Prints p s (function_head r.margin.items) =
+      prints_then p q s (one (text_at B (out-Function f).name)) (one (codes "()") ++ gap_marks) name
+      (prints_then q r s (one (codes "()")) gap_marks parens gap) in
+      subst (λ ms. Prints p t ms)
+      (function_is p.margin.items r.margin.items s.margin.items at_gap at_body)
+      (prints_then p s t (function_head r.margin.items) (print_compound y s.margin.items function_body) head body)

@@ -1,17 +1,17 @@
 -- Words that stand in the source as they are printed.
-use Rattle.std.proofs.Common.{◌≡◌, ◌∙◌, ℕ, ◌+◌, ◌-◌, ◌≤◌, ◌<◌, false, Some, slice_get, List, [], ◌∷◌, ◌++◌, drop, map, refl, sym, ap, arith, append_assoc}
+use Rattle.std.proofs.Common.{◌≡◌, ◌∙◌, ℕ, ◌+◌, ◌-◌, ◌≤◌, ◌<◌, false, Some, slice_get, List, [], ◌∷◌, ◌++◌, drop, refl, sym, ap, arith, append_assoc}
 use Rattle.std.proofs.lemmas.List.{drop-drop}
 use Rattle.std.proofs.Math.Seq.{take-add}
 use Rattle.std.proofs.Common.{take}
 use Rattle.shast.specs.declared.tree.Item.{Item}
 use Rattle.shast.specs.declared.tree.Span.{Span}
-use Rattle.shast.specs.Shape.{Text, Shape, shape_of_item, shape_of_items, text_at}
-use Rattle.shast.specs.Tree.{AnItemOf, items_of}
+use Rattle.shast.specs.Shape.{Text, Shape, shape_of_item, text_at}
+use Rattle.shast.specs.Tree.{AnItemOf}
 use Rattle.shast.specs.View.{view_item}
 use Rattle.shprint.specs.declared.layout.Layout.{Layout}
 use Rattle.shprint.specs.Marks.{Marks, laid_after, held_after, one, text}
-use Rattle.shprint.specs.Printed.{is_broken_item, print_item, print_items}
-use Rattle.shprint.specs.Written.{Sheet, item_after, stretch, written}
+use Rattle.shprint.specs.Printed.{is_broken_item, print_item}
+use Rattle.shprint.specs.Written.{Sheet, item_after, marks_of_items, stretch, written}
 use Rattle.shprint.proofs.Copying.{taken}
 use Rattle.shprint.proofs.Writing.{written_append, written_cons}
 
@@ -41,7 +41,7 @@ module _ (B : Text) where
         rw (unbroken, printed, told) refl
 
     abbrev items_marks : List Item → Marks
-    items_marks is = print_items y m (shape_of_items B (items_of (map view_item is)))
+    items_marks is = marks_of_items B y m is
 
     pub none_passed : (a : ℕ) (is : List Item) (t : Sheet) →
         written t (items_marks is) ≡ written t (text (stretch B a a) ∷ items_marks is)
@@ -76,10 +76,8 @@ module _ (B : Text) where
         print_item y (shape_of_item B (view_item i)) ≡ text (text_at B s) ∷ []
         → s.start ≤ s.«end» → s.«end» ≤ past →
         ((t : Sheet) → written t (items_marks is) ≡ written t (text (stretch B s.«end» past) ∷ items_marks others))
-        → written (written t (text (stretch B s.start past) ∷ []))
-        (print_items y m (shape_of_items B (items_of (map view_item others))))
-        ≡ written t (print_item y (shape_of_item B (view_item i))
-        ++ print_items y m (shape_of_items B (items_of (map view_item is))))
+        → written (written t (text (stretch B s.start past) ∷ [])) (items_marks others)
+        ≡ written t (print_item y (shape_of_item B (view_item i)) ++ items_marks is)
     simple_printed t s past i is others printed some on passed =
         let first = text_at B s in
         let from = written t (one first) in

@@ -1,6 +1,7 @@
 -- Marks printed one after the other, and what a loop has still to print.
-use Rattle.std.proofs.Common.{◌≡◌, List, [], ◌∷◌, ◌++◌, length, refl, ap, append_assoc, arith, sym, ◌∙◌}
+use Rattle.std.proofs.Common.{◌≡◌, List, [], ◌∷◌, ◌++◌, length, refl, ap, append_assoc, arith, sym, ◌∙◌, OnOk, Result}
 use Rattle.std.proofs.lemmas.List.{append-nil}
+use Rattle.std.proofs.lemmas.Result.{on_ok_weaker}
 use Rattle.shast.specs.Shape.{Text}
 use Rattle.shprint.specs.Marks.{Mark, Marks, text, line_end, document, laid, laid_after, held_after}
 use Rattle.shprint.specs.Written.{Sheet, sheet_of, written}
@@ -69,3 +70,7 @@ written_first ms = refl
 pub empty_row : {A : Type 0} (xs : List A) → length xs ≡ 0 → xs ≡ []
 empty_row [] e = refl
 empty_row (x ∷ xs) e = absurd (omega (arith, e))
+
+-- What the last call says of its result, which is the answer, gives what is wanted of it.
+pub on_ok_then : {T E P Q : Type 0} (r : Result T E) → OnOk r P → (P → Q) → OnOk r Q
+on_ok_then r given so = on_ok_weaker r so given

@@ -1,15 +1,14 @@
-//! Commands and lists of them. Each function prints one part of a script, as the
-//! definition of its name in `specs/Printed` says.
+//! Commands and lists of them. Each function prints one part of a script, as the definition of its name in
+//! `specs/Printed` or `specs/Written` says.
 #![tactic(auto, using(crate::proofs::Writing::written_append, crate::proofs::Writing::written_cons, crate::proofs::Writing::written_none))]
 
-ghost use Rattle.std.specs.Prelude.{◌≡◌, ◌∷◌, ◌++◌, ◌||◌, ℕ, IfOk, List as Row, codes, false, if◌then◌else◌, map};
-ghost use Rattle.shast.specs.Shape.{shape_of, shape_of_and_or, shape_of_and_or_parts, shape_of_bang, shape_of_branch, shape_of_branches, shape_of_case, shape_of_cases, shape_of_command, shape_of_comments, shape_of_compound, shape_of_content, shape_of_entry, shape_of_form, shape_of_items, shape_of_join, shape_of_pipeline, shape_of_pipes, shape_of_word, Text};
+ghost use Rattle.std.specs.Prelude.{◌≡◌, ◌||◌, ℕ, IfOk, List as Row, OnOk, false, map};
+ghost use Rattle.shast.specs.Shape.{shape_of, shape_of_and_or, shape_of_and_or_parts, shape_of_bang, shape_of_branch, shape_of_branches, shape_of_case, shape_of_cases, shape_of_command, shape_of_comments, shape_of_compound, shape_of_content, shape_of_entry, shape_of_for_words, shape_of_form, shape_of_join, shape_of_pipeline, shape_of_pipes, shape_of_word, Text};
 ghost use Rattle.shast.specs.Spelling.{and_or_text};
 ghost use Rattle.shast.specs.Tree.{and_or_parts_of, branches_of, cases_of, entries_of, in_words, items_of, pipeline_parts_of};
 ghost use Rattle.shast.specs.View.{view_and_or, view_and_or_part, view_branch, view_case_item, view_command, view_comment, view_compound, view_content, view_entry, view_form, view_function, view_item, view_join, view_list, view_pipeline, view_pipeline_part, view_word};
-ghost use Rattle.shprint.specs.Marks.{deeper, lines_between, one, text};
-ghost use Rattle.shprint.specs.Printed.{breaks_line, case_margin, ender, is_brace, is_one_line, operand_margin, print_and_or, print_and_or_parts, print_background, print_bang, print_blank, print_body, print_branch, print_branches, print_case, print_cases, print_command, print_comment_lines, print_compound, print_content, print_entries, print_entry, print_for_words, print_form, print_function_gap, print_only, print_pipeline, print_pipes};
-ghost use Rattle.shprint.specs.Written.{Prints, sheet, is_bare, is_command, print_condition, print_case_head};
+ghost use Rattle.shprint.specs.Printed.{breaks_line, case_margin, ender, is_brace, is_one_line, operand_margin, print_and_or, print_and_or_parts, print_background, print_bang, print_blank, print_body, print_branch, print_branches, print_case, print_cases, print_command, print_compound, print_content, print_entries, print_entry, print_for_words, print_form, print_function_gap, print_only, print_pipeline, print_pipes};
+ghost use Rattle.shprint.specs.Written.{LaysOut, Prints, Puts, SetsMargin, is_bare, is_command, print_case_head, print_case_items, print_condition, print_group, print_lines_between, print_loop, sheet};
 
 use crate::comments::breaks_line;
 use crate::page::Page;
@@ -72,19 +71,19 @@ fn is_brace(body: &Compound) -> bool
 
 /// An empty line before an entry.
 fn print_blank(blank: bool, page: &mut Page) -> Result<(), AllocError>
-    ensures { IfOk result (λ _. Prints page.old page.new (print_blank blank)) }
+    ensures { OnOk result (Prints page.old page.new (print_blank blank)) }
 {
     if blank { page.end_line() } else { Ok(()) }
 }
 
 fn print_background(background: bool, page: &mut Page) -> Result<(), AllocError>
-    ensures { IfOk result (λ _. Prints page.old page.new (print_background background)) }
+    ensures { OnOk result (Prints page.old page.new (print_background background)) }
 {
     if background { page.put(b" &") } else { Ok(()) }
 }
 
 fn print_bang(bang: Option<Span>, page: &mut Page) -> Result<(), AllocError>
-    ensures { IfOk result (λ _. Prints page.old page.new (print_bang (shape_of_bang bang))) }
+    ensures { OnOk result (Prints page.old page.new (print_bang (shape_of_bang bang))) }
 {
     match bang {
         Some(_) => page.put(b"! "),
@@ -103,7 +102,7 @@ impl<'a, S: Source> Printer<'a, S> {
             (λ now. (margin : Text) →
             page.old.margin.items ≡ operand_margin self.now.layout margin broken →
             page.new.margin.items ≡ operand_margin self.now.layout margin now) }
-        ensures sheet { IfOk result (λ now. sheet page.new ≡ sheet page.old) }
+        ensures sheet { OnOk result (sheet page.new ≡ sheet page.old) }
     {
         if broken || !breaks_line(join) {
             return Ok(broken);
@@ -114,9 +113,8 @@ impl<'a, S: Source> Printer<'a, S> {
 
     /// Before the items of a `case`.
     fn enter_case(&self, page: &mut Page) -> Result<(), AllocError>
-        ensures { IfOk result (λ _.
-            (page.new.margin.items ≡ case_margin self.now.layout page.old.margin.items)
-            × (sheet page.new ≡ sheet page.old)) }
+        ensures { OnOk result (SetsMargin page.old page.new
+            (case_margin self.now.layout page.old.margin.items)) }
     {
         if self.layout.case_indent {
             page.deepen(self.layout)?;
@@ -131,7 +129,7 @@ impl<'a, S: Source> Printer<'a, S> {
         body: &Compound,
         page: &mut Page,
     ) -> Result<(), AllocError>
-        ensures { IfOk result (λ _. Prints page.old page.new
+        ensures { OnOk result (Prints page.old page.new
             (print_function_gap self.now.layout page.old.margin.items
             (shape_of_comments (S.bytes self.now.source.now) (map view_comment comments.now))
             (shape_of_compound (S.bytes self.now.source.now) (view_compound body.now)))) }
@@ -149,10 +147,8 @@ impl<'a, S: Source> Printer<'a, S> {
 
     /// The words of a `for`, up to its `do`.
     fn print_for_words(&self, words: &[Item], page: &mut Page) -> Result<(), AllocError>
-        ensures { IfOk result (λ _. Prints page.old page.new
-            (print_for_words self.now.layout page.old.margin.items
-            (in_words (shape_of_items (S.bytes self.now.source.now)
-            (items_of (map view_item words.now)))))) }
+        ensures { OnOk result (LaysOut S.bytes self.now page.old page.new
+            print_for_words shape_of_for_words (in_words (items_of (map view_item words.now)))) }
     {
         page.put(b" in")?;
         self.print_items(words, page)?;
@@ -161,8 +157,8 @@ impl<'a, S: Source> Printer<'a, S> {
 
     /// The line of a `case`.
     fn print_case_head(&self, word: &Word, page: &mut Page) -> Result<(), AllocError>
-        ensures { IfOk result (λ _. Prints page.old page.new
-            (print_case_head (shape_of_word (S.bytes self.now.source.now) (view_word word.now)))) }
+        ensures { OnOk result (Puts S.bytes self.now page.old page.new
+            print_case_head shape_of_word (view_word word.now)) }
     {
         page.put(b"case ")?;
         self.print_word(word, page)?;
@@ -186,9 +182,8 @@ impl<'a, S: Source> Printer<'a, S> {
 
     #[cycle(print)]
     fn print_entry(&self, entry: &Entry, page: &mut Page) -> Result<(), AllocError>
-        ensures { IfOk result (λ _. Prints page.old page.new
-            (print_entry self.now.layout page.old.margin.items
-            (shape_of_entry (S.bytes self.now.source.now) (view_entry entry.now)))) }
+        ensures { OnOk result (LaysOut S.bytes self.now page.old page.new
+            print_entry shape_of_entry (view_entry entry.now)) }
     {
         print_blank(entry.blank, page)?;
         page.begin_line()?;
@@ -201,9 +196,8 @@ impl<'a, S: Source> Printer<'a, S> {
     #[cycle(print)]
     #[inline(always)]
     fn print_content(&self, content: &Content, page: &mut Page) -> Result<(), AllocError>
-        ensures { IfOk result (λ _. Prints page.old page.new
-            (print_content self.now.layout page.old.margin.items
-            (shape_of_content (S.bytes self.now.source.now) (view_content content.now)))) }
+        ensures { OnOk result (LaysOut S.bytes self.now page.old page.new
+            print_content shape_of_content (view_content content.now)) }
     {
         match content {
             Content::AndOr(and_or) => self.print_and_or(and_or, page),
@@ -213,9 +207,8 @@ impl<'a, S: Source> Printer<'a, S> {
 
     #[cycle(print)]
     fn print_and_or(&self, and_or: &AndOr, page: &mut Page) -> Result<(), AllocError>
-        ensures { IfOk result (λ _. Prints page.old page.new
-            (print_and_or self.now.layout page.old.margin.items
-            (shape_of_and_or (S.bytes self.now.source.now) (view_and_or and_or.now)))) }
+        ensures { OnOk result (LaysOut S.bytes self.now page.old page.new
+            print_and_or shape_of_and_or (view_and_or and_or.now)) }
     {
         self.print_pipeline(&and_or.first, page)?;
         self.print_and_or_parts(&and_or.rest, page)
@@ -225,10 +218,9 @@ impl<'a, S: Source> Printer<'a, S> {
     #[cycle(print)]
     #[tactic(auto, using(crate::proofs::Writing::written_append, crate::proofs::Writing::written_cons, crate::proofs::Writing::written_none, crate::proofs::Rows::parts_end))]
     fn print_and_or_parts(&self, parts: &[AndOrPart], page: &mut Page) -> Result<(), AllocError>
-        ensures { IfOk result (λ _. Prints page.old page.new
-            (print_and_or_parts self.now.layout page.old.margin.items false
-            (shape_of_and_or_parts (S.bytes self.now.source.now)
-            (and_or_parts_of (map view_and_or_part parts.now))))) }
+        ensures { OnOk result (Puts S.bytes self.now page.old page.new
+            (print_and_or_parts self.now.layout page.old.margin.items false)
+            shape_of_and_or_parts (and_or_parts_of (map view_and_or_part parts.now))) }
     {
         // Most often there are none.
         if parts.is_empty() {
@@ -248,9 +240,8 @@ impl<'a, S: Source> Printer<'a, S> {
     #[cycle(print)]
     #[inline(always)]
     fn print_pipeline(&self, pipeline: &Pipeline, page: &mut Page) -> Result<(), AllocError>
-        ensures { IfOk result (λ _. Prints page.old page.new
-            (print_pipeline self.now.layout page.old.margin.items
-            (shape_of_pipeline (S.bytes self.now.source.now) (view_pipeline pipeline.now)))) }
+        ensures { OnOk result (LaysOut S.bytes self.now page.old page.new
+            print_pipeline shape_of_pipeline (view_pipeline pipeline.now)) }
     {
         print_bang(pipeline.bang, page)?;
         self.print_command(&pipeline.first, page)?;
@@ -261,10 +252,9 @@ impl<'a, S: Source> Printer<'a, S> {
     #[cycle(print)]
     #[tactic(auto, using(crate::proofs::Writing::written_append, crate::proofs::Writing::written_cons, crate::proofs::Writing::written_none, crate::proofs::Rows::pipes_end))]
     fn print_pipes(&self, parts: &[PipelinePart], page: &mut Page) -> Result<(), AllocError>
-        ensures { IfOk result (λ _. Prints page.old page.new
-            (print_pipes self.now.layout page.old.margin.items false
-            (shape_of_pipes (S.bytes self.now.source.now)
-            (pipeline_parts_of (map view_pipeline_part parts.now))))) }
+        ensures { OnOk result (Puts S.bytes self.now page.old page.new
+            (print_pipes self.now.layout page.old.margin.items false)
+            shape_of_pipes (pipeline_parts_of (map view_pipeline_part parts.now))) }
     {
         // Most often there are none.
         if parts.is_empty() {
@@ -283,9 +273,8 @@ impl<'a, S: Source> Printer<'a, S> {
 
     #[cycle(print)]
     fn print_command(&self, command: &Command, page: &mut Page) -> Result<(), AllocError>
-        ensures { IfOk result (λ _. Prints page.old page.new
-            (print_command self.now.layout page.old.margin.items
-            (shape_of_command (S.bytes self.now.source.now) (view_command command.now)))) }
+        ensures { OnOk result (LaysOut S.bytes self.now page.old page.new
+            print_command shape_of_command (view_command command.now)) }
     {
         match command {
             Command::Simple { items } => self.print_simple(items, page),
@@ -296,9 +285,8 @@ impl<'a, S: Source> Printer<'a, S> {
 
     #[cycle(print)]
     fn print_function(&self, function: &Function, page: &mut Page) -> Result<(), AllocError>
-        ensures { IfOk result (λ _. Prints page.old page.new
-            (print_command self.now.layout page.old.margin.items
-            (shape_of_command (S.bytes self.now.source.now) (view_function function.now)))) }
+        ensures { OnOk result (LaysOut S.bytes self.now page.old page.new
+            print_command shape_of_command (view_function function.now)) }
     {
         self.print_text(function.name, page)?;
         page.put(b"()")?;
@@ -310,9 +298,8 @@ impl<'a, S: Source> Printer<'a, S> {
     #[cycle(print)]
     #[inline(always)]
     fn print_compound(&self, compound: &Compound, page: &mut Page) -> Result<(), AllocError>
-        ensures { IfOk result (λ _. Prints page.old page.new
-            (print_compound self.now.layout page.old.margin.items
-            (shape_of_compound (S.bytes self.now.source.now) (view_compound compound.now)))) }
+        ensures { OnOk result (LaysOut S.bytes self.now page.old page.new
+            print_compound shape_of_compound (view_compound compound.now)) }
     {
         self.print_form(&compound.form, page)?;
         self.print_items(&compound.redirects, page)
@@ -320,9 +307,8 @@ impl<'a, S: Source> Printer<'a, S> {
 
     #[cycle(print)]
     fn print_form(&self, form: &Form, page: &mut Page) -> Result<(), AllocError>
-        ensures { IfOk result (λ _. Prints page.old page.new
-            (print_form self.now.layout page.old.margin.items
-            (shape_of_form (S.bytes self.now.source.now) (view_form form.now)))) }
+        ensures { OnOk result (LaysOut S.bytes self.now page.old page.new
+            print_form shape_of_form (view_form form.now)) }
     {
         match form {
             Form::Brace(list) => self.print_group(b"{", list, b"}", page),
@@ -369,10 +355,8 @@ impl<'a, S: Source> Printer<'a, S> {
         closer: &[u8],
         page: &mut Page,
     ) -> Result<(), AllocError>
-        ensures { IfOk result (λ _. Prints page.old page.new
-            (text opener.now ∷ lines_between page.old.margin.items
-            (print_entries self.now.layout (deeper self.now.layout page.old.margin.items)
-            (shape_of (S.bytes self.now.source.now) (view_list list.now))) ++ one closer.now)) }
+        ensures { OnOk result (LaysOut S.bytes self.now page.old page.new
+            (print_group opener.now closer.now) shape_of (view_list list.now)) }
     {
         page.put(opener)?;
         self.print_lines_between(list, page)?;
@@ -382,10 +366,8 @@ impl<'a, S: Source> Printer<'a, S> {
     /// The lines of a list, from just after what opens it to what closes it.
     #[cycle(print)]
     fn print_lines_between(&self, list: &List, page: &mut Page) -> Result<(), AllocError>
-        ensures { IfOk result (λ _. Prints page.old page.new
-            (lines_between page.old.margin.items
-            (print_entries self.now.layout (deeper self.now.layout page.old.margin.items)
-            (shape_of (S.bytes self.now.source.now) (view_list list.now))))) }
+        ensures { OnOk result (LaysOut S.bytes self.now page.old page.new
+            print_lines_between shape_of (view_list list.now)) }
     {
         page.end_line()?;
         let home = page.margin.len();
@@ -397,10 +379,8 @@ impl<'a, S: Source> Printer<'a, S> {
 
     #[cycle(print)]
     fn print_loop(&self, opener: &[u8], branch: &Branch, page: &mut Page) -> Result<(), AllocError>
-        ensures { IfOk result (λ _. Prints page.old page.new
-            (print_branch self.now.layout page.old.margin.items opener.now (codes "do")
-            (shape_of_branch (S.bytes self.now.source.now) (view_branch branch.now))
-            ++ one (codes "done"))) }
+        ensures { OnOk result (LaysOut S.bytes self.now page.old page.new
+            (print_loop opener.now) shape_of_branch (view_branch branch.now)) }
     {
         self.print_branch(opener, b"do", branch, page)?;
         page.put(b"done")
@@ -415,9 +395,9 @@ impl<'a, S: Source> Printer<'a, S> {
         branch: &Branch,
         page: &mut Page,
     ) -> Result<(), AllocError>
-        ensures { IfOk result (λ _. Prints page.old page.new
-            (print_branch self.now.layout page.old.margin.items opener.now opens_body.now
-            (shape_of_branch (S.bytes self.now.source.now) (view_branch branch.now)))) }
+        ensures { OnOk result (Puts S.bytes self.now page.old page.new
+            (print_branch self.now.layout page.old.margin.items opener.now opens_body.now)
+            shape_of_branch (view_branch branch.now)) }
     {
         page.put(opener)?;
         self.print_condition(&branch.condition, page)?;
@@ -428,9 +408,8 @@ impl<'a, S: Source> Printer<'a, S> {
     /// A condition on the line of its keyword, or on lines of its own.
     #[cycle(print)]
     fn print_condition(&self, condition: &List, page: &mut Page) -> Result<(), AllocError>
-        ensures { IfOk result (λ _. Prints page.old page.new
-            (print_condition self.now.layout page.old.margin.items
-            (shape_of (S.bytes self.now.source.now) (view_list condition.now)))) }
+        ensures { OnOk result (LaysOut S.bytes self.now page.old page.new
+            print_condition shape_of (view_list condition.now)) }
     {
         if !is_one_line(&condition.entries) {
             return self.print_lines_between(condition, page);
@@ -443,9 +422,8 @@ impl<'a, S: Source> Printer<'a, S> {
     /// The one entry of a condition.
     #[cycle(print)]
     fn print_only(&self, list: &List, page: &mut Page) -> Result<(), AllocError>
-        ensures { IfOk result (λ _. Prints page.old page.new
-            (print_only self.now.layout page.old.margin.items
-            (shape_of (S.bytes self.now.source.now) (view_list list.now)))) }
+        ensures { OnOk result (LaysOut S.bytes self.now page.old page.new
+            print_only shape_of (view_list list.now)) }
     {
         match list.entries.first() {
             Some(entry) => self.print_content(&entry.what, page),
@@ -456,10 +434,8 @@ impl<'a, S: Source> Printer<'a, S> {
     #[cycle(print)]
     #[tactic(auto, using(crate::proofs::Writing::written_append, crate::proofs::Writing::written_cons, crate::proofs::Writing::written_none, crate::proofs::Rows::from_end, crate::proofs::Rows::branches_are))]
     fn print_branches(&self, branches: &[Branch], page: &mut Page) -> Result<(), AllocError>
-        ensures { IfOk result (λ _. Prints page.old page.new
-            (print_branches self.now.layout page.old.margin.items
-            (shape_of_branches (S.bytes self.now.source.now)
-            (branches_of (map view_branch branches.now))))) }
+        ensures { OnOk result (LaysOut S.bytes self.now page.old page.new
+            print_branches shape_of_branches (branches_of (map view_branch branches.now))) }
     {
         for branch in branches {
             self.print_branch(b"elif", b"then", branch, page)?;
@@ -475,10 +451,9 @@ impl<'a, S: Source> Printer<'a, S> {
         tail: &[Comment],
         page: &mut Page,
     ) -> Result<(), AllocError>
-        ensures { IfOk result (λ _. Prints page.old page.new
-            (print_cases self.now.layout (case_margin self.now.layout page.old.margin.items)
+        ensures { OnOk result (Prints page.old page.new
+            (print_case_items self.now.layout page.old.margin.items
             (shape_of_cases (S.bytes self.now.source.now) (cases_of (map view_case_item items.now)))
-            ++ print_comment_lines (case_margin self.now.layout page.old.margin.items)
             (shape_of_comments (S.bytes self.now.source.now) (map view_comment tail.now)))) }
     {
         let home = page.margin.len();
@@ -492,10 +467,8 @@ impl<'a, S: Source> Printer<'a, S> {
     #[cycle(print)]
     #[tactic(auto, using(crate::proofs::Writing::written_append, crate::proofs::Writing::written_cons, crate::proofs::Writing::written_none, crate::proofs::Rows::from_end, crate::proofs::Rows::cases_are))]
     fn print_cases(&self, items: &[CaseItem], page: &mut Page) -> Result<(), AllocError>
-        ensures { IfOk result (λ _. Prints page.old page.new
-            (print_cases self.now.layout page.old.margin.items
-            (shape_of_cases (S.bytes self.now.source.now)
-            (cases_of (map view_case_item items.now))))) }
+        ensures { OnOk result (LaysOut S.bytes self.now page.old page.new
+            print_cases shape_of_cases (cases_of (map view_case_item items.now))) }
     {
         for item in items {
             self.print_case(item, page)?;
@@ -506,9 +479,8 @@ impl<'a, S: Source> Printer<'a, S> {
     /// An item of a `case`, below its comments.
     #[cycle(print)]
     fn print_case(&self, item: &CaseItem, page: &mut Page) -> Result<(), AllocError>
-        ensures { IfOk result (λ _. Prints page.old page.new
-            (print_case self.now.layout page.old.margin.items
-            (shape_of_case (S.bytes self.now.source.now) (view_case_item item.now)))) }
+        ensures { OnOk result (LaysOut S.bytes self.now page.old page.new
+            print_case shape_of_case (view_case_item item.now)) }
     {
         self.print_comment_lines(&item.comments, page)?;
         page.begin_line()?;
@@ -523,9 +495,8 @@ impl<'a, S: Source> Printer<'a, S> {
     /// them it stands on the line of the patterns.
     #[cycle(print)]
     fn print_body(&self, body: &List, page: &mut Page) -> Result<(), AllocError>
-        ensures { IfOk result (λ _. Prints page.old page.new
-            (print_body self.now.layout page.old.margin.items
-            (shape_of (S.bytes self.now.source.now) (view_list body.now)))) }
+        ensures { OnOk result (LaysOut S.bytes self.now page.old page.new
+            print_body shape_of (view_list body.now)) }
     {
         if body.entries.is_empty() {
             return page.put(b" ");

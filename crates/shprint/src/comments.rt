@@ -1,11 +1,11 @@
-//! Comments, and the operators that they stand around.
+//! Comments, and the operators of chains, after which comments may stand.
 #![tactic(auto, using(crate::proofs::Writing::written_append, crate::proofs::Writing::written_cons, crate::proofs::Writing::written_none))]
 
-ghost use Rattle.std.specs.Prelude.{◌≡◌, ℕ, IfOk, List as Row, map, option_map};
+ghost use Rattle.std.specs.Prelude.{◌≡◌, ℕ, List as Row, OnOk, map, option_map};
 ghost use Rattle.shast.specs.Shape.{shape_of_comment, shape_of_comments, shape_of_join};
 ghost use Rattle.shast.specs.View.{view_comment, view_join};
 ghost use Rattle.shprint.specs.Printed.{breaks_line, print_comment_lines, print_comments, print_further_comments, print_own_comment};
-ghost use Rattle.shprint.specs.Written.{Prints, print_join_on};
+ghost use Rattle.shprint.specs.Written.{Prints, Puts, print_join_on};
 
 use crate::page::Page;
 use crate::printer::Printer;
@@ -28,9 +28,9 @@ impl<'a, S: Source> Printer<'a, S> {
         comments: &[Comment],
         page: &mut Page,
     ) -> Result<(), AllocError>
-        ensures { IfOk result (λ _. Prints page.old page.new
-            (print_comment_lines page.old.margin.items
-            (shape_of_comments (S.bytes self.now.source.now) (map view_comment comments.now)))) }
+        ensures { OnOk result (Puts S.bytes self.now page.old page.new
+            (print_comment_lines page.old.margin.items)
+            shape_of_comments (map view_comment comments.now)) }
     {
         for comment in comments {
             page.begin_line()?;
@@ -47,9 +47,9 @@ impl<'a, S: Source> Printer<'a, S> {
         comments: &[Comment],
         page: &mut Page,
     ) -> Result<(), AllocError>
-        ensures { IfOk result (λ _. Prints page.old page.new
-            (print_further_comments page.old.margin.items
-            (shape_of_comments (S.bytes self.now.source.now) (map view_comment comments.now)))) }
+        ensures { OnOk result (Puts S.bytes self.now page.old page.new
+            (print_further_comments page.old.margin.items)
+            shape_of_comments (map view_comment comments.now)) }
     {
         for comment in comments {
             page.next_line()?;
@@ -64,9 +64,9 @@ impl<'a, S: Source> Printer<'a, S> {
         comments: &[Comment],
         page: &mut Page,
     ) -> Result<(), AllocError>
-        ensures { IfOk result (λ _. Prints page.old page.new
-            (print_comments page.old.margin.items
-            (shape_of_comments (S.bytes self.now.source.now) (map view_comment comments.now)))) }
+        ensures { OnOk result (Puts S.bytes self.now page.old page.new
+            (print_comments page.old.margin.items)
+            shape_of_comments (map view_comment comments.now)) }
     {
         let Some((first, rest)) = comments.split_first() else {
             return Ok(());
@@ -82,7 +82,7 @@ impl<'a, S: Source> Printer<'a, S> {
         comment: Option<Comment>,
         page: &mut Page,
     ) -> Result<(), AllocError>
-        ensures { IfOk result (λ _. Prints page.old page.new
+        ensures { OnOk result (Prints page.old page.new
             (print_own_comment (option_map (shape_of_comment (S.bytes self.now.source.now))
             (option_map view_comment comment)))) }
     {
@@ -100,9 +100,8 @@ impl<'a, S: Source> Printer<'a, S> {
         join: &Join,
         page: &mut Page,
     ) -> Result<(), AllocError>
-        ensures { IfOk result (λ _. Prints page.old page.new
-            (print_join_on page.old.margin.items operator.now
-            (shape_of_join (S.bytes self.now.source.now) (view_join join.now)))) }
+        ensures { OnOk result (Puts S.bytes self.now page.old page.new
+            (print_join_on page.old.margin.items operator.now) shape_of_join (view_join join.now)) }
     {
         page.put(b" ")?;
         page.put(operator)?;

@@ -1,15 +1,13 @@
 //! Words, redirections and patterns: what stands on a line after something else.
 #![tactic(auto, using(crate::proofs::Writing::written_append, crate::proofs::Writing::written_cons, crate::proofs::Writing::written_none))]
 
-ghost use Rattle.std.specs.Prelude.{◌≡◌, ◌++◌, ◌∷◌, ◌==◌, ◌&&◌, ◌||◌, [], IfOk, IfSome, Some, false, map, option_map};
+ghost use Rattle.std.specs.Prelude.{◌≡◌, ◌++◌, ◌∷◌, [], IfSome, OnOk, Some, false, map, option_map};
 ghost use Rattle.shast.specs.Shape.{bare_at, shape_of_here, shape_of_item, shape_of_items, shape_of_patterns, shape_of_word, text_at};
 ghost use Rattle.shast.specs.Spelling.{redirect_text};
 ghost use Rattle.shast.specs.Tree.{item, items_of, patterns_of};
 ghost use Rattle.shast.specs.View.{view_here, view_item, view_redirection, view_word};
-ghost use Rattle.shgrammar.specs.HereDocuments.{delimiter_of};
-ghost use Rattle.shprint.specs.Marks.{text};
-ghost use Rattle.shprint.specs.Printed.{delimiter_line, duplicates, print_first_pattern, print_gap, print_here, print_item, print_items, print_number, print_operator, print_patterns, print_simple, print_word, would_lengthen};
-ghost use Rattle.shprint.specs.Written.{Prints};
+ghost use Rattle.shprint.specs.Printed.{duplicates, print_first_pattern, print_gap, print_here, print_item, print_items, print_number, print_operator, print_patterns, print_simple, print_word, would_lengthen};
+ghost use Rattle.shprint.specs.Written.{LaysOut, Prints, Puts, delimiter_line_at};
 
 use crate::page::Page;
 use crate::printer::Printer;
@@ -49,7 +47,7 @@ fn duplicates(operator: RedirectOperator) -> bool
 impl<'a, S: Source> Printer<'a, S> {
     /// What parts an item from what stands before it: a space, or a continuation.
     fn print_gap(&self, broken: bool, page: &mut Page) -> Result<(), AllocError>
-        ensures { IfOk result (λ _. Prints page.old page.new
+        ensures { OnOk result (Prints page.old page.new
             (print_gap self.now.layout page.old.margin.items broken)) }
     {
         if !broken {
@@ -65,14 +63,14 @@ impl<'a, S: Source> Printer<'a, S> {
 
     /// A word as it stands, with its substitutions.
     pub(crate) fn print_word(&self, word: &Word, page: &mut Page) -> Result<(), AllocError>
-        ensures { IfOk result (λ _. Prints page.old page.new
-            (print_word (shape_of_word (S.bytes self.now.source.now) (view_word word.now)))) }
+        ensures { OnOk result (Puts S.bytes self.now page.old page.new
+            print_word shape_of_word (view_word word.now)) }
     {
         self.print_text(word.span, page)
     }
 
     fn print_number(&self, number: Option<Span>, page: &mut Page) -> Result<(), AllocError>
-        ensures { IfOk result (λ _. Prints page.old page.new
+        ensures { OnOk result (Prints page.old page.new
             (print_number (option_map (bare_at (S.bytes self.now.source.now)) number))) }
     {
         match number {
@@ -99,9 +97,8 @@ impl<'a, S: Source> Printer<'a, S> {
         word: &Word,
         page: &mut Page,
     ) -> Result<(), AllocError>
-        ensures { IfOk result (λ _. Prints page.old page.new
-            (print_operator self.now.layout operator
-            (shape_of_word (S.bytes self.now.source.now) (view_word word.now)))) }
+        ensures { OnOk result (Puts S.bytes self.now page.old page.new
+            (print_operator self.now.layout operator) shape_of_word (view_word word.now)) }
     {
         page.put(redirect_text(operator))?;
         let spaced = self.layout.space_redirects && !duplicates(operator);
@@ -112,9 +109,8 @@ impl<'a, S: Source> Printer<'a, S> {
     }
 
     fn print_item(&self, item: &Item, page: &mut Page) -> Result<(), AllocError>
-        ensures { IfOk result (λ _. Prints page.old page.new
-            (print_item self.now.layout
-            (shape_of_item (S.bytes self.now.source.now) (view_item item.now)))) }
+        ensures { OnOk result (Puts S.bytes self.now page.old page.new
+            (print_item self.now.layout) shape_of_item (view_item item.now)) }
     {
         match &item.what {
             ItemContent::Assign(word) | ItemContent::Word(word) => self.print_word(word, page),
@@ -123,10 +119,9 @@ impl<'a, S: Source> Printer<'a, S> {
     }
 
     fn print_redirection(&self, redirect: &Redirection, page: &mut Page) -> Result<(), AllocError>
-        ensures { IfOk result (λ _. Prints page.old page.new
-            (print_item self.now.layout
-            (shape_of_item (S.bytes self.now.source.now)
-            (item false (view_redirection redirect.now))))) }
+        ensures { OnOk result (Puts S.bytes self.now page.old page.new
+            (print_item self.now.layout)
+            shape_of_item (item false (view_redirection redirect.now))) }
     {
         self.print_number(redirect.number, page)?;
         self.print_operator(redirect.operator, &redirect.word, page)?;
@@ -144,7 +139,7 @@ impl<'a, S: Source> Printer<'a, S> {
         here: HereDocument,
         page: &mut Page,
     ) -> Result<(), AllocError>
-        ensures { IfOk result (λ _. Prints page.old page.new
+        ensures { OnOk result (Prints page.old page.new
             (print_here (shape_of_word (S.bytes self.now.source.now) (view_word word.now))
             (Some (shape_of_here (S.bytes self.now.source.now) (view_here here))))) }
     {
@@ -157,8 +152,7 @@ impl<'a, S: Source> Printer<'a, S> {
     #[tactic(auto, using(crate::proofs::Copying::run_enough))]
     fn delimiter_here(&self, word: Span) -> Option<&[u8]>
         ensures { IfSome result
-            (λ text. text.now ++ 10 ∷ []
-            ≡ delimiter_line (delimiter_of (text_at (S.bytes self.now.source.now) word))) }
+            (λ text. text.now ++ 10 ∷ [] ≡ delimiter_line_at (S.bytes self.now.source.now) word) }
     {
         let length = word.end.checked_sub(word.start)?;
         let run = self.source.run(word.start);
@@ -170,8 +164,8 @@ impl<'a, S: Source> Printer<'a, S> {
 
     /// The line of the delimiter that the word at this span is.
     fn copy_delimiter(&self, word: Span, text: &mut Vec<u8>) -> Result<(), AllocError>
-        ensures { IfOk result (λ _. text.new.items ≡ text.old.items
-            ++ delimiter_line (delimiter_of (text_at (S.bytes self.now.source.now) word))) }
+        ensures { OnOk result (text.new.items ≡ text.old.items
+            ++ delimiter_line_at (S.bytes self.now.source.now) word) }
     {
         let Some(delimiter) = self.delimiter_here(word) else {
             return self.copy_unquoted(word, text);
@@ -184,8 +178,8 @@ impl<'a, S: Source> Printer<'a, S> {
     /// The same, by a look at each byte of the word.
     #[cold]
     fn copy_unquoted(&self, word: Span, text: &mut Vec<u8>) -> Result<(), AllocError>
-        ensures { IfOk result (λ _. text.new.items ≡ text.old.items
-            ++ delimiter_line (delimiter_of (text_at (S.bytes self.now.source.now) word))) }
+        ensures { OnOk result (text.new.items ≡ text.old.items
+            ++ delimiter_line_at (S.bytes self.now.source.now) word) }
     {
         let mut bytes = Vec::new(self.alloc);
         self.copy(word, &mut bytes)?;
@@ -200,9 +194,8 @@ impl<'a, S: Source> Printer<'a, S> {
     /// Items after others, or after a closer or the `in` of a `for`.
     #[tactic(auto, using(crate::proofs::Writing::written_append, crate::proofs::Writing::written_cons, crate::proofs::Writing::written_none, crate::proofs::Rows::from_end, crate::proofs::Rows::items_are))]
     pub(crate) fn print_items(&self, items: &[Item], page: &mut Page) -> Result<(), AllocError>
-        ensures { IfOk result (λ _. Prints page.old page.new
-            (print_items self.now.layout page.old.margin.items
-            (shape_of_items (S.bytes self.now.source.now) (items_of (map view_item items.now))))) }
+        ensures { OnOk result (LaysOut S.bytes self.now page.old page.new
+            print_items shape_of_items (items_of (map view_item items.now))) }
     {
         for item in items {
             self.print_gap(item.broken, page)?;
@@ -213,9 +206,8 @@ impl<'a, S: Source> Printer<'a, S> {
 
     /// The items of a simple command.
     pub(crate) fn print_simple(&self, items: &[Item], page: &mut Page) -> Result<(), AllocError>
-        ensures { IfOk result (λ _. Prints page.old page.new
-            (print_simple self.now.layout page.old.margin.items
-            (shape_of_items (S.bytes self.now.source.now) (items_of (map view_item items.now))))) }
+        ensures { OnOk result (LaysOut S.bytes self.now page.old page.new
+            print_simple shape_of_items (items_of (map view_item items.now))) }
     {
         let Some((first, rest)) = items.split_first() else {
             return Ok(());
@@ -236,9 +228,8 @@ impl<'a, S: Source> Printer<'a, S> {
     /// The patterns of an item of a `case` after the first one.
     #[tactic(auto, using(crate::proofs::Writing::written_append, crate::proofs::Writing::written_cons, crate::proofs::Writing::written_none, crate::proofs::Rows::from_end, crate::proofs::Rows::patterns_are))]
     fn print_patterns(&self, patterns: &[Word], page: &mut Page) -> Result<(), AllocError>
-        ensures { IfOk result (λ _. Prints page.old page.new
-            (print_patterns (shape_of_patterns (S.bytes self.now.source.now)
-            (patterns_of (map view_word patterns.now))))) }
+        ensures { OnOk result (Puts S.bytes self.now page.old page.new
+            print_patterns shape_of_patterns (patterns_of (map view_word patterns.now))) }
     {
         for pattern in patterns {
             page.put(b" | ")?;
@@ -253,9 +244,8 @@ impl<'a, S: Source> Printer<'a, S> {
         patterns: &[Word],
         page: &mut Page,
     ) -> Result<(), AllocError>
-        ensures { IfOk result (λ _. Prints page.old page.new
-            (print_first_pattern (shape_of_patterns (S.bytes self.now.source.now)
-            (patterns_of (map view_word patterns.now))))) }
+        ensures { OnOk result (Puts S.bytes self.now page.old page.new
+            print_first_pattern shape_of_patterns (patterns_of (map view_word patterns.now))) }
     {
         let Some((first, rest)) = patterns.split_first() else {
             return Ok(());

@@ -4,7 +4,8 @@
 //! entries on a [`Page`]; [`message`] is the line that tells a fault, and [`add_bare`] copies a name or a
 //! number. No reader is needed here: the crate `shpieces` prints scripts while they are read. What is printed
 //! for a tree is `printed` in `specs/Printed`, by cases, one for each rule of the layout. A function of
-//! `commands`, `items` or `comments` prints what the definition of its name there says.
+//! `commands`, `items` or `comments` prints what the definition of its name there, or in `specs/Written`,
+//! says; the words of their clauses stand in the latter.
 #![tactic(auto)]
 
 mod bare;

@@ -1,9 +1,9 @@
 //! What is printed so far.
 #![tactic(auto, using(crate::proofs::Writing::written_append, crate::proofs::Writing::written_cons, crate::proofs::Writing::written_text, crate::proofs::Writing::written_line, crate::proofs::Writing::written_document))]
 
-ghost use Rattle.std.specs.Prelude.{◌≡◌, [], ◌∷◌, IfOk};
-ghost use Rattle.shprint.specs.Marks.{line_end, text};
-ghost use Rattle.shprint.specs.Written.{Deepens, Prints};
+ghost use Rattle.std.specs.Prelude.{◌≡◌, [], ◌∷◌, OnOk};
+ghost use Rattle.shprint.specs.Marks.{deeper, line_end, one};
+ghost use Rattle.shprint.specs.Written.{Prints, SetsMargin};
 
 use crate::layout::Layout;
 use std::alloc::{AllocError, Global};
@@ -32,14 +32,14 @@ impl Page {
     /// Prints these bytes.
     #[inline(always)]
     pub(crate) fn put(&mut self, bytes: &[u8]) -> Result<(), AllocError>
-        ensures { IfOk result (λ _. Prints self.old self.new (text bytes.now ∷ [])) }
+        ensures { OnOk result (Prints self.old self.new (one bytes.now)) }
     {
         self.text.extend_from_slice(bytes)
     }
 
     /// Ends a line. What waited for this stands after it.
     pub(crate) fn end_line(&mut self) -> Result<(), AllocError>
-        ensures { IfOk result (λ _. Prints self.old self.new (line_end ∷ [])) }
+        ensures { OnOk result (Prints self.old self.new (line_end ∷ [])) }
     {
         self.text.push(b'\n')?;
         // Most often nothing waits.
@@ -52,7 +52,7 @@ impl Page {
 
     /// Begins a line.
     pub(crate) fn begin_line(&mut self) -> Result<(), AllocError>
-        ensures { IfOk result (λ _. Prints self.old self.new (text self.old.margin.items ∷ [])) }
+        ensures { OnOk result (Prints self.old self.new (one self.old.margin.items)) }
     {
         // Most lines have no margin: they are spared the call that appends nothing.
         if self.margin.is_empty() {
@@ -63,8 +63,7 @@ impl Page {
 
     /// Ends a line and begins the next one.
     pub(crate) fn next_line(&mut self) -> Result<(), AllocError>
-        ensures { IfOk result (λ _. Prints self.old self.new
-            (line_end ∷ text self.old.margin.items ∷ [])) }
+        ensures { OnOk result (Prints self.old self.new (line_end ∷ one self.old.margin.items)) }
     {
         self.end_line()?;
         self.begin_line()
@@ -72,7 +71,7 @@ impl Page {
 
     /// From here on lines begin one level deeper, until the margin is cut to its old length.
     pub(crate) fn deepen(&mut self, layout: Layout) -> Result<(), AllocError>
-        ensures { IfOk result (λ _. Deepens layout self.old self.new) }
+        ensures { OnOk result (SetsMargin self.old self.new (deeper layout self.old.margin.items)) }
     {
         if layout.indent == 0 {
             self.margin.push(b'\t')?;

@@ -1,15 +1,15 @@
 //! What prints a tree, and the texts that it copies from the source.
 #![tactic(auto, using(crate::proofs::Writing::written_text, crate::proofs::Writing::written_first))]
 
-ghost use Rattle.std.specs.Prelude.{◌≡◌, [], ◌∷◌, ◌++◌, IfOk, None};
+ghost use Rattle.std.specs.Prelude.{◌≡◌, ◌++◌, IfOk, None, OnOk};
 ghost use Rattle.shgrammar.specs.Scripts.{view_script};
 ghost use Rattle.shgrammar.specs.declared.edition.Edition.{Edition};
 ghost use Rattle.shgrammar.specs.Scripts.{Outcome};
 ghost use Rattle.shast.specs.Shape.{bare_at, shape_of, text_at};
-ghost use Rattle.shprint.specs.Marks.{text};
+ghost use Rattle.shprint.specs.Marks.{one};
 ghost use Rattle.shprint.specs.Printed.{printed};
 ghost use Rattle.shprint.specs.ReadBack.{IsOutcome, ReadsBack};
-ghost use Rattle.shprint.specs.Written.{Prints};
+ghost use Rattle.shprint.specs.Written.{Puts};
 
 use crate::bare::add_bare;
 use crate::layout::Layout;
@@ -35,7 +35,7 @@ impl<'a, S: Source> Printer<'a, S> {
     /// what prints a short text in place stays small.
     #[inline(never)]
     pub(crate) fn copy(&self, span: Span, text: &mut Vec<u8>) -> Result<(), AllocError>
-        ensures { IfOk result (λ _. text.new.items ≡ text.old.items
+        ensures { OnOk result (text.new.items ≡ text.old.items
             ++ text_at (S.bytes self.now.source.now) span) }
     {
         let mut at = span.start;
@@ -60,8 +60,7 @@ impl<'a, S: Source> Printer<'a, S> {
     /// known beforehand is some moves in place, and no call that asks for their number.
     #[inline(always)]
     pub(crate) fn print_text(&self, span: Span, page: &mut Page) -> Result<(), AllocError>
-        ensures { IfOk result (λ _. Prints page.old page.new
-            (text (text_at (S.bytes self.now.source.now) span) ∷ [])) }
+        ensures { OnOk result (Puts S.bytes self.now page.old page.new one text_at span) }
     {
         let wanted = span.end.saturating_sub(span.start);
         match self.source.run(span.start).first_chunk::<ROW>() {
@@ -77,8 +76,7 @@ impl<'a, S: Source> Printer<'a, S> {
 
     /// Prints the bytes of a span without its continuations.
     pub(crate) fn print_bare_text(&self, span: Span, page: &mut Page) -> Result<(), AllocError>
-        ensures { IfOk result (λ _. Prints page.old page.new
-            (text (bare_at (S.bytes self.now.source.now) span) ∷ [])) }
+        ensures { OnOk result (Puts S.bytes self.now page.old page.new one bare_at span) }
     {
         add_bare(&mut page.text, self.source, span)
     }

@@ -1,14 +1,13 @@
 //! Words that stand in the source as they are printed: one blank apart. They are copied at once.
 #![tactic(auto)]
 
-ghost use Rattle.std.specs.Prelude.{◌≡◌, ◌≤◌, [], ◌∷◌, IfSome, map};
-ghost use Rattle.shast.specs.Shape.{Text, shape_of_item, shape_of_items, text_at};
-ghost use Rattle.shast.specs.Tree.{items_of};
+ghost use Rattle.std.specs.Prelude.{◌≡◌, ◌≤◌, ◌∷◌, IfSome};
+ghost use Rattle.shast.specs.Shape.{Text, shape_of_item, text_at};
 ghost use Rattle.shast.specs.View.{view_item};
 ghost use Rattle.shprint.specs.declared.layout.Layout.{Layout};
 ghost use Rattle.shprint.specs.Marks.{one, text};
-ghost use Rattle.shprint.specs.Printed.{print_item, print_items};
-ghost use Rattle.shprint.specs.Written.{Sheet, item_after, stretch, written};
+ghost use Rattle.shprint.specs.Printed.{print_item};
+ghost use Rattle.shprint.specs.Written.{PrintAlike, item_after, marks_of_items, stretch};
 
 use crate::printer::Printer;
 use shast::{Item, ItemContent, Span};
@@ -16,8 +15,9 @@ use shtext::Source;
 
 /// The span of an item that is a word, or an assignment.
 pub(crate) fn word_span(item: &Item) -> Option<Span>
-    ensures { IfSome result (λ span. (span.start ≤ span.«end») × ((bytes : Text) (y : Layout) →
-        print_item y (shape_of_item bytes (view_item item.now)) ≡ text (text_at bytes span) ∷ [])) }
+    ensures ordered { IfSome result (λ span. span.start ≤ span.«end») }
+    ensures printed { IfSome result (λ span. (bytes : Text) (y : Layout) →
+        print_item y (shape_of_item bytes (view_item item.now)) ≡ one (text_at bytes span)) }
 {
     let span = match &item.what {
         ItemContent::Assign(word) | ItemContent::Word(word) => word.span,
@@ -33,10 +33,10 @@ pub(crate) fn word_span(item: &Item) -> Option<Span>
 impl<'a, S: Source> Printer<'a, S> {
     /// Where an item ends that is a word one blank after this offset, and stands on the same line.
     fn word_after(&self, end: usize, item: &Item) -> Option<usize>
-        ensures { IfSome result (λ next. (end ≤ next) × ((y : Layout) (margin : Text) (s : Sheet) →
-            written s (item_after y margin
-            (shape_of_item (S.bytes self.now.source.now) (view_item item.now)))
-            ≡ written s (one (stretch (S.bytes self.now.source.now) end next)))) }
+        ensures onward { IfSome result (λ next. end ≤ next) }
+        ensures word { IfSome result (λ next. (y : Layout) (margin : Text) → PrintAlike
+            (item_after y margin (shape_of_item (S.bytes self.now.source.now) (view_item item.now)))
+            (one (stretch (S.bytes self.now.source.now) end next))) }
     {
         let span = word_span(item)?;
         if item.broken || span.start.checked_sub(1) != Some(end) {
@@ -48,17 +48,14 @@ impl<'a, S: Source> Printer<'a, S> {
         }
     }
 
-    /// Takes the first of these items as long as they stand, from an offset on, as they are
-    /// printed: where the last of them ends, and the others.
+    /// Passes the items at the front that stand in the source as they are printed, one blank after this
+    /// offset and then after each other: answers where the last of them ends, and the items that are left.
     pub(crate) fn words_after<'b>(&self, start: usize, items: &'b [Item]) -> (usize, &'b [Item])
         ensures onward { start ≤ result.0 }
-        ensures words { (y : Layout) (margin : Text) (s : Sheet) →
-            written s (print_items y margin
-            (shape_of_items (S.bytes self.now.source.now) (items_of (map view_item items.now))))
-            ≡ written s (text (stretch (S.bytes self.now.source.now) start result.0)
-            ∷ print_items y margin
-            (shape_of_items (S.bytes self.now.source.now)
-            (items_of (map view_item result.1.now)))) }
+        ensures words { (y : Layout) (margin : Text) → PrintAlike
+            (marks_of_items (S.bytes self.now.source.now) y margin items.now)
+            (text (stretch (S.bytes self.now.source.now) start result.0)
+            ∷ marks_of_items (S.bytes self.now.source.now) y margin result.1.now) }
     {
         let mut end = start;
         let mut rest = items;

@@ -4,13 +4,13 @@ use Rattle.std.proofs.lemmas.Bool.Decides.{nat_tests}
 use Rattle.shast.specs.Shape.{shape_of, shape_of_branch, shape_of_branches}
 use Rattle.shast.specs.Tree.{branches_of}
 use Rattle.shast.specs.View.{view_branch, view_case_item, view_entry, view_list}
-use Rattle.shast.proofs.Seen.{and_or_part_seen, and_or_seen, branch_seen, case_item_seen, case_seen, compound_seen, entry_seen, for_seen, for_words_seen, function_seen, if_else_seen, if_seen, pipeline_part_seen, pipeline_seen}
+use Rattle.shast.proofs.Seen.{and_or_part_seen, and_or_seen, branch_seen, case_item_seen, case_seen, compound_seen, entry_seen, for_seen, for_words_seen, if_else_seen, if_seen, pipeline_part_seen, pipeline_seen}
 use Rattle.shprint.specs.Marks.{deeper, lines_between, one, text}
 use Rattle.shprint.specs.Printed.{print_branch, print_branches, print_entries}
 use Rattle.shprint.specs.Written.{sheet}
-use Rattle.shprint.proofs.Parts.{body_some, case_cut, list_seen, only_none, operand_cut, written_case, written_esac, written_parts}
+use Rattle.shprint.proofs.Parts.{body_some, case_cut, function_printed, list_seen, only_none, operand_cut, written_case, written_esac, written_parts}
 use Rattle.shprint.proofs.Rows.{branch_marks, case_marks, entry_marks, from_more, parts_end, parts_more, pipes_end, pipes_more}
-use Rattle.shprint.proofs.Writing.{written_append, written_cons, written_none}
+use Rattle.shprint.proofs.Writing.{on_ok_then, written_append, written_cons, written_none}
 use Rattle.shprint.proofs.printer.Printer.+print.Goals as goal
 
 pub print_and_or-returns : goal.print_and_or-returns
@@ -101,7 +101,11 @@ print_case_items-returns g t c =
 
 pub print_function-returns : goal.print_function-returns
 print_function-returns g t c =
-    grind (arith, written_append, written_cons, function_seen)
+    on_ok_then c.print_compound.result c.print_compound.ensures
+    (function_printed (g.S.Source.bytes c.args.self.now.source.now) c.args.self.now.layout c.args.function.now
+    c.args.page.now c.print_text.new.page c.put.new.self c.print_function_gap.new.page c.print_compound.new.page
+    c.in_ok-print_text.ensures c.in_ok-put.ensures
+    (rw c.deref.ensures.value at c.in_ok-print_function_gap.ensures))
 
 pub print_compound-returns : goal.print_compound-returns
 print_compound-returns g t c =
@@ -147,7 +151,8 @@ print_form-returns-in_ok-print_lines_between-in-For g t c =
 
 pub print_form-returns-in_ok-begin_line-in-Case : goal.print_form-returns-in_ok-begin_line-in-Case
 print_form-returns-in_ok-begin_line-in-Case g t c =
-    grind (arith, written_esac, case_seen)
+    on_ok_then c.put-in-Case.result c.put-in-Case.ensures
+    (λ last. (grind (arith, written_esac, case_seen, last.0), grind (arith, last.1)))
 
 pub print_lines_between-returns : goal.print_lines_between-returns
 print_lines_between-returns g t c =

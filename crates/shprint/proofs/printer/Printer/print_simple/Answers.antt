@@ -20,5 +20,5 @@ returns g c =
     simple_printed bytes layout page.margin.items
     (sheet page) c.in-Some-word_span.span c.words_after-end.result.0 c.in-Some.first.now c.in-Some.rest.now
     c.words_after-end.result.1.now
-    (word.1 bytes layout) word.0 behind.onward (behind.words layout page.margin.items) in
+    (word.printed bytes layout) word.ordered behind.onward (behind.words layout page.margin.items) in
     grind (arith, told, split, c.in_ok-print_text.ensures, c.print_items-2.ensures)

@@ -14,8 +14,9 @@ returns-in-Some-eq32 g c =
     let unbroken : is_broken_item (shape_of_item bytes (view_item c.args.item.now)) ≡ false =
     grind (arith, item_seen, c.if-item.false) in
     let blank : slice_get bytes c.args.end ≡ Some 32 =
-    grind (arith, c.byte.ensures, c.in-Some-eq32.is, c.in-Some-eq32.field-0-test) in (
-      omega (arith, next, c.in_ok-span.ensures.0),
-      λ y m t. word_is bytes y m _ c.args.end span unbroken
-          (c.in_ok-span.ensures.1 bytes y) blank next c.in_ok-span.ensures.0 t,
-    )
+    grind (arith, c.byte.ensures, c.in-Some-eq32.is, c.in-Some-eq32.field-0-test) in record {
+      onward = omega (arith, next, c.in_ok-span.ensures.ordered);
+      word =
+          λ y m t. word_is bytes y m _ c.args.end span unbroken
+          (c.in_ok-span.ensures.printed bytes y) blank next c.in_ok-span.ensures.ordered t;
+    }

@@ -15,7 +15,7 @@ words-preserved g c =
     let word = c.in-Some-word_after.ensures in
     let split : c.words.rest.now ≡ c.in-Some.item.now ∷ c.in-Some.behind.now =
     grind (arith, c.in-Some.ensures, c.split_first.ensures, c.in-Some.item-is, c.in-Some.behind-is) in (
-      omega (arith, inv.0, word.0),
+      omega (arith, inv.0, word.onward),
       λ y m t. one_passed bytes y m c.args.start c.words.end c.in-Some-word_after.next _ c.in-Some.item.now
-          c.in-Some.behind.now inv.0 word.0 (λ t. rw split at (inv.1 y m t)) (word.1 y m) t,
+          c.in-Some.behind.now inv.0 word.onward (λ t. rw split at (inv.1 y m t)) (word.word y m) t,
     )
