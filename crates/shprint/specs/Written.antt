@@ -43,7 +43,7 @@ PrintAlike ms ns = (s : Sheet) → written s ms ≡ written s ns
 
 -- ---- a printer
 
--- What a definition gives for a shape was printed: that of a part of a tree, over the bytes of the source.
+-- What a definition gives for a part of a tree was printed: for its shape over the bytes of the source.
 abbrev pub Puts : {S X Y : Type 0} → (S → Text) → Printer S → Page → Page → (Y → Marks) → (Text → X → Y) → X → Type 0
 Puts bytes printer before after definition shape part =
     Prints before after (definition (shape (bytes printer.source.now) part))
@@ -86,13 +86,13 @@ print_lines_between y margin es = lines_between margin (print_entries y (deeper 
 abbrev pub print_group : Text → Text → Layout → Text → Shape EntriesOf → Marks
 print_group opener closer y margin es = text opener ∷ print_lines_between y margin es ++ one closer
 
--- a condition between its keyword and what opens its body
+-- a condition between what opens it and what opens its body
 abbrev pub print_condition : Layout → Text → Shape EntriesOf → Marks
 print_condition y margin condition =
     if is_one_line condition then text (codes " ") ∷ print_only y margin condition ++ one (codes "; ")
     else print_lines_between y margin condition
 
--- a loop of this keyword, `while` or `until`
+-- a loop that this reserved word opens, `while` or `until`
 abbrev pub print_loop : Text → Layout → Text → Shape ABranchOf → Marks
 print_loop opener y margin b = print_branch y margin opener (codes "do") b ++ one (codes "done")
 

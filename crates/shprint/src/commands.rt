@@ -51,7 +51,7 @@ fn is_bare(entry: &Entry) -> bool
     !entry.background && entry.comment.is_none() && is_command(&entry.what)
 }
 
-/// Whether a condition stands on the line of its keyword.
+/// Whether a condition stands on the line of the reserved word before it.
 fn is_one_line(condition: &[Entry]) -> bool
     ensures { (bytes : Row ℕ) →
         result ≡ is_one_line (shape_of bytes (entries_of (map view_entry condition.now))) }
@@ -405,7 +405,7 @@ impl<'a, S: Source> Printer<'a, S> {
         self.print_lines_between(&branch.body, page)
     }
 
-    /// A condition on the line of its keyword, or on lines of its own.
+    /// A condition on the line of the reserved word before it, or on lines of its own.
     #[cycle(print)]
     fn print_condition(&self, condition: &List, page: &mut Page) -> Result<(), AllocError>
         ensures { OnOk result (LaysOut S.bytes self.now page.old page.new
