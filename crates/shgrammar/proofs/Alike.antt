@@ -25,7 +25,7 @@ use Rattle.shgrammar.specs.Comments.{span}
 use Rattle.shgrammar.specs.Sights.{Given, State, Sight, seen, the_piece, Move}
 use Rattle.shgrammar.specs.HereDocuments.{ADelimiter, Change, changed, own_level, outer_level}
 use Rattle.shgrammar.specs.Form.{raw, nothing_read, change, with_bytes, a_level, Spelled, Telling, Read, ◌▸◌, Form, give, see, move, push, stop, both, when, token, many, ends_as, with_end, ◌>>=◌, Step, again, done, step_if, leads_on, turns, does, in_substitution}
-use Rattle.shgrammar.specs.Words.{single, escaped_turn, backquoted_text, Inner, WordSoFar, having, opened, piece_row, a_piece, contents, a_word}
+use Rattle.shgrammar.specs.Words.{single, escaped_turn, backquoted_text, Inner, WordSoFar, having, opened, piece_row, a_piece, contents, a_word, dollar_single}
 use Rattle.shgrammar.specs.Levels.{level}
 use Rattle.shgrammar.specs.Tokens.{is_end}
 use Rattle.shgrammar.specs.Commands.{pick, is_newline_token, is_semicolon, a_semicolon, a_join_of, is_pipe, is_bang, begins_simple, begins_word, begins_redirect, begins_pipeline, opener_of, compound_by, and_or_operator_of, next_token, Items, so_many, breaks, after_word, is_number_token, redirect_operator_of, takes_here, is_long, is_strip, document_by, a_document, none_waits, nothing_waits, a_number, an_operator, operator_by, a_target, one_redirect, after_redirect, redirect_turn, with_redirect_list, an_item, item_by, item_turn, a_simple, comment_by, a_comment, a_newline, what_is_wrong, unexpected, JoinSo, join_so, with_comment, join_turn, a_join, a_command, a_bang, Piped, piped, one_command, pipe_turn, a_pipeline, Joined, joined_so, one_pipeline, joined_by, join_pipeline, an_and_or, separator_of, separator_by, a_separator, Entered, an_entry, a_word_command, is_word, is_paren, named_function, ASeparator, past_separator, ends_item, falls_through}
@@ -35,7 +35,6 @@ use Rattle.shgrammar.specs.Compounds.{is_closing, is_open_paren, is_close_paren,
 use Rattle.shgrammar.specs.Substitutions.{substitution_list, a_substitution, one_substitution}
 use Rattle.shgrammar.proofs.Turns.{turns_on, turns_rest, turns_done, turns_fault}
 use Rattle.shast.specs.Nodes.{word_span}
-use Rattle.shgrammar.specs.Words.{dollar_single}
 
 -- both give something, of which S holds, and end in one state; or both stop with one fault
 abbrev pub Like : {X Y : Type 0} → (X → Y → Type 0) → Read X → Read Y → Type 0

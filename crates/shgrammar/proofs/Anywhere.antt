@@ -14,7 +14,7 @@ use Rattle.shgrammar.specs.Bytes.{ends, ends_word, byte_at, stands}
 use Rattle.shast.specs.Tree.{ASubst, AWord, AWordOf, word, substs_of}
 use Rattle.shgrammar.specs.Sights.{Sight, seen, Move, Given, given, State, standing}
 use Rattle.shgrammar.specs.Form.{moved_on, many, Spelled, as_it_stands, Read, ◌▸◌, Form, give, see, move, both, token, Step, again, done, does, Comes, may, raw, Just, just, Then, and_then, or_stops, OneToken, whole, broken_off}
-use Rattle.shgrammar.specs.Words.{WordSoFar, having, opened, piece_row, a_piece, single, escaped_turn, backquoted_text, Inner, contents, a_word}
+use Rattle.shgrammar.specs.Words.{WordSoFar, having, opened, piece_row, a_piece, single, escaped_turn, backquoted_text, Inner, contents, a_word, dollar_single}
 use Rattle.shgrammar.specs.Levels.{level, ReadsWord}
 use Rattle.shgrammar.proofs.Stretches.{get_drop}
 use Rattle.shgrammar.proofs.Holds.{tells_seen, tells_many, tells_level, tells_any, Holds, holds_then, Tells, Turned, tells_so, tells_then, tells_when, tells_token, Behind, low, tells_inside}
@@ -26,7 +26,6 @@ use Rattle.shgrammar.proofs.Spelling.{raw_at}
 use Rattle.shgrammar.proofs.OneOutcome.{is}
 use Rattle.shgrammar.proofs.SameLine.{same_front}
 use Rattle.shgrammar.specs.declared.edition.Edition.{Edition}
-use Rattle.shgrammar.specs.Words.{dollar_single}
 
 just_is : {X : Type 0} {x : X} {t : State} (y : Read X) (k : Row Spelled) → Just x t y k → (y ≡ Ok (x, t)) × (k ≡ [])
 just_is y k just = (refl, refl)

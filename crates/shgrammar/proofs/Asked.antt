@@ -11,17 +11,15 @@ use Rattle.shgrammar.specs.Classes.{is_letter, is_digit, is_name, is_blank, is_s
 use Rattle.shgrammar.specs.Standing.{is_byte, is_none, at_end, raw_in, raw_stands, raw_past, next_of, next_newline, before_blanks, passes, continues}
 use Rattle.shgrammar.specs.Bytes.{past, past_blanks, past_continuations, byte_at, past_byte, stands, stands_in}
 use Rattle.shgrammar.specs.Comments.{span, comment_at, past_comment}
-use Rattle.shgrammar.specs.Pieces.{dollar_by, dollar_at, byte_by, piece_by, piece_at, past_taken, next_quote, is_last_backslash, past_parameter, rest_mode, past_closer}
+use Rattle.shgrammar.specs.Pieces.{dollar_by, dollar_at, byte_by, piece_by, piece_at, past_taken, next_quote, is_last_backslash, past_parameter, rest_mode, past_closer, closes_by, next_escaped}
 use Rattle.shgrammar.specs.Tokens.{past_digits, past_reserved}
-use Rattle.shgrammar.specs.Sights.{Move, continuations, one_taken, the_closer, the_parameter, a_quote_on, blanks, a_comment_on, the_reserved, the_digits, one_byte as byte_on, to as leads}
+use Rattle.shgrammar.specs.Sights.{Move, continuations, one_taken, the_closer, the_parameter, a_quote_on, blanks, a_comment_on, the_reserved, the_digits, one_byte as byte_on, to as leads, escaped_on}
 use Rattle.shgrammar.specs.Form.{raw}
 use Rattle.shgrammar.proofs.Stretches.{place_low, joined_more, raw_more, get_drop, blanks_before, no_blanks_before}
 use Rattle.shgrammar.proofs.Places.{next_escaped_low, must_fail, place_same, after_low, raw_past_low, raw_past_stops, raw_past_all, next_of_low, next_newline_low, parameter_low, reserved_low, digits_low, blanks_low}
 use Rattle.shgrammar.proofs.SameBytes.{Safe, halts, one_byte, two_bytes, goes_on, safe_high, safe_low, safe_escape, safe_place, no_backslash, continued, raw_there, byte_other}
 use Rattle.shgrammar.proofs.Ahead.{ListEnds, ender, not_backslash, K, Goes, goes_name, goes_digit, goes_one, behind_is, same_if, same_and, seen, same_byte, same_after, same_stands, same_stands_in, same_place, next_safe, past_safe, past_back, blanks_safe, blanks_back, same_raw_in}
 use Rattle.shgrammar.specs.declared.edition.Edition.{Edition}
-use Rattle.shgrammar.specs.Sights.{escaped_on}
-use Rattle.shgrammar.specs.Pieces.{closes_by, next_escaped}
 
 -- what is looked for ahead from p on is found before the newline, or the `)`, at M, or at it
 abbrev pub Good : List ℕ → ℕ → ℕ → ℕ → Type 0

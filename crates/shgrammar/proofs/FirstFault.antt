@@ -5,8 +5,7 @@ use Rattle.shgrammar.specs.declared.fault.Fault.{Fault}
 use Rattle.shast.specs.Tree.{AnEntry}
 use Rattle.shgrammar.specs.Sights.{State, given, standing}
 use Rattle.shgrammar.specs.Form.{Read}
-use Rattle.shgrammar.specs.Levels.{level}
-use Rattle.shgrammar.specs.Levels.{most_open}
+use Rattle.shgrammar.specs.Levels.{level, most_open}
 use Rattle.shgrammar.specs.Scripts.{AScript, SoFar, is_blank_line, with_line, line_from, script_by, script_below, script_on, nothing_yet, first_fault_from}
 use Rattle.shgrammar.proofs.Alike.{Like, SameEnd, alike_level, alike_line}
 use Rattle.shgrammar.proofs.Lined.{line_more, line_last, line_faulty}

@@ -11,16 +11,14 @@ use Rattle.shgrammar.specs.Standing.{raw_stands}
 use Rattle.shgrammar.specs.Bytes.{past_byte}
 use Rattle.shgrammar.specs.Comments.{span, past_comment}
 use Rattle.shgrammar.specs.Pieces.{past_taken, past_closer}
-use Rattle.shgrammar.specs.Sights.{Given, State, Sight, seen, Move, one_byte, continuations, one_taken, the_closer, the_parameter, a_quote_on, blanks, a_comment_on, the_reserved, the_digits, to}
+use Rattle.shgrammar.specs.Sights.{Given, State, Sight, seen, Move, one_byte, continuations, one_taken, the_closer, the_parameter, a_quote_on, blanks, a_comment_on, the_reserved, the_digits, to, escaped_on}
 use Rattle.shgrammar.specs.HereDocuments.{Change, waits, bodies_here, changed, bodies_from, state_by, own_level, outer_level}
 use Rattle.shgrammar.specs.declared.fault.Fault.{Fault}
 use Rattle.shgrammar.specs.Form.{Spelled, raw, nothing_read, change, with_bytes, a_level, Read, ◌▸◌, Form, give, see, move, push, stop, both, when, Telling, token, loop, many, ends_as, with_end, Step, again, done, leads_on, moved_on, turns, does, in_substitution, inside}
 use Rattle.shgrammar.proofs.Stretches.{place_low}
-use Rattle.shgrammar.proofs.Places.{after_low, blanks_low, next_newline_low, next_of_low, parameter_low, reserved_low, digits_low}
+use Rattle.shgrammar.proofs.Places.{after_low, blanks_low, next_newline_low, next_of_low, parameter_low, reserved_low, digits_low, next_escaped_low}
 use Rattle.shgrammar.proofs.Delimiters.{bodies_low}
 use Rattle.shgrammar.proofs.Turns.{turns_on, turns_rest, turns_done, turns_fault}
-use Rattle.shgrammar.specs.Sights.{escaped_on}
-use Rattle.shgrammar.proofs.Places.{next_escaped_low}
 
 -- P holds of what is read and of the state after it; of a fault nothing is said
 abbrev pub Holds : {X : Type 0} → (X → State → Type 0) → Read X → Type 0

@@ -11,12 +11,12 @@ use Rattle.shgrammar.specs.declared.mode.Mode.{Mode}
 use Rattle.shgrammar.specs.Classes.{is_letter, is_digit, is_name, is_special}
 use Rattle.shgrammar.specs.Standing.{is_byte, is_none, at_end, raw_stands}
 use Rattle.shgrammar.specs.Bytes.{past, past_continuations, byte_at, past_byte, stands_in}
-use Rattle.shgrammar.specs.Pieces.{past_taken, next_quote, is_last_backslash, past_parameter, rest_mode}
+use Rattle.shgrammar.specs.Pieces.{past_taken, next_quote, is_last_backslash, past_parameter, rest_mode, closes_by, next_escaped}
 use Rattle.shgrammar.specs.Sights.{Given, given, State}
 use Rattle.shgrammar.specs.Form.{Read, Form, Step, again, done, step_if, loop, many, leads_on, turns, does}
-use Rattle.shgrammar.specs.Words.{single, escaped_turn, backquoted_text}
+use Rattle.shgrammar.specs.Words.{single, escaped_turn, backquoted_text, dollar_single}
 use Rattle.shgrammar.proofs.Stretches.{place_low, past_more, past_none, stands_in_low}
-use Rattle.shgrammar.proofs.Places.{after_low, next_of_low}
+use Rattle.shgrammar.proofs.Places.{after_low, next_of_low, next_escaped_low}
 use Rattle.shgrammar.proofs.Shifted.{state_from}
 use Rattle.shgrammar.proofs.Turns.{turns_on, turns_rest, turns_done, turns_fault}
 use Rattle.shgrammar.proofs.Holds.{Holds, Behind, low, holds_so}
@@ -26,9 +26,6 @@ use Rattle.shgrammar.proofs.Ahead.{behind_is}
 use Rattle.shgrammar.proofs.NoFurther.{less_same}
 use Rattle.shgrammar.proofs.OneOutcome.{is}
 use Rattle.shgrammar.specs.declared.edition.Edition.{Edition}
-use Rattle.shgrammar.specs.Pieces.{closes_by, next_escaped}
-use Rattle.shgrammar.specs.Words.{dollar_single}
-use Rattle.shgrammar.proofs.Places.{next_escaped_low}
 
 taken_one : (T : List ℕ) (q : ℕ) → raw_stands T q 92 ≡ false → past_taken T q ≡ q + 1
 unfolding past_taken

@@ -17,10 +17,9 @@ use Rattle.shgrammar.specs.HereDocuments.{bodies_here, changed, first_waiting, o
 use Rattle.shast.specs.Bodies.{filled_row}
 use Rattle.shgrammar.specs.Form.{nothing_read, ◌▸◌, Form, Read, does, many, turns, turns_below}
 use Rattle.shgrammar.specs.Words.{Inner}
-use Rattle.shgrammar.specs.Levels.{level}
+use Rattle.shgrammar.specs.Levels.{level, most_open}
 use Rattle.shgrammar.specs.Commands.{is_newline_token, next_token, a_comment, none_waits, nothing_waits, what_is_wrong}
 use Rattle.shgrammar.specs.Lines.{line_end_by, end_of_line, an_open_line, a_line}
-use Rattle.shgrammar.specs.Levels.{most_open}
 use Rattle.shgrammar.specs.Lists.{list_so, none_listed, entry_turn, a_remark, on_line}
 use Rattle.shgrammar.specs.Scripts.{AScript, SoFar, is_blank_line, with_line, the_line, line_from, script_by, script_below, script_on}
 use Rattle.shgrammar.proofs.Places.{after_low}

@@ -15,12 +15,12 @@ use Rattle.shgrammar.specs.declared.token.Opener.TheVariants as openers
 use Rattle.shast.specs.declared.tree.AndOrOperator.{AndOrOperator}
 use Rattle.shast.specs.declared.tree.RedirectOperator.{RedirectOperator}
 use Rattle.shast.specs.declared.tree.Span.{Span}
-use Rattle.shast.specs.Tree.{AHere, AnAndOrPartOf, AJoinOf, APipelinePartOf, ABranch, ACommand, AForm, AWord, AnAndOrPart, APipelinePart, AnEntry, AnItem, Entries, and_or_parts_of, branches_of, entries_of, entry, item, items_of, ItemsOf, pipeline_parts_of, redirect, with_redirects, remark, compound, formed, no_item, simple, function, word, ACaseItem, case_item, cases_of, patterns_of}
+use Rattle.shast.specs.Tree.{AHere, AnAndOrPartOf, AJoinOf, APipelinePartOf, ABranch, ACommand, AForm, AWord, AnAndOrPart, APipelinePart, AnEntry, AnItem, Entries, and_or_parts_of, branches_of, entries_of, entry, item, items_of, ItemsOf, pipeline_parts_of, redirect, with_redirects, remark, compound, formed, no_item, simple, function, word, ACaseItem, case_item, cases_of, patterns_of, ACaseMark}
 use Rattle.shast.specs.Nodes.{through, word_span}
 use Rattle.shast.specs.Shape.{shape_of_here, bare, bare_at, text_at, shape_of, shape_of_entry, shape_of_and_or, shape_of_and_or_parts, shape_of_pipeline, shape_of_bang, shape_of_pipes, shape_of_command, shape_of_branch, shape_of_branches, shape_of_items, shape_of_item, shape_of_join, shape_of_word, Text, shape_of_form, shape_of_else, shape_of_for_words, shape_of_compound, shape_of_case, shape_of_cases, shape_of_patterns}
 use Rattle.shgrammar.specs.Standing.{raw_stands, next_newline, before_blanks}
 use Rattle.shgrammar.specs.Comments.{span, comment_at, past_comment}
-use Rattle.shgrammar.specs.Sights.{Given, given, State, Move, a_comment_on, here, is_a_name}
+use Rattle.shgrammar.specs.Sights.{Given, given, State, Move, a_comment_on, here, is_a_name, the_delimiter}
 use Rattle.shgrammar.specs.Form.{change, Telling, Read, Form, give, move, push, token, many, ◌>>=◌, ◌>>◌, Step, step_if, does, Spelled}
 use Rattle.shgrammar.specs.Words.{Inner, a_word}
 use Rattle.shgrammar.specs.Commands.{is_strip, document, document_by, a_document, is_empty, pick, next_token, is_newline_token, is_semicolon, a_semicolon, a_join_of, is_pipe, is_bang, begins_simple, begins_word, begins_redirect, begins_pipeline, opener_of, compound_by, and_or_operator_of, Items, so_many, breaks, after_word, is_number_token, redirect_operator_of, takes_here, is_long, a_number, an_operator, operator_by, a_target, one_redirect, after_redirect, redirect_turn, with_redirect_list, as_item, an_item, item_by, item_turn, a_simple, comment_by, a_comment, a_newline, unexpected, JoinSo, join_so, with_comment, join_turn, a_join, a_command, a_bang, Piped, piped, one_command, pipe_turn, a_pipeline, Joined, joined_so, one_pipeline, joined_by, join_pipeline, an_and_or, separator_of, separator_by, a_separator, is_background, ASeparator, past_separator, Entered, an_entry, is_word, is_paren, ends_item, falls_through, named_function, a_word_command}
@@ -37,8 +37,6 @@ use Rattle.shgrammar.proofs.BodiesThere.{move_span}
 use Rattle.shgrammar.proofs.GoingOn.{go_bodies, go_waits, go_place, go_with_bytes, over, Back, good, Found, Goes, go_give, go_push, go_see, go_move, go_then, go_so, go_stopped, go_pick, go_at, go_token, go_many, same_texts, go_any, go_stop}
 use Rattle.shgrammar.specs.declared.edition.Edition.{Edition}
 use Rattle.shgrammar.specs.Tokens.{next_in}
-use Rattle.shast.specs.Tree.{ACaseMark}
-use Rattle.shgrammar.specs.Sights.{the_delimiter}
 
 -- ---- rows of the same shapes
 

@@ -5,7 +5,7 @@ use Rattle.std.specs.Prelude.{All, unwrap_or}
 use Rattle.std.proofs.lemmas.List.Elements.{All-nil, All-push}
 use Rattle.shast.specs.declared.tree.Span.{Span}
 use Rattle.shast.specs.Nodes.{through, commands_end}
-use Rattle.shast.specs.Tree.{AnAndOr, ACommand, AWord, ASubst, Entries, entries_of, entry, command, remark, if_then, for_in, in_words, case_in, case_item, patterns_of, formed, no_item, subst as subst_of}
+use Rattle.shast.specs.Tree.{AnAndOr, ACommand, AWord, ASubst, Entries, entries_of, entry, command, remark, if_then, for_in, in_words, case_in, case_item, patterns_of, formed, no_item, subst as subst_of, marked}
 use Rattle.shgrammar.specs.declared.token.Closing.{Closing}
 use Rattle.shgrammar.specs.declared.token.Closing.TheVariants as closings
 use Rattle.shgrammar.specs.declared.token.Next.{Next}
@@ -17,20 +17,16 @@ use Rattle.shgrammar.specs.declared.token.Separator.{Separator}
 use Rattle.shgrammar.specs.declared.token.Separator.TheVariants.{Semicolon, Ampersand}
 use Rattle.shgrammar.specs.Form.{Spelled, many}
 use Rattle.shgrammar.specs.Words.{Inner}
-use Rattle.shgrammar.specs.Commands.{opener_of, Items, so_many, join_so, a_join_of, ASeparator, is_background, past_separator, Entered, an_entry}
+use Rattle.shgrammar.specs.Commands.{opener_of, Items, so_many, join_so, a_join_of, ASeparator, is_background, past_separator, Entered, an_entry, falls_through}
 use Rattle.shgrammar.specs.Lists.{Listed, ListSo, list_so, none_listed, is_blank_next, next_line, one_entry, entry_turn, remark_by, a_remark, on_line, list_turn, a_list}
 use Rattle.shgrammar.specs.Compounds.{is_open_paren, is_close_paren, reserved_or_paren, closing, Closed, closed, a_branch, Branched, branched, elif_turn, an_else, an_if, a_loop, a_group, a_for_name, a_linebreak, a_sequential_sep, Headed, headed, word_turn, for_words, a_for_head, a_for, a_form, a_compound, a_function, a_case_word, Patterned, patterned, a_pattern, one_pattern, pattern_turn, a_pattern_list, an_open_bracket, a_body, body_end, ItemEnd, item_end, an_ender, an_item_end, CasesSo, cases_so, one_case, case_turn, a_case_head, a_case}
 use Rattle.shgrammar.specs.Substitutions.{substitution_list, one_substitution}
 use Rattle.shast.specs.Moved.{carried_patterns}
-use Rattle.shgrammar.proofs.Moved.{Place, Any, same, first, of_first, step, of_step, Moves, moves_give, moves_stop, moves_so, moves_then, moves_see, moves_here, moves_on, moves_pushed, moves_push, moves_pick, moves_level, moves_ending, moves_many}
+use Rattle.shgrammar.proofs.Moved.{Place, Any, same, first, of_first, step, of_step, Moves, moves_give, moves_stop, moves_so, moves_then, moves_see, moves_here, moves_on, moves_pushed, moves_push, moves_pick, moves_level, moves_ending, moves_many, moves_token, moves_move}
 use Rattle.shgrammar.proofs.MovedBodies.{filled_moved}
 use Rattle.shgrammar.proofs.MovedTrees.{is_empty_map, span_to, body_to, offset_to, word_to, subst_to, command_to, and_or_to, entry_to, list_to, branch_to, else_to, for_words_to, case_to, form_to, items_row, entries_row, branches_row, cases_row, patterns_row, remarks_to, under_name_to, CommandEnds, compound_ends, under_name_ends, EntryEnds, entries_end}
 use Rattle.shgrammar.proofs.MovedWords.{Fits, moves_next, moves_mark, moves_comment, moves_word, moves_unexpected}
 use Rattle.shgrammar.proofs.MovedCommands.{is_some_map, moves_if, of_any, items_to, SomeItems, moves_line_end, moves_semicolon, moves_nothing_waits, join_so_to, moves_joins, moves_item, moves_compound_by, moves_and_or, parted_to, moves_separator}
-use Rattle.shgrammar.proofs.Moved.{moves_token}
-use Rattle.shast.specs.Tree.{marked}
-use Rattle.shgrammar.proofs.Moved.{moves_move}
-use Rattle.shgrammar.specs.Commands.{falls_through}
 
 module _ (z : Place) where
   abbrev k : ℕ

@@ -14,12 +14,11 @@ use Rattle.shgrammar.specs.declared.token.Opener.{Opener}
 use Rattle.shgrammar.specs.declared.token.Position.{Position}
 use Rattle.shgrammar.specs.Sights.{Move}
 use Rattle.shgrammar.specs.Form.{Telling, move, token, step_if}
-use Rattle.shgrammar.specs.Words.{single, escaped_turn, backquoted_text, Inner, WordSoFar, having, opened, piece_row, a_piece, contents, a_word}
+use Rattle.shgrammar.specs.Words.{single, escaped_turn, backquoted_text, Inner, WordSoFar, having, opened, piece_row, a_piece, contents, a_word, dollar_single}
 use Rattle.shgrammar.specs.Tokens.{is_end}
 use Rattle.shgrammar.specs.Commands.{next_token, comment_by, a_comment, wrong_with, what_is_wrong, unexpected}
 use Rattle.shgrammar.proofs.Moved.{Place, Any, same, each, first, of_first, step, of_step, Moves, moves_give, moves_move, moves_stop, moves_then, moves_see, moves_here, moves_byte, moves_see_comment, moves_see_waiting, moves_on, moves_pick, moves_when, moves_token, moves_many}
 use Rattle.shgrammar.proofs.MovedTrees.{span_to, offset_to, word_to, command_to, substs_row, CommandEnds, kept_none, substs_to}
-use Rattle.shgrammar.specs.Words.{dollar_single}
 
 module _ (z : Place) where
   abbrev k : ℕ

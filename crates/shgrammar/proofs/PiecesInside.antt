@@ -1,7 +1,7 @@
 -- The pieces of a word that ends at a limit: the same in another text that has its bytes
 -- up to there, where a byte that ends words and is no `(` follows. Nothing but the end of
 -- the word, and a `$` before it, look as far as the limit.
-use Rattle.std.proofs.Common.{◌≡◌, ℕ, zero, suc, ◌+◌, ◌-◌, ◌≤◌, ◌<◌, ◌==◌, Bool, true, false, ◌||◌, ◌⊎◌, inl, inr, Ok, List, List as Row, [], length, map, Option, Some, None, slice_get, refl, sym, ap, subst, ◌∙◌, arith, ⊎_elim}
+use Rattle.std.proofs.Common.{◌≡◌, ℕ, zero, suc, ◌+◌, ◌-◌, ◌≤◌, ◌<◌, ◌==◌, Bool, true, false, ◌||◌, ◌⊎◌, inl, inr, Ok, List, List as Row, [], length, map, Option, Some, None, slice_get, refl, sym, ap, subst, ◌∙◌, arith, ⊎_elim, ◌&&◌}
 use Rattle.std.proofs.lemmas.Bool.{cond_both, lt-ltb}
 use Rattle.std.proofs.lemmas.Bool.Decides.{nat_tests}
 use Rattle.std.proofs.lemmas.Option.{slice_get_within}
@@ -12,26 +12,22 @@ use Rattle.shgrammar.specs.declared.mode.Piece.{Piece}
 use Rattle.shgrammar.specs.declared.mode.Piece.TheVariants as pieces
 use Rattle.shgrammar.specs.Standing.{is_byte, at_end, raw_stands}
 use Rattle.shgrammar.specs.Bytes.{ends, past_continuations, byte_at, past_byte, stands}
-use Rattle.shgrammar.specs.Pieces.{dollar_by, dollar_at, bracket_by, byte_by, piece_by, piece_at, past_taken, past_closer, past_parameter, braces_in, rest_mode}
+use Rattle.shgrammar.specs.Pieces.{dollar_by, dollar_at, bracket_by, byte_by, piece_by, piece_at, past_taken, past_closer, past_parameter, braces_in, rest_mode, piece_in, quotes_singly}
 use Rattle.shast.specs.Shape.{shape_of_subst}
 use Rattle.shast.specs.Tree.{ASubst}
 use Rattle.shgrammar.specs.Sights.{Given, given, State}
 use Rattle.shgrammar.specs.Form.{Read, ◌▸◌, Form, Step, again, done, loop, many, leads_on, does}
-use Rattle.shgrammar.specs.Words.{single, backquoted_text, Inner, WordSoFar, having, opened, piece_row, a_piece, contents}
+use Rattle.shgrammar.specs.Words.{single, backquoted_text, Inner, WordSoFar, having, opened, piece_row, a_piece, contents, dollar_single}
 use Rattle.shgrammar.proofs.Stretches.{place_low}
 use Rattle.shgrammar.proofs.Places.{after_low, parameter_low}
 use Rattle.shgrammar.proofs.Holds.{Holds, holds_then, holds_so}
 use Rattle.shgrammar.proofs.Alike.{SameStep, SameHeld}
 use Rattle.shgrammar.proofs.SameBytes.{Kept, Here, here, here_byte, here_after, here_stands, byte_other}
 use Rattle.shgrammar.proofs.Ahead.{behind_is}
-use Rattle.shgrammar.proofs.Inside.{there_at, clear, before, high, taken_two, same_taken, same_end, parameter_in, rest_in, there, at, Ends, quote_in, backquotes_in, Turned, Looped, Goal, looped}
+use Rattle.shgrammar.proofs.Inside.{there_at, clear, before, high, taken_two, same_taken, same_end, parameter_in, rest_in, there, at, Ends, quote_in, backquotes_in, Turned, Looped, Goal, looped, dollar_single_in}
 use Rattle.shgrammar.proofs.OneOutcome.{is}
 use Rattle.shgrammar.specs.declared.edition.Edition.{Edition}
-use Rattle.shgrammar.specs.Pieces.{piece_in, quotes_singly}
 use Rattle.shgrammar.specs.Tokens.{is_later}
-use Rattle.shgrammar.specs.Words.{dollar_single}
-use Rattle.shgrammar.proofs.Inside.{dollar_single_in}
-use Rattle.std.proofs.Common.{◌&&◌}
 
 -- it does not end a word
 abbrev pub Closed : Mode → Type 0

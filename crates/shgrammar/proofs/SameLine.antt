@@ -16,11 +16,10 @@ use Rattle.shgrammar.specs.Sights.{Given, given, State, standing}
 use Rattle.shgrammar.specs.HereDocuments.{bodies_here, changed, first_waiting, own_level}
 use Rattle.shgrammar.specs.Form.{nothing_read, a_level, level_read, level_stops, just, Spelled, Read, ◌▸◌, Form, give, both, may, does, Then, and_then, or_stops}
 use Rattle.shgrammar.specs.Words.{Inner}
-use Rattle.shgrammar.specs.Levels.{level}
+use Rattle.shgrammar.specs.Levels.{level, most_open}
 use Rattle.shgrammar.specs.Tokens.{is_end}
 use Rattle.shgrammar.specs.Commands.{is_newline_token, next_token, none_waits, nothing_waits, what_is_wrong}
 use Rattle.shgrammar.specs.Lines.{line_end_by, end_of_line, an_open_line, a_line, ALine, IsLine, SameBytes, NoFurther, line_read, line_stops, kind_of}
-use Rattle.shgrammar.specs.Levels.{most_open}
 use Rattle.shgrammar.specs.Lists.{ListSo, list_so, none_listed, on_line}
 use Rattle.shgrammar.proofs.OneOutcome.{is as is_form}
 use Rattle.shgrammar.proofs.Holds.{Holds, Tells, change_low}

@@ -15,14 +15,14 @@ use Rattle.shast.specs.declared.tree.RedirectOperator.{RedirectOperator}
 use Rattle.shast.specs.declared.tree.Span.{Span}
 use Rattle.shast.specs.Tree.{APipelinePart, AnAndOrPart, ABranch, pipeline_parts_of, and_or_parts_of, branches_of, AnEntry, AnItem, AWord, Entries, entry, remark, item, entries_of, items_of, ACommand, AForm, ItemsOf, redirect, with_redirects, formed, no_item, compound, ACompound, word, argument, ACaseItem, cases_of, PatternsOf, no_pattern, more_patterns, patterns_of}
 use Rattle.shast.specs.Shape.{bare, bare_at, text_at, shape_of, shape_of_entry, shape_of_and_or, shape_of_and_or_parts, shape_of_pipeline, shape_of_bang, shape_of_pipes, shape_of_command, shape_of_form, shape_of_branch, shape_of_branches, shape_of_else, shape_of_for_words, shape_of_items, shape_of_item, shape_of_word, shape_of_patterns, shape_of_cases, shape_of_case, Shape}
-use Rattle.shast.specs.Spelling.{Tokens, and_or_text, redirect_text, spell_number, spell_background, spell_bang, spell_word, spell_item, spell_items, spelling, spell_entry, spell_and_or, spell_and_or_parts, spell_pipeline, spell_pipes, spell_command, spell_form, spell_branch, spell_branches, spell_else, spell_loop, spell_for_words, spell_patterns, spell_first_pattern, spell_cases, spell_case}
+use Rattle.shast.specs.Spelling.{Tokens, and_or_text, redirect_text, spell_number, spell_background, spell_bang, spell_word, spell_item, spell_items, spelling, spell_entry, spell_and_or, spell_and_or_parts, spell_pipeline, spell_pipes, spell_command, spell_form, spell_branch, spell_branches, spell_else, spell_loop, spell_for_words, spell_patterns, spell_first_pattern, spell_cases, spell_case, spell_falls}
 use Rattle.shgrammar.specs.Comments.{span}
 use Rattle.shgrammar.specs.Sights.{Given, given, State, standing, Sight, Move}
 use Rattle.shgrammar.specs.Form.{change, with_bytes, a_level, Changed, changes, cannot, WithBytes, with_its_bytes, without_bytes, OwnLevel, level_read, level_stops, Spelled, Read, Step, again, done, step_if, Form, give, see, move, push, stop, both, Telling, by, tell, token, many, Just, just, Halts, halted, Then, and_then, or_stops, OneToken, whole, broken_off, Turns, last, rests, more, halts, raw, may}
 use Rattle.shgrammar.specs.Words.{Inner, a_word}
-use Rattle.shgrammar.specs.Commands.{pick, next_token, is_newline_token, is_semicolon, a_semicolon, is_pipe, is_bang, begins_simple, begins_word, begins_redirect, begins_pipeline, opener_of, compound_by, and_or_operator_of, Items, so_many, after_word, is_number_token, redirect_operator_of, takes_here, is_strip, document_by, a_document, none_waits, nothing_waits, a_number, an_operator, operator_by, a_target, one_redirect, after_redirect, redirect_turn, with_redirect_list, as_item, breaks, an_item, item_by, item_turn, a_simple, unexpected, comment_by, a_comment, a_newline, with_comment, JoinSo, join_turn, a_join, a_command, a_bang, Piped, piped, one_command, pipe_turn, a_pipeline, Joined, joined_so, one_pipeline, joined_by, join_pipeline, an_and_or, separator_of, told_separator, separator_by, a_separator, is_background, an_entry, a_word_command, is_word, is_paren, ends_item, falls_through}
+use Rattle.shgrammar.specs.Commands.{pick, next_token, is_newline_token, is_semicolon, a_semicolon, is_pipe, is_bang, begins_simple, begins_word, begins_redirect, begins_pipeline, opener_of, compound_by, and_or_operator_of, Items, so_many, after_word, is_number_token, redirect_operator_of, takes_here, is_strip, document_by, a_document, none_waits, nothing_waits, a_number, an_operator, operator_by, a_target, one_redirect, after_redirect, redirect_turn, with_redirect_list, as_item, breaks, an_item, item_by, item_turn, a_simple, unexpected, comment_by, a_comment, a_newline, with_comment, JoinSo, join_turn, a_join, a_command, a_bang, Piped, piped, one_command, pipe_turn, a_pipeline, Joined, joined_so, one_pipeline, joined_by, join_pipeline, an_and_or, separator_of, told_separator, separator_by, a_separator, is_background, an_entry, a_word_command, is_word, is_paren, ends_item, falls_through, is_double_semicolon}
 use Rattle.shgrammar.specs.Lists.{ListSo, list_so, none_listed, is_blank_next, one_entry, entry_turn, remark_by, a_remark, on_line, list_turn, a_list}
-use Rattle.shgrammar.specs.Compounds.{Branched, branched, is_closing, opener_text, closing_text, reserved_or_paren, closing, a_group, a_branch, elif_turn, an_else, an_if, a_loop, a_for_name, a_linebreak, a_sequential_sep, Headed, word_turn, for_words, a_for_head, after_remarks, a_for, a_form, a_compound, a_function, under_name, a_case_word, begins_pattern, Patterned, a_pattern, one_pattern, pattern_turn, a_pattern_list, an_open_bracket, a_body, an_ender, an_item_end, CasesSo, cases_so, one_case, case_turn, a_case_head, a_case}
+use Rattle.shgrammar.specs.Compounds.{Branched, branched, is_closing, opener_text, closing_text, reserved_or_paren, closing, a_group, a_branch, elif_turn, an_else, an_if, a_loop, a_for_name, a_linebreak, a_sequential_sep, Headed, word_turn, for_words, a_for_head, after_remarks, a_for, a_form, a_compound, a_function, under_name, a_case_word, begins_pattern, Patterned, a_pattern, one_pattern, pattern_turn, a_pattern_list, an_open_bracket, a_body, an_ender, an_item_end, CasesSo, cases_so, one_case, case_turn, a_case_head, a_case, item_end}
 use Rattle.shgrammar.specs.Levels.{most_open, level}
 use Rattle.shgrammar.specs.Tokens.{is_end}
 use Rattle.shgrammar.specs.Lines.{an_open_line, a_line, end_of_line}
@@ -35,11 +35,8 @@ use Rattle.shast.proofs.OpenSame.{filled_spelling}
 use Rattle.shgrammar.specs.Scripts.{AScript, SoFar, Lines, line_ended, last_line, faulty, Passes, nothing_yet}
 use Rattle.shast.specs.Nodes.{word_span}
 use Rattle.shgrammar.specs.declared.edition.Edition.{Edition}
-use Rattle.shast.specs.Spelling.{spell_falls}
 use Rattle.shgrammar.specs.declared.token.Token.{Token}
 use Rattle.std.proofs.lemmas.Bool.{or_parts}
-use Rattle.shgrammar.specs.Commands.{is_double_semicolon}
-use Rattle.shgrammar.specs.Compounds.{item_end}
 
 -- ---- rows that grow at their end
 

@@ -1,5 +1,5 @@
 -- The token that a row hands on is the one that begins where the reading stands then.
-use Rattle.std.proofs.Common.{◌≡◌, ℕ, zero, suc, ◌==◌, Bool, true, false, cond, List, List as Row, [], ◌∷◌, ◌++◌, Option, Some, None, is_some, refl, sym, subst, ◌∙◌, arith}
+use Rattle.std.proofs.Common.{◌≡◌, ℕ, zero, suc, ◌==◌, Bool, true, false, cond, List, List as Row, [], ◌∷◌, ◌++◌, Option, Some, None, is_some, refl, sym, subst, ◌∙◌, arith, ap}
 use Rattle.std.proofs.lemmas.Bool.Decides.{nat_tests}
 use Rattle.shgrammar.specs.declared.keep.Keep.TheVariants.{Whole}
 use Rattle.shgrammar.specs.declared.token.Closing.{Closing}
@@ -31,7 +31,6 @@ use Rattle.shgrammar.specs.Levels.{level}
 use Rattle.shgrammar.proofs.Shown.{blanks_still}
 use Rattle.shgrammar.proofs.Holds.{Tells, Turned, tells_give, tells_then, tells_many, tells_after, tells_seen, tells_pushed}
 use Rattle.shgrammar.specs.declared.edition.Edition.{Edition}
-use Rattle.std.proofs.Common.{ap}
 
 module _ (g : Given) where
   abbrev N : {X : Type 0} → Form X → (X → State → Type 0) → State → Type 0

@@ -38,9 +38,8 @@ use Rattle.shgrammar.specs.Lists.{ListSo, list_so, none_listed, is_blank_next, o
 use Rattle.shgrammar.specs.Compounds.{Branched, branched, Closed, is_closing, is_open_paren, is_close_paren, reserved_or_paren, closing, a_branch, elif_turn, an_else, an_if, a_loop, a_group, a_for_name, a_linebreak, a_sequential_sep, Headed, word_turn, for_words, a_for_head, after_remarks, a_for, a_form, held_apart, a_compound, a_function, under_name, a_case_word, begins_pattern, Patterned, a_pattern, one_pattern, pattern_turn, a_pattern_list, a_body, body_end, ItemEnd, an_ender, an_item_end, CasesSo, cases_so, one_case, case_turn, a_case_head, a_case}
 use Rattle.shgrammar.specs.Substitutions.{substitution_list, a_substitution, one_substitution}
 use Rattle.shgrammar.specs.Levels.{most_open, level}
-use Rattle.shgrammar.specs.Lines.{an_open_line, a_line, ALine, IsLine, line_read, line_stops, kind_of}
+use Rattle.shgrammar.specs.Lines.{an_open_line, a_line, ALine, IsLine, line_read, line_stops, kind_of, EntriesWithin}
 use Rattle.shgrammar.specs.Scripts.{SoFar, the_line, with_line}
-use Rattle.shgrammar.specs.Lines.{EntriesWithin}
 use Rattle.shgrammar.proofs.OneOutcome.{is}
 use Rattle.shgrammar.proofs.Ahead.{behind_is}
 use Rattle.shgrammar.proofs.Places.{after_low, next_newline_low}

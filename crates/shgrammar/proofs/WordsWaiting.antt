@@ -13,12 +13,11 @@ use Rattle.shgrammar.specs.Comments.{span}
 use Rattle.shgrammar.specs.HereDocuments.{own_level, outer_level}
 use Rattle.shgrammar.specs.Sights.{Given, State, standing, Sight, seen, Move}
 use Rattle.shgrammar.specs.Form.{Form, give, see, move, push, stop, both, when, token, many, a_level, Telling, Step, again, done, Read, ◌▸◌, does, may, moved_on, leads_on, turns, turns_below, next, Spelled, in_substitution}
-use Rattle.shgrammar.specs.Words.{WordSoFar, having, opened, piece_row, a_piece, single, escaped_turn, backquoted_text, Inner, contents, a_word}
+use Rattle.shgrammar.specs.Words.{WordSoFar, having, opened, piece_row, a_piece, single, escaped_turn, backquoted_text, Inner, contents, a_word, dollar_single}
 use Rattle.shgrammar.specs.Substitutions.{a_substitution, one_substitution}
 use Rattle.shgrammar.specs.Levels.{level}
 use Rattle.shgrammar.proofs.OneOutcome.{is}
 use Rattle.shgrammar.proofs.Anywhere.{word_told}
-use Rattle.shgrammar.specs.Words.{dollar_single}
 
 -- a place, where that waits which waits at t
 abbrev pub place_of : State → ℕ → State

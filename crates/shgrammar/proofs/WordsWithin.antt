@@ -1,5 +1,5 @@
 -- A word that begins within its text ends within it, where a byte ends words or the text ends.
-use Rattle.std.proofs.Common.{◌≡◌, ℕ, zero, suc, ◌+◌, ◌-◌, ◌≤◌, ◌<◌, ◌==◌, Bool, true, false, not, Ok, Err, List, List as Row, [], length, Option, Some, None, refl, sym, subst, ◌∙◌, arith}
+use Rattle.std.proofs.Common.{◌≡◌, ℕ, zero, suc, ◌+◌, ◌-◌, ◌≤◌, ◌<◌, ◌==◌, Bool, true, false, not, Ok, Err, List, List as Row, [], length, Option, Some, None, refl, sym, subst, ◌∙◌, arith, ◌&&◌}
 use Rattle.std.proofs.lemmas.Bool.{cond_both}
 use Rattle.std.proofs.lemmas.Option.{slice_get_within}
 use Rattle.shgrammar.specs.declared.mode.Escaping.{Escaping}
@@ -13,11 +13,11 @@ use Rattle.shgrammar.specs.declared.token.Closing.TheVariants as closings
 use Rattle.shgrammar.specs.declared.token.Position.TheVariants.{Command}
 use Rattle.shgrammar.specs.Standing.{raw_stands, at_end}
 use Rattle.shgrammar.specs.Bytes.{ends, ends_word, past_continuations, byte_at, past_byte, stands}
-use Rattle.shgrammar.specs.Pieces.{dollar_by, dollar_at, bracket_by, byte_by, piece_by, piece_at, end_by, past_taken, past_closer, past_parameter, next_quote, is_last_backslash, rest_mode}
+use Rattle.shgrammar.specs.Pieces.{dollar_by, dollar_at, bracket_by, byte_by, piece_by, piece_at, end_by, past_taken, past_closer, past_parameter, next_quote, is_last_backslash, rest_mode, closes_by, next_escaped, piece_in, quotes_singly}
 use Rattle.shast.specs.Tree.{ASubst, entries_of}
 use Rattle.shgrammar.specs.Sights.{Given, State, standing, one_byte}
 use Rattle.shgrammar.specs.Form.{Read, Form, give, move, ◌>>◌, Step, again, done, step_if, as_it_stands, token, many, does}
-use Rattle.shgrammar.specs.Words.{single, escaped_turn, backquoted_text, Inner, WordSoFar, having, opened, piece_row, a_piece, contents, a_word}
+use Rattle.shgrammar.specs.Words.{single, escaped_turn, backquoted_text, Inner, WordSoFar, having, opened, piece_row, a_piece, contents, a_word, dollar_single}
 use Rattle.shgrammar.specs.HereDocuments.{first_waiting, own_level}
 use Rattle.shgrammar.specs.Commands.{none_waits, nothing_waits, pick, unexpected}
 use Rattle.shgrammar.specs.Lists.{ListSo}
@@ -25,17 +25,13 @@ use Rattle.shgrammar.specs.Compounds.{is_closing}
 use Rattle.shgrammar.specs.Substitutions.{substitution_list, a_substitution, one_substitution}
 use Rattle.shgrammar.specs.Levels.{level, ReadsWord}
 use Rattle.shgrammar.proofs.Stretches.{place_low}
-use Rattle.shgrammar.proofs.Places.{after_low, after_high, stands_low, not_end_low, next_of_low, parameter_low, parameter_high, quote_clear}
+use Rattle.shgrammar.proofs.Places.{after_low, after_high, stands_low, not_end_low, next_of_low, parameter_low, parameter_high, quote_clear, next_escaped_low}
 use Rattle.shgrammar.proofs.Turns.{turns_fault, many_again, many_done}
 use Rattle.shgrammar.proofs.Holds.{tells_level, Holds, holds_then, Tells, Turned, tells_then, tells_many, tells_after, tells_seen, tells_ending, Behind, low, tells_inside}
 use Rattle.shgrammar.proofs.TokensShown.{Begins, Fine, paren_here, shown_level, shown_lines, shown_next}
 use Rattle.shgrammar.proofs.Ahead.{behind_is}
 use Rattle.shgrammar.proofs.OneOutcome.{is}
-use Rattle.shgrammar.specs.Pieces.{closes_by, next_escaped, piece_in, quotes_singly}
-use Rattle.shgrammar.specs.Words.{dollar_single}
 use Rattle.shgrammar.specs.Tokens.{is_later}
-use Rattle.shgrammar.proofs.Places.{next_escaped_low}
-use Rattle.std.proofs.Common.{◌&&◌}
 
 -- after a byte, or two
 taken_on : (T : List ℕ) (q : ℕ) → q < length T → (raw_stands T q 92 ≡ true → q + 1 < length T) → (q < past_taken T q)

@@ -1,6 +1,5 @@
 -- A newline token after an entry ends its line, and each further one makes the next entry blank.
-use Rattle.std.proofs.Common.{◌≡◌, ◌↔◌, ℕ, zero, suc, ◌+◌, ◌≤◌, Bool, true, false, not, List as Row, [], ◌∷◌}
-use Rattle.std.proofs.Common.{◌++◌, Option, refl, sym, ap, ◌∙◌, arith}
+use Rattle.std.proofs.Common.{◌≡◌, ◌↔◌, ℕ, zero, suc, ◌+◌, ◌≤◌, Bool, true, false, not, List as Row, [], ◌∷◌, ◌++◌, Option, refl, sym, ap, ◌∙◌, arith}
 use Rattle.std.specs.Prelude.{◌&&◌}
 use Rattle.shast.specs.Tree.{AnEntry}
 use Rattle.shgrammar.specs.Commands.{is_empty}

@@ -1,21 +1,15 @@
 -- What is found from line to line is the first line that is the delimiter and is not taken in.
-use Rattle.std.proofs.Common.{◌≡◌, ℕ, zero, suc, ◌+◌, ◌-◌, ◌<◌, ◌≤◌, Bool, true, false, cond, not, ◌==◌, List}
-use Rattle.std.proofs.Common.{[], ◌∷◌, ◌++◌, length, take, drop, fold, get_or, slice_get, Option, Some, None}
-use Rattle.std.proofs.Common.{◌↔◌, inl, inr, ⊎_elim, refl, sym, ap, subst, ◌∙◌, arith, get_or-drop, take-suc}
-use Rattle.std.proofs.Common.{length-drop}
+use Rattle.std.proofs.Common.{◌≡◌, ℕ, zero, suc, ◌+◌, ◌-◌, ◌<◌, ◌≤◌, Bool, true, false, cond, not, ◌==◌, List, [], ◌∷◌, ◌++◌, length, take, drop, fold, get_or, slice_get, Option, Some, None, ◌↔◌, inl, inr, ⊎_elim, refl, sym, ap, subst, ◌∙◌, arith, get_or-drop, take-suc, length-drop}
 use Rattle.std.specs.Prelude.{◌&&◌, nat_le}
-use Rattle.std.proofs.lemmas.Bool.{and_left, and_parts, and_right, both_ways, cases_order, cond_both}
-use Rattle.std.proofs.lemmas.Bool.{eqb-true, le-leb, lt-leb, not-false, not-true}
+use Rattle.std.proofs.lemmas.Bool.{and_left, and_parts, and_right, both_ways, cases_order, cond_both, eqb-true, le-leb, lt-leb, not-false, not-true}
 use Rattle.std.proofs.lemmas.List.Sums.{fold-append}
 use Rattle.std.proofs.lemmas.Option.{slice_get-get_or}
 use Rattle.shgrammar.specs.Standing.{at_end, is_byte, next_newline, passes, raw_in, raw_stands}
 use Rattle.shgrammar.specs.States.{Waiting}
-use Rattle.shgrammar.specs.HereDocuments.{delimiter_below, delimiter_from, delimiter_on, is_delimiter}
-use Rattle.shgrammar.specs.HereDocuments.{past_line, rest_of_line, takes_newline}
+use Rattle.shgrammar.specs.HereDocuments.{delimiter_below, delimiter_from, delimiter_on, is_delimiter, past_line, rest_of_line, takes_newline}
 use Rattle.shgrammar.proofs.BodiesAnywhere.{bytes_same, bytes_self}
 use Rattle.shgrammar.proofs.Places.{end_high, next_newline_low, not_end_low, raw_past_all, raw_past_stops}
-use Rattle.shlaws.specs.Bodies.{IsDelimiterLine, IsFirstDelimiterLine, BeginsLine, backslashes_before}
-use Rattle.shlaws.specs.Bodies.{is_odd, is_taken_in}
+use Rattle.shlaws.specs.Bodies.{IsDelimiterLine, IsFirstDelimiterLine, BeginsLine, backslashes_before, is_odd, is_taken_in}
 
 -- ---- an odd number of backslashes before a newline
 

@@ -1,6 +1,5 @@
 -- The entries that are read on one line: the first has the flag of the line, and no other is blank.
-use Rattle.std.proofs.Common.{◌≡◌, ℕ, Bool, true, false, not, List as Row, [], ◌∷◌, ◌++◌, Option, Some, None}
-use Rattle.std.proofs.Common.{Ok, is_some, refl, sym, ap, subst, ◌∙◌, append_assoc, append-nil}
+use Rattle.std.proofs.Common.{◌≡◌, ℕ, Bool, true, false, not, List as Row, [], ◌∷◌, ◌++◌, Option, Some, None, Ok, is_some, refl, sym, ap, subst, ◌∙◌, append_assoc, append-nil}
 use Rattle.std.specs.Prelude.{◌&&◌, ◌||◌}
 use Rattle.std.proofs.lemmas.Bool.{or_right}
 use Rattle.shast.specs.Normal.{is_blank_entry}
@@ -9,14 +8,12 @@ use Rattle.shast.specs.declared.tree.Span.{Span}
 use Rattle.shgrammar.specs.Commands.{an_entry, begins_pipeline, is_empty, pick}
 use Rattle.shgrammar.specs.Form.{Form, Spelled, Step, again, done, may, step_if}
 use Rattle.shgrammar.specs.Levels.{level}
-use Rattle.shgrammar.specs.Lists.{ListSo, Listed, a_remark, entry_turn, is_blank_next, list_so, list_turn}
-use Rattle.shgrammar.specs.Lists.{next_line, on_line, one_entry, remark_by, with_command}
+use Rattle.shgrammar.specs.Lists.{ListSo, Listed, a_remark, entry_turn, is_blank_next, list_so, list_turn, next_line, on_line, one_entry, remark_by, with_command}
 use Rattle.shgrammar.specs.States.{Given, State}
 use Rattle.shgrammar.specs.Words.{Inner}
 use Rattle.shgrammar.specs.declared.keep.Keep.TheVariants.{Whole}
 use Rattle.shgrammar.specs.declared.token.Next.{Next}
-use Rattle.shgrammar.proofs.Holds.{Holds, Tells, Turned, tells_after, tells_give, tells_many, tells_pushed}
-use Rattle.shgrammar.proofs.Holds.{tells_then}
+use Rattle.shgrammar.proofs.Holds.{Holds, Tells, Turned, tells_after, tells_give, tells_many, tells_pushed, tells_then}
 use Rattle.shgrammar.proofs.OneOutcome.{is}
 use Rattle.shlaws.specs.Blank.{AreBlankAtFirst, HasMore}
 use Rattle.shlaws.proofs.BlankLines.{not_empty}

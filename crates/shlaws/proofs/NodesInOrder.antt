@@ -1,14 +1,11 @@
 -- Inserting node after node gives the one row that is in order and has the same nodes at each place.
-use Rattle.std.proofs.Common.{◌≡◌, ℕ, suc, ◌<◌, ◌≤◌, ◌⊎◌, inl, inr, Bool, true, false, cond, List as Row, []}
-use Rattle.std.proofs.Common.{◌∷◌, get_or, All, filter, IsPermutation, is_lt, nat_cmp, refl, sym, ap, ◌∙◌}
-use Rattle.std.proofs.Common.{arith}
+use Rattle.std.proofs.Common.{◌≡◌, ℕ, suc, ◌<◌, ◌≤◌, ◌⊎◌, inl, inr, Bool, true, false, cond, List as Row, [], ◌∷◌, get_or, All, filter, IsPermutation, is_lt, nat_cmp, refl, sym, ap, ◌∙◌, arith}
 use Rattle.std.specs.Ordering.{ordering_then}
 use Rattle.std.proofs.lemmas.Bool.{and_parts, both_ways, eq-eqb, eqb-true}
 use Rattle.std.proofs.lemmas.Bool.Decides.{nat_tests}
 use Rattle.std.proofs.lemmas.List.Kept.{AllPairs-cons}
 use Rattle.std.proofs.lemmas.List.Elements.{All-cons}
-use Rattle.std.proofs.lemmas.List.Sorted.{All-permutation, IsPermutation-cons, IsPermutation-middle}
-use Rattle.std.proofs.lemmas.List.Sorted.{IsPermutation-refl, IsPermutation-trans}
+use Rattle.std.proofs.lemmas.List.Sorted.{All-permutation, IsPermutation-cons, IsPermutation-middle, IsPermutation-refl, IsPermutation-trans}
 use Rattle.shast.specs.declared.node.NodeLine.{NodeLine}
 use Rattle.shast.specs.Nodes.{by_place, in_order, inserted}
 use Rattle.shlaws.specs.Order.{AreInOrder, HaveTheSameAtEachPlace, MayPrecede, stands_from}

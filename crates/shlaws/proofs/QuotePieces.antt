@@ -1,6 +1,5 @@
 -- What the pieces of a word leave is what is left byte by byte.
-use Rattle.std.proofs.Common.{◌≡◌, ℕ, ◌+◌, ◌≤◌, Bool, true, false, List, [], ◌∷◌, length, drop, slice_get}
-use Rattle.std.proofs.Common.{Option, Some, refl, sym, ap, subst, ◌∙◌, arith, append-nil}
+use Rattle.std.proofs.Common.{◌≡◌, ℕ, ◌+◌, ◌≤◌, Bool, true, false, List, [], ◌∷◌, length, drop, slice_get, Option, Some, refl, sym, ap, subst, ◌∙◌, arith, append-nil}
 use Rattle.std.specs.Prelude.{◌&&◌}
 use Rattle.std.proofs.lemmas.List.{drop_all}
 use Rattle.std.proofs.lemmas.Option.{slice_get_within}
@@ -10,19 +9,15 @@ use Rattle.shgrammar.specs.declared.mode.Mode.TheVariants.{Plain, Double, Brace,
 use Rattle.shgrammar.specs.declared.mode.Piece.TheVariants as pieces
 use Rattle.shgrammar.specs.Bytes.{byte_at, past_byte, past_continuations}
 use Rattle.shgrammar.specs.Form.{raw}
-use Rattle.shgrammar.specs.HereDocuments.{delimiter_in, has_dollar_single, in_double, is_quoted, not_quoted}
-use Rattle.shgrammar.specs.HereDocuments.{unquoted}
+use Rattle.shgrammar.specs.HereDocuments.{delimiter_in, has_dollar_single, in_double, is_quoted, not_quoted, unquoted}
 use Rattle.shgrammar.specs.Pieces.{next_quote, past_closer}
 use Rattle.shgrammar.specs.Standing.{at_end}
 use Rattle.shgrammar.specs.Tokens.{is_later}
 use Rattle.shgrammar.proofs.Places.{after_high, after_low, next_of_low, not_end_low}
 use Rattle.shgrammar.proofs.Stretches.{place_low}
-use Rattle.shlaws.specs.Quotes.{Leaves, double, ended, escape, escape_leaves, ordinary, pid, piece_by_edition}
-use Rattle.shlaws.specs.Quotes.{single}
-use Rattle.shlaws.proofs.PieceBytes.{Begins, another, begins, byte_there, closer_there, dollar, dollars}
-use Rattle.shlaws.proofs.PieceBytes.{double_quote, escapes, is_unquoted, quote, quoting_in}
-use Rattle.shlaws.proofs.QuoteSteps.{Leads, another_leads, closer_leads, dollar_leads, double_leads}
-use Rattle.shlaws.proofs.QuoteSteps.{escape_leads, leads_nowhere, leads_on, pid_leads, single_leads}
+use Rattle.shlaws.specs.Quotes.{Leaves, double, ended, escape, escape_leaves, ordinary, pid, piece_by_edition, single}
+use Rattle.shlaws.proofs.PieceBytes.{Begins, another, begins, byte_there, closer_there, dollar, dollars, double_quote, escapes, is_unquoted, quote, quoting_in}
+use Rattle.shlaws.proofs.QuoteSteps.{Leads, another_leads, closer_leads, dollar_leads, double_leads, escape_leads, leads_nowhere, leads_on, pid_leads, single_leads}
 
 module _ (later : Bool) (W : List ℕ) where
   pub ordinary_leads : (mode : Mode) (p b : ℕ) (last : Bool) → byte_at W p ≡ Some b

@@ -1,8 +1,5 @@
 -- A word that is read, and whose bytes are a delimiter, has only pieces that leave something.
-use Rattle.std.proofs.Common.{◌≡◌, ℕ, zero, suc, ◌+◌, ◌-◌, ◌<◌, ◌≤◌, Bool, true, false, cond, List}
-use Rattle.std.proofs.Common.{List as Row, [], length, take, drop, slice_get, get_or, Option, Some, None}
-use Rattle.std.proofs.Common.{is_some, option_map, Ok, Err, ⊎_elim, ◌∷◌, ◌++◌, refl, sym, ap, subst, ◌∙◌}
-use Rattle.std.proofs.Common.{arith, take-take, length-take}
+use Rattle.std.proofs.Common.{◌≡◌, ℕ, zero, suc, ◌+◌, ◌-◌, ◌<◌, ◌≤◌, Bool, true, false, cond, List, List as Row, [], length, take, drop, slice_get, get_or, Option, Some, None, is_some, option_map, Ok, Err, ⊎_elim, ◌∷◌, ◌++◌, refl, sym, ap, subst, ◌∙◌, arith, take-take, length-take}
 use Rattle.std.specs.Prelude.{◌&&◌, ◌||◌}
 use Rattle.std.proofs.lemmas.Bool.{both_ways, cases_lt, false_from_ne_true}
 use Rattle.std.proofs.lemmas.Option.{slice_get-get_or, slice_get_past, slice_get_within}
@@ -20,8 +17,7 @@ use Rattle.shgrammar.specs.declared.mode.Piece.{Piece}
 use Rattle.shgrammar.specs.declared.mode.Piece.TheVariants as pieces
 use Rattle.shgrammar.specs.Bytes.{byte_at, ends, ends_word, past_byte, past_continuations, stands}
 use Rattle.shgrammar.specs.Form.{Read, Spelled, Step, again, does, many, may, raw, ◌▸◌}
-use Rattle.shgrammar.specs.HereDocuments.{ADelimiter, Quoting, delimiter_in, has_dollar_single, in_double}
-use Rattle.shgrammar.specs.HereDocuments.{is_quoted, not_quoted, unquoted}
+use Rattle.shgrammar.specs.HereDocuments.{ADelimiter, Quoting, delimiter_in, has_dollar_single, in_double, is_quoted, not_quoted, unquoted}
 use Rattle.shgrammar.specs.Levels.{ReadsWord, level}
 use Rattle.shgrammar.specs.Pieces.{next_quote, past_closer, past_taken, piece_at, piece_in, unclosed}
 use Rattle.shgrammar.specs.Standing.{at_end, is_byte, raw_stands}
@@ -35,13 +31,9 @@ use Rattle.shgrammar.proofs.OneOutcome.{is}
 use Rattle.shgrammar.proofs.Places.{after_low, next_of_low, not_end_low, quote_clear}
 use Rattle.shgrammar.proofs.Stretches.{place_low}
 use Rattle.shgrammar.proofs.Turns.{many_again, many_done, turns_fault}
-use Rattle.shlaws.specs.Quotes.{Leaves, double, ended, escape, ordinary, pid, piece_by_edition}
-use Rattle.shlaws.specs.Quotes.{single as quoted}
-use Rattle.shlaws.proofs.PieceBytes.{Begins, another, arithmetic, backquote, byte_there, closes, dollar}
-use Rattle.shlaws.proofs.PieceBytes.{dollar_quote, dollars, double_quote, ends_here, escapes, is_unquoted}
-use Rattle.shlaws.proofs.PieceBytes.{lone, parameter, quote, quoting_in, stands_alone, substitution}
-use Rattle.shlaws.proofs.QuotePieces.{backslash_there, both_leads, byte_leads, double_there, far, left_all}
-use Rattle.shlaws.proofs.QuotePieces.{opened_leads, pid_within, quoted_leads, taken_leads, walk}
+use Rattle.shlaws.specs.Quotes.{Leaves, double, ended, escape, ordinary, pid, piece_by_edition, single as quoted}
+use Rattle.shlaws.proofs.PieceBytes.{Begins, another, arithmetic, backquote, byte_there, closes, dollar, dollar_quote, dollars, double_quote, ends_here, escapes, is_unquoted, lone, parameter, quote, quoting_in, stands_alone, substitution}
+use Rattle.shlaws.proofs.QuotePieces.{backslash_there, both_leads, byte_leads, double_there, far, left_all, opened_leads, pid_within, quoted_leads, taken_leads, walk}
 use Rattle.shlaws.proofs.QuoteSteps.{Leads, backquote_none, dollar_quote_found, leads_on, opener_none}
 
 -- ---- what is not expanded

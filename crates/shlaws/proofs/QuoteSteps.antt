@@ -1,7 +1,5 @@
 -- What quote removal byte by byte makes of each piece, and whether it finds text in dollar-single quotes.
-use Rattle.std.proofs.Common.{◌≡◌, ℕ, suc, ◌+◌, ◌-◌, ◌<◌, ◌==◌, Bool, true, false, cond, not, List, [], ◌∷◌}
-use Rattle.std.proofs.Common.{◌++◌, length, take, drop, get_or, slice_get, Option, Some, None, refl, sym, ap}
-use Rattle.std.proofs.Common.{◌∙◌, arith, append_assoc, drop-drop}
+use Rattle.std.proofs.Common.{◌≡◌, ℕ, suc, ◌+◌, ◌-◌, ◌<◌, ◌==◌, Bool, true, false, cond, not, List, [], ◌∷◌, ◌++◌, length, take, drop, get_or, slice_get, Option, Some, None, refl, sym, ap, ◌∙◌, arith, append_assoc, drop-drop}
 use Rattle.std.specs.Prelude.{◌&&◌, ◌||◌}
 use Rattle.std.proofs.lemmas.Bool.{and_from, and_right, false_from_ne_true}
 use Rattle.std.proofs.lemmas.List.{drop_more, length-drop}
@@ -10,9 +8,7 @@ use Rattle.shgrammar.specs.declared.mode.Mode.{Mode}
 use Rattle.shgrammar.specs.declared.mode.Mode.TheVariants.{Plain, Double, Brace, DoubleBrace, Arith}
 use Rattle.shgrammar.specs.Bytes.{byte_at, count_joined, past_byte, past_continuations, stands}
 use Rattle.shgrammar.specs.Form.{raw}
-use Rattle.shgrammar.specs.HereDocuments.{Quoting, after_quote, byte_left, escape_left, has_dollar_single}
-use Rattle.shgrammar.specs.HereDocuments.{in_double, in_single, is_live, is_quote, left_before, not_quoted}
-use Rattle.shgrammar.specs.HereDocuments.{unquoted}
+use Rattle.shgrammar.specs.HereDocuments.{Quoting, after_quote, byte_left, escape_left, has_dollar_single, in_double, in_single, is_live, is_quote, left_before, not_quoted, unquoted}
 use Rattle.shgrammar.specs.Pieces.{next_quote}
 use Rattle.shgrammar.specs.Standing.{at_end, continues, count_front, is_byte, raw_past, raw_stands}
 use Rattle.shgrammar.specs.Unquoting.{left_of}

@@ -1,6 +1,5 @@
 -- Where the body of a here-document ends (XCU 2.7.4), said of all of a text at once.
-use Rattle.std.specs.Prelude.{◌≡◌, ℕ, zero, suc, ◌+◌, ◌-◌, ◌<◌, ◌⊎◌, ◌&&◌, Bool, false, not, nat_le}
-use Rattle.std.specs.Prelude.{List, length, Some, slice_get, if◌then◌else◌}
+use Rattle.std.specs.Prelude.{◌≡◌, ℕ, zero, suc, ◌+◌, ◌-◌, ◌<◌, ◌⊎◌, ◌&&◌, Bool, false, not, nat_le, List, length, Some, slice_get, if◌then◌else◌}
 use Rattle.shgrammar.specs.HereDocuments.{rest_of_line, stripped}
 use Rattle.shgrammar.specs.Standing.{raw_stands}
 use Rattle.shgrammar.specs.States.{Waiting}

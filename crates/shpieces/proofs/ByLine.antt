@@ -27,8 +27,7 @@ use Rattle.shast.specs.Nodes.{placed_span}
 use Rattle.shast.specs.View.{view_entry}
 use Rattle.shprint.specs.declared.layout.Layout.{Layout}
 use Rattle.shprint.specs.Printed.{print_entries, print_entry, printed}
-use Rattle.shpieces.specs.Printing.{ArePrinted, IsPrinted, error_of, moved_error}
-use Rattle.shpieces.specs.Printing.{IsNoText}
+use Rattle.shpieces.specs.Printing.{ArePrinted, IsPrinted, error_of, moved_error, IsNoText}
 use Rattle.shprint.specs.ReadBack.{IsTextOf, ReadsBack}
 use Rattle.shpieces.specs.declared.by_line.PrintError.{PrintError}
 use Rattle.shpieces.specs.declared.by_line.PrintError.TheVariants as PrintErrors

@@ -1,5 +1,4 @@
-use Rattle.std.proofs.Common.{◌≡◌, ◌+◌, ◌-◌, ◌≤◌, ◌^◌, ◌++◌, ◌∷◌, [], ◌∙◌, ℕ, List, true, false, ap, arith, drop, length, refl, subst, sym}
-use Rattle.std.proofs.Common.{List as Row}
+use Rattle.std.proofs.Common.{◌≡◌, ◌+◌, ◌-◌, ◌≤◌, ◌^◌, ◌++◌, ◌∷◌, [], ◌∙◌, ℕ, List, true, false, ap, arith, drop, length, refl, subst, sym, List as Row}
 use Rattle.std.proofs.lemmas.List.{append-nil}
 use Rattle.shwindow.specs.declared.line.HeldLine.{HeldLine}
 use Rattle.shwindow.specs.Blocks.{in_one_row, lines_from}

@@ -1,5 +1,4 @@
-use Rattle.std.proofs.Common.{◌≡◌, ◌++◌, ◌∷◌, [], ◌∙◌, ℕ, List, ap, arith, subst, sym}
-use Rattle.std.proofs.Common.{unwrap_or}
+use Rattle.std.proofs.Common.{◌≡◌, ◌++◌, ◌∷◌, [], ◌∙◌, ℕ, List, ap, arith, subst, sym, unwrap_or}
 use Rattle.shwindow.specs.declared.blocks.Blocks.{Blocks}
 use Rattle.shwindow.specs.declared.line.HeldLine.{HeldLine}
 use Rattle.shwindow.specs.declared.place.BlockPlace.{BlockPlace}
