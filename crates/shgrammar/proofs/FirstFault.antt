@@ -5,17 +5,17 @@ use Rattle.shgrammar.specs.declared.fault.Fault.{Fault}
 use Rattle.shast.specs.Tree.{AnEntry}
 use Rattle.shgrammar.specs.Sights.{State, given, standing}
 use Rattle.shgrammar.specs.Form.{Read}
-use Rattle.shgrammar.specs.Levels.{level, most_open}
+use Rattle.shgrammar.specs.Levels.{most_open}
 use Rattle.shgrammar.specs.Scripts.{AScript, SoFar, is_blank_line, with_line, line_from, script_by, script_below, script_on, nothing_yet, first_fault_from}
-use Rattle.shgrammar.proofs.Alike.{Like, SameEnd, alike_level, alike_line}
+use Rattle.shgrammar.proofs.Alike.{Like, SameEnd}
+use Rattle.shgrammar.proofs.AlikeLists.{alike_level, alike_line}
 use Rattle.shgrammar.proofs.Lined.{line_more, line_last, line_faulty}
 use Rattle.shgrammar.specs.declared.edition.Edition.{Edition}
 
 module _ (edition : Edition) (B : List ℕ) where
   -- a line with its tree, and without
   like : (blank : Bool) (p : ℕ) → Like SameEnd (line_from edition B Whole blank p) (line_from edition B Nothing false p)
-  like blank p = (alike_line (given edition (drop p B) p) (level most_open)
-      (alike_level (given edition (drop p B) p) most_open) blank false).like (standing 0)
+  like blank p = (alike_line (alike_level (given edition (drop p B) p) most_open) blank false).like (standing 0)
 
   module _ (f h : SoFar → ℕ → AScript) (so to : SoFar) (p : ℕ)
       (rest : (es fs : Row AnEntry) (t : State) →

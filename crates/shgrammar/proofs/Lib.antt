@@ -4,6 +4,8 @@ pub mod Holds
 pub mod Lined
 pub mod Scripts
 pub mod Alike
+pub mod AlikeCommands
+pub mod AlikeLists
 pub mod FirstFault
 pub mod NormalForm
 pub mod Within

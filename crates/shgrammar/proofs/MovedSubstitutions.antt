@@ -8,7 +8,9 @@ use Rattle.shgrammar.specs.Levels.{level}
 use Rattle.shgrammar.specs.Moved.{moved_state}
 use Rattle.shgrammar.specs.Substitutions.{a_substitution, one_substitution}
 use Rattle.shgrammar.specs.Words.{Inner}
-use Rattle.shgrammar.proofs.Alike.{All, alike_level, alike_substitution, Fits as FitsWithout, Like as LikeWithout}
+use Rattle.shgrammar.proofs.Alike.{All, Like as LikeWithout}
+use Rattle.shgrammar.proofs.AlikeCommands.{Fits as FitsWithout}
+use Rattle.shgrammar.proofs.AlikeLists.{alike_level, alike_substitution}
 use Rattle.shgrammar.proofs.Holds.{Holds, Tells, tells_any, tells_seen, tells_then}
 use Rattle.shgrammar.proofs.Moved.{Any, Like, Moves, Place, by_itself, elsewhere, kept, moves_here, moves_stop}
 use Rattle.shgrammar.proofs.MovedLists.{moves_compound, moves_function, moves_one_substitution}
@@ -31,7 +33,7 @@ module _ (z : Place) (inner : Inner) (fits : Fits (with_all z) inner) (fits_with
   none_grows p s = tells_then Nothing (elsewhere z) (tells_any Nothing (elsewhere z))
       (λ es t so. tells_seen Nothing (elsewhere z) (record { told = refl }))
 
-  left_out : (x y w : Read (Row ASubst)) → Like k (map (subst_to k true)) Any x y → LikeWithout (All (elsewhere z)) y w
+  left_out : (x y w : Read (Row ASubst)) → Like k (map (subst_to k true)) Any x y → LikeWithout All y w
       → Holds (λ (ys : Row ASubst) (t : State). ys ≡ []) w → Like k (λ (xs : Row ASubst). []) Any x w
   left_out (Ok (x, s)) (Ok (y, t)) (Ok (w, u)) like same none = (none, sym same.0 ∙ like.1, tt)
   left_out (Ok (x, s)) (Ok (y, t)) (Err e) like same none = absurd same
@@ -50,7 +52,7 @@ module _ (z : Place) (inner : Inner) (fits : Fits (with_all z) inner) (fits_with
   there true s = (moves_one_substitution (with_all z) inner fits b ss).like s
   there false s =
       left_out _ _ _ ((moves_one_substitution (with_all z) inner fits b ss).like s)
-      ((alike_substitution (elsewhere z) inner fits_without (k + b) (map (subst_to k true) ss) []).like
+      ((alike_substitution fits_without (k + b) (map (subst_to k true) ss) []).like
       (moved_state k s)) (none_grows (k + b) (moved_state k s)).told
 
   pub moves_substitution : Moves z (substs_to k z.deep) Any (a_substitution inner b ss)

@@ -13,7 +13,8 @@ use Rattle.shgrammar.specs.Scripts.{AScript, SoFar, first_fault_from, is_blank_l
 use Rattle.shgrammar.specs.Search.{ArePassed, LineBefore, MayPass, StopsAt}
 use Rattle.shgrammar.specs.Sights.{State, given, standing}
 use Rattle.shgrammar.specs.Standing.{raw_stands}
-use Rattle.shgrammar.proofs.Alike.{Like, SameEnd, alike_level, alike_line}
+use Rattle.shgrammar.proofs.Alike.{Like, SameEnd}
+use Rattle.shgrammar.proofs.AlikeLists.{alike_level, alike_line}
 use Rattle.shgrammar.proofs.Answered.{fault_alone, fault_answered}
 use Rattle.shgrammar.proofs.FirstFault.{beyond_kept}
 use Rattle.shgrammar.proofs.MovedLine.{line_moved, line_outer}
@@ -71,8 +72,7 @@ leads_by edition script p t es (Err f) y is y_is same = let moved = rw y_is at s
 passed_alone : (edition : Edition) → (bytes : List ℕ) (p q : ℕ) (line : LineBefore edition bytes p q) →
     (fs : Row AnEntry) × (line_told edition bytes Whole false p 0 ≡ Ok ((fs, true), line.1))
 passed_alone edition bytes p q line =
-    let like = (alike_line (given edition (drop p bytes) 0) (level most_open)
-    (alike_level (given edition (drop p bytes) 0) most_open) false false).like (standing 0) in
+    let like = (alike_line (alike_level (given edition (drop p bytes) 0) most_open) false false).like (standing 0) in
     kept_by line.1 (line_told edition bytes Whole false p 0)
     (line_told edition bytes Nothing false p 0) line.0 line.2 like
 
