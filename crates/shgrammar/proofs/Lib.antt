@@ -33,6 +33,8 @@ pub mod ListsElsewhere
 pub mod WordsElsewhere
 pub mod Anywhere
 pub mod Spelling
+pub mod SpelledCommands
+pub mod SpelledLists
 pub mod CommentsElsewhere
 pub mod WordsWaiting
 pub mod WordsWithin

@@ -132,7 +132,7 @@ impl Reader {
     ///
     /// A fault is part of the answer. Want of memory is the only error: the meter is then as before, and the
     /// reader can be used again. A script without a byte wants no memory.
-    #[tactic(auto, using(shgrammar::proofs::Answered::script_answered, shgrammar::proofs::Spelling::script_spelled))]
+    #[tactic(auto, using(shgrammar::proofs::Answered::script_answered, shgrammar::proofs::SpelledLists::script_spelled))]
     pub fn read_script<S: Source>(&mut self, source: &S) -> Result<Script, ReadError>
         // The answer is what the grammar has for the bytes, and it has nothing else.
         ensures outcome { IfOk result
