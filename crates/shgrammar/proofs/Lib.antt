@@ -29,6 +29,8 @@ pub mod SameLine
 pub mod Inside
 pub mod PiecesInside
 pub mod GoingOn
+pub mod JoinsElsewhere
+pub mod CommandsElsewhere
 pub mod ListsElsewhere
 pub mod WordsElsewhere
 pub mod Anywhere

@@ -36,7 +36,9 @@ use Rattle.shast.proofs.FilledShape.{shape_filled}
 use Rattle.shgrammar.proofs.Shifted.{shifted, state_from}
 use Rattle.shgrammar.proofs.BodiesThere.{move_span, first_over}
 use Rattle.shgrammar.proofs.GoingOn.{over, Back, good, Found, Goes, go_stop, go_stopped, same_texts}
-use Rattle.shgrammar.proofs.ListsElsewhere.{Fine, SameCommand, SameList, SameWord, compound_same, function_same, lines, list_shape, next, rows_more}
+use Rattle.shgrammar.proofs.JoinsElsewhere.{next, rows_more}
+use Rattle.shgrammar.proofs.CommandsElsewhere.{Fine, SameCommand, SameWord}
+use Rattle.shgrammar.proofs.ListsElsewhere.{SameList, compound_same, function_same, lines, list_shape}
 use Rattle.shgrammar.proofs.TokensShown.{Begins, paren_here, shown_level, shown_lines, shown_next}
 use Rattle.shgrammar.proofs.WordsWithin.{Last, contents_end, stays_in}
 use Rattle.shgrammar.specs.declared.edition.Edition.{Edition}
@@ -55,13 +57,13 @@ pub record Everywhere (inner : Inner) : Type 0 where
   pub compound : (edition : Edition) (T U : List ℕ) (a M : ℕ) (to : ℕ → ℕ) (limit : ℕ)
       (E : ListEnds edition T U a M to limit) (o o2 : ℕ) (B B2 : List ℕ) (stands : T ≡ drop o B)
       (stands_there : U ≡ drop o2 B2) (c : Opener)
-      → Goes E o o2 B B2 stands stands_there (SameCommand E o o2 B B2 stands stands_there) (inner.compound c)
+      → Goes E o o2 B B2 stands stands_there (SameCommand B B2) (inner.compound c)
       (inner.compound c)
   pub function : (edition : Edition) (T U : List ℕ) (a M : ℕ) (to : ℕ → ℕ) (limit : ℕ)
       (E : ListEnds edition T U a M to limit) (o o2 : ℕ) (B B2 : List ℕ) (stands : T ≡ drop o B)
       (stands_there : U ≡ drop o2 B2) (name new : Span)
       → text_at B name ≡ text_at B2 new →
-      Goes E o o2 B B2 stands stands_there (SameCommand E o o2 B B2 stands stands_there) (inner.function name)
+      Goes E o o2 B B2 stands stands_there (SameCommand B B2) (inner.function name)
       (inner.function new)
 
 module _ (room : ℕ) (all : Everywhere (level room)) where
@@ -73,7 +75,7 @@ module _ (room : ℕ) (all : Everywhere (level room)) where
   module _ {edition : Edition} {T U : List ℕ} {a M : ℕ} {to : ℕ → ℕ} {limit : ℕ} (E : ListEnds edition T U a M to limit)
       (o o2 : ℕ) (B B2 : List ℕ) (stands : T ≡ drop o B) (stands_there : U ≡ drop o2 B2) where
     abbrev FoundWord : State → AWord → State → Type 0
-    FoundWord s w t = Found E o o2 B B2 stands stands_there (SameWord E o o2 B B2 stands stands_there)
+    FoundWord s w t = Found E o o2 B B2 stands stands_there (SameWord B B2)
         (a_word inner) s w t
 
     -- the bytes are the same up to its end
@@ -233,19 +235,21 @@ module _ (room : ℕ) (all : Everywhere (level room)) where
           same_start : does (next_token Command) Whole h (over_there s) ≡ Ok (the_next, over_there start)
           unfolding next_token
           same_start =
-              let w = (next E o o2 B B2 stands stands_there Command).go s from good_start in
+              let again : Goes E o o2 B B2 stands stands_there (λ n m. n ≡ m) (next_token Command)
+              (next_token Command) = next Command in
+              let w = again.go s from good_start in
               subst (λ (n : Next). does (next_token Command) Whole h (over_there s) ≡ Ok (n, over_there start))
               (sym w.1.1) w.1.0
 
           same_lines : (k : ListSo) ×
               ((does (all_lines the_next) Whole h (over_there start) ≡ Ok (k, over_there u))
-              × SameList E o o2 B B2 stands stands_there inner (fine E o o2 B B2 stands stands_there) l k)
+              × SameList B B2 l k)
           same_lines =
               subst (Holds (Found E o o2 B B2 stands stands_there
-              (SameList E o o2 B B2 stands stands_there inner (fine E o o2 B B2 stands stands_there))
+              (SameList B B2)
               (all_lines the_next) start)) is
-              ((lines E o o2 B B2 stands stands_there inner
-              (fine E o o2 B B2 stands stands_there) the_next the_next refl).go start (omega (arith, from, still)))
+              ((lines (fine E o o2 B B2 stands stands_there) the_next the_next refl).go start
+              (omega (arith, from, still)))
               at_limit
 
           abbrev last : State
@@ -291,8 +295,7 @@ module _ (room : ℕ) (all : Everywhere (level room)) where
               shape_filled B u.bodies (entries_of l.list.entries)
               ∙ ap (λ bs. filled bs (shape_of B (entries_of l.list.entries))) same_bodies
               ∙ ap (filled (map (text_at B2) (map (move_span E o o2) u.bodies)))
-              (list_shape E o o2 B B2 stands stands_there inner
-              (fine E o o2 B B2 stands stands_there) l k same_lines.1.1)
+              (list_shape B B2 l k same_lines.1.1)
               ∙ sym (shape_filled B2 (map (move_span E o o2) u.bodies) (entries_of k.list.entries))
 
           found : (zs : Row ASubst) → SameSubsts K o o2 B B2 ss zs
@@ -387,9 +390,8 @@ everywhere (suc room) =
             substitution = λ b b2 ss s from. substitution_there room
                 (everywhere room) K o o2 B B2 stands stands_there b b2 ss s from;
           };
-      compound = λ edition T U a M to limit E o o2 B B2 stands stands_there c. compound_same E o o2 B B2 stands
-          stands_there (level room) (fine room (everywhere room) E o o2 B B2 stands stands_there) c;
+      compound = λ edition T U a M to limit E o o2 B B2 stands stands_there c.
+          compound_same (fine room (everywhere room) E o o2 B B2 stands stands_there) c;
       function = λ edition T U a M to limit E o o2 B B2 stands stands_there name new same.
-          function_same E o o2 B B2 stands stands_there (level room)
-          (fine room (everywhere room) E o o2 B B2 stands stands_there) name new same;
+          function_same (fine room (everywhere room) E o o2 B B2 stands stands_there) name new same;
     }
