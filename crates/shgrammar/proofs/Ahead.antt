@@ -15,6 +15,7 @@ use Rattle.shgrammar.proofs.Places.{must_fail, after_low, past_low}
 use Rattle.shgrammar.proofs.SameBytes.{Kept, WordEnds, goes_on, Safe, at_limit, halts, one_byte, two_bytes, Place, inside, outside, Here, no_backslash, on_no_backslash, continued, safe_high, safe_low, safe_place, safe_after, none_same, pair_same, place, raw_same, here_byte, here_after}
 use Rattle.shgrammar.specs.declared.edition.Edition.{Edition}
 
+-- the place after a byte is one past the continuations before it
 pub behind_is : (T : List ℕ) (p : ℕ) → past_byte T p ≡ past_continuations T p + 1
 unfolding past_byte
 behind_is T p = refl
@@ -36,6 +37,7 @@ pub record Ender (c : ℕ) : Type 0 where
   pub no_less : (c == 60) ≡ false
   pub no_greater : (c == 62) ≡ false
 
+-- a newline is such a byte
 pub newline_ends : Ender 10
 newline_ends = record {
   ends_it = refl;
@@ -48,6 +50,7 @@ newline_ends = record {
   no_greater = refl;
 }
 
+-- and so is a `)`
 pub bracket_ends : Ender 41
 bracket_ends = record {
   ends_it = refl;
@@ -65,6 +68,7 @@ pub record Goes (c : ℕ) (test : ℕ → Bool) : Type 0 where
   pub on : (b : ℕ) → test b ≡ true → goes_on b ≡ true
   pub not_limit : test c ≡ false
 
+-- such tests: for a byte of a name, a letter, a digit, a blank, and for one such byte
 pub goes_name : (c : ℕ) → Ender c → Goes c is_name
 goes_name c e = record {
   on = λ b f. grind (arith, nat_tests);
@@ -92,14 +96,17 @@ goes_blank c e = record { on = λ b f. grind (arith, nat_tests); not_limit = e.n
 pub goes_one : (c x : ℕ) → goes_on x ≡ true → (c == x) ≡ false → Goes c (λ b. b == x)
 goes_one c x f g = record { on = λ b h. let is : b ≡ x = grind (arith, nat_tests) in rw is f; not_limit = g }
 
+-- where such a test passes, the reading goes on
 passes_goes : {c : ℕ} {test : ℕ → Bool} → Goes c test → (x : Option ℕ) → passes test x ≡ true → passes goes_on x ≡ true
 passes_goes g None e = absurd cc
 passes_goes g (Some b) e = g.on b e
 
+-- a byte over which it goes on is no backslash
 clear_goes : (x : Option ℕ) → passes goes_on x ≡ true → is_byte x 92 ≡ false
 clear_goes None e = refl
 clear_goes (Some b) e = must_fail (b == 92) (λ f. both_ways (goes_on b) (rw f refl) e)
 
+-- a byte that stands passes the test for itself
 pub stands_passes : (x : Option ℕ) (c : ℕ) → is_byte x c ≡ true → passes (λ b. b == c) x ≡ true
 stands_passes None c e = e
 stands_passes (Some b) c e = e
@@ -113,39 +120,51 @@ abbrev all_words : Row Spelling → Bool
 all_words [] = true
 all_words (w ∷ ws) = all_go w.0 && all_words ws
 
+-- both of two tests, where the second counts only if the first holds
 pub same_and : (b u v : Bool) → (b ≡ true → u ≡ v) → (b && u) ≡ (b && v)
 same_and true u v same = same refl
 same_and false u v same = refl
 
+-- a choice, where each side counts only if the test leads there
 pub same_if : {A : Type 0} (b : Bool) (x y u v : A) → (b ≡ true → x ≡ y) → (b ≡ false → u ≡ v) → cond b x u ≡ cond b y v
 same_if true x y u v one two = one refl
 same_if false x y u v one two = two refl
 
+-- a word of no bytes stands where a word may end
 pub spelled_none : (T : List ℕ) (p : ℕ) → is_word_at T p [] ≡ ends (byte_at T p)
 unfolding is_word_at ends_word
 spelled_none T p = refl
 
+-- a word of one more byte stands where that byte does, and the rest after it
 pub spelled_more : (T : List ℕ) (p x : ℕ) (xs : List ℕ) →
     is_word_at T p (x ∷ xs) ≡ (stands T p x && is_word_at T (past_byte T p) xs)
 unfolding is_word_at
 spelled_more T p x xs = refl
 
+-- what is not true is false
 pub not_false : (b : Bool) → not b ≡ true → b ≡ false
 not_false true f = absurd cc
 not_false false f = refl
 
+-- bytes that both texts have from a up to L, and the one there, which ends whatever is looked for
 pub record ListEnds (edition : Edition) (T T2 : List ℕ) (a L : ℕ) (to : ℕ → ℕ) (c : ℕ) : Type 0 where
   pub kept : Kept edition T T2 a (L + 1) to
   pub under : a ≤ L
   pub byte : slice_get T L ≡ Some c
   pub ender : Ender c
 
+-- what ends the reading in both texts is no backslash
 pub not_backslash : (c : ℕ) → Ender c → (c == 92) ≡ false
 not_backslash c e = let f = e.ends_it in grind (arith, nat_tests)
 
 module _ {edition : Edition} {T T2 : List ℕ} {a L : ℕ} {to : ℕ → ℕ} {c : ℕ} (E : ListEnds edition T T2 a L to c) where
+  -- the bytes before the limit
   pub K : Kept edition T T2 a L to
   K = record { under = E.under; on = E.kept.on; same = λ r low lt. E.kept.same r low (omega (arith, lt)) }
+
+  -- ---- the limit
+
+  -- No continuation stands there, in either text, so its byte is read there.
 
   limit_clear : raw_stands T L 92 ≡ false
   unfolding raw_stands
@@ -166,6 +185,7 @@ module _ {edition : Edition} {T T2 : List ℕ} {a L : ℕ} {to : ℕ → ℕ} {c
   limit_byte_there : byte_at T2 (to L) ≡ Some c
   limit_byte_there = ap (slice_get T2) limit_place_there ∙ E.kept.same L E.under (omega arith) ∙ E.byte
 
+  -- a word ends there in both
   pub W : WordEnds T T2 L to
   W = record {
     here = ap ends limit_byte ∙ E.ender.ends_it;
@@ -191,6 +211,7 @@ module _ {edition : Edition} {T T2 : List ℕ} {a L : ℕ} {to : ℕ → ℕ} {c
   seen s = seen_by (safe_low K s) (place K at_limit_same s)
 
   module _ {p : ℕ} (s : Safe T a L p) where
+    -- where it is safe, both texts have the same byte and the same place after it
     pub same_byte : byte_at T2 (to p) ≡ byte_at T p
     same_byte = here_byte E.kept (seen s)
 
@@ -286,6 +307,8 @@ module _ {edition : Edition} {T T2 : List ℕ} {a L : ℕ} {to : ℕ → ℕ} {c
 
   -- ---- blanks
 
+  -- Blanks end at one place in both texts, where it is safe; and before them it is as safe as after them.
+
   pub blanks_safe : {p : ℕ} → Safe T a L p → Safe T a L (past_blanks T p)
       × (past_blanks T2 (to p) ≡ to (past_blanks T p))
   unfolding past_blanks
@@ -329,12 +352,15 @@ module _ {edition : Edition} {T T2 : List ℕ} {a L : ℕ} {to : ℕ → ℕ} {c
       no_backslash T2 (to p) (raw_same K p 92 low (omega (arith, safe_high K rest)) ∙ e) ∙ sym (no_backslash T p e)
   same_continues (two_bytes {p = p} low d rest) = pair_same K p low (omega (arith, safe_high K rest))
 
+  -- a continuation after blanks stands in both texts, or in none
   pub same_broken : {p : ℕ} → Safe T a L p → is_broken_at T2 (to p) ≡ is_broken_at T p
   unfolding is_broken_at
   same_broken {p = p} s = let r = raw_blanks_below (suc (L - p)) p (omega arith) s in
       ap (continues T2) r.1 ∙ same_continues r.0
 
   -- ---- words that are spelled
+
+  -- A word of the grammar stands in both texts or in none, where it is safe.
 
   stands_is : (p x : ℕ) → stands T p x ≡ true → stands_in (λ b. b == x) T p ≡ true
   unfolding stands stands_in
@@ -364,6 +390,8 @@ module _ {edition : Edition} {T T2 : List ℕ} {a L : ℕ} {to : ℕ → ℕ} {c
   same_reserved {p = p} s = same_words _ p refl s
 
   -- ---- tokens
+
+  -- Where it is safe, both texts have the same token, in each position of a command.
 
   pub same_assignment : {p : ℕ} → Safe T a L p → begins_assignment T2 (to p) ≡ begins_assignment T p
   unfolding begins_assignment

@@ -21,6 +21,10 @@ use Rattle.shgrammar.specs.Tokens.{first_word, greater_at, is_comment, is_end, i
 use Rattle.shgrammar.specs.Shows.{IsRead, Shows}
 use Rattle.shgrammar.proofs.Places.{blanks_stop, place_same}
 
+-- ---- a byte that is read lies in the text
+
+-- By what is known of it: that it is this byte, or that there is one.
+
 byte_read : (T : List ℕ) (q c : ℕ) (b : Option ℕ) → slice_get T q ≡ b → is_byte b c ≡ true → q < length T
 byte_read T q c None is e = absurd cc
 byte_read T q c (Some b) is e = slice_get_within T q b is
@@ -32,6 +36,8 @@ stands_read T q c e = byte_read T (past_continuations T q) c _ refl e
 some_read : (T : List ℕ) (q : ℕ) (b : Option ℕ) → slice_get T q ≡ b → is_none b ≡ false → q < length T
 some_read T q None is e = absurd cc
 some_read T q (Some b) is e = slice_get_within T q b is
+
+-- ---- what the bytes are, by the token
 
 -- a byte that is none of these is no operator
 no_operator : (b : ℕ) → (b == 38) ≡ false → (b == 124) ≡ false → (b == 59) ≡ false → (b == 40) ≡ false →
@@ -54,6 +60,7 @@ Byte T p b tokens.Word = ends b ≡ false
 Byte T p b _ = Unit {0}
 
 module _ (T : List ℕ) (p : ℕ) where
+  -- a byte that ends no word shows what is told of it: a word, an assignment, a reserved word
   word_is : (b : Option ℕ) (assigns : Bool) → ends b ≡ false → Byte T p b (word_of assigns)
   word_is b true e = e
   word_is b false e = e
@@ -150,6 +157,7 @@ module _ (T : List ℕ) (p : ℕ) where
   hash_byte position None e = absurd cc
   hash_byte position (Some b) e = rw (eqb-true b 35 e) refl
 
+  -- so where the token is no comment there is no `#`
   no_hash : (position : Position) (b : Option ℕ) (hash : Bool) → is_byte b 35 ≡ hash →
       is_comment (token_of position T p b) ≡ false → is_byte b 35 ≡ false
   no_hash position b true is e =
@@ -157,6 +165,11 @@ module _ (T : List ℕ) (p : ℕ) where
       absurd cc
   no_hash position b false is e = is
 
+-- ---- what each token shows
+
+-- A token shows its own bytes alone: a fact of another token holds since this is not that one.
+
+-- what an operator shows its token shows: a second byte, a third one, and the `<` of a here-document
 redirect_read : (T : List ℕ) (p : ℕ) (o : RedirectOperator) → (is_long o ≡ true → IsRead T (past_byte T p)) →
     (z : RedirectOperator) → redirect_operator_of (tokens.Redirect o) ≡ Some z → is_long z ≡ true →
     IsRead T (past_byte T p)
@@ -173,6 +186,7 @@ here_read : (T : List ℕ) (p : ℕ) (o : RedirectOperator) → (takes_here o �
     raw_stands T p 60 ≡ true
 here_read T p o so z is takes = let same : o ≡ z = cc in so (rw same takes)
 
+-- each token, by what its bytes are
 shows_by : (T : List ℕ) (p : ℕ) (t : Token) → past_continuations T p ≡ p → (is_end t ≡ false → IsRead T p) →
     Byte T p (byte_at T p) t → (is_comment t ≡ false → raw_stands T p 35 ≡ false) → Shows t T p
 unfolding ends_word raw_stands at_end
@@ -415,6 +429,7 @@ shows_by T p tokens.Word still some e none = (
   λ o f. absurd cc,
 )
 
+-- no continuation stands where blanks end
 pub blanks_still : (T : List ℕ) (p : ℕ) → past_continuations T (past_blanks T p) ≡ past_blanks T p
 unfolding past_blanks
 blanks_still T p = place_same T _
@@ -448,6 +463,7 @@ shows_later T p false so = (
   λ o f. absurd cc,
 )
 
+-- and so for each token
 pub shows_in : (edition : Edition) (t : Token) (T : List ℕ) (p : ℕ) → Shows t T p → Shows (token_in edition t) T p
 shows_in edition tokens.SemicolonAmpersand T p so = shows_later T p (is_later edition) so
 shows_in edition tokens.End T p so = so
@@ -467,6 +483,7 @@ shows_in edition (tokens.Reserved r) T p so = so
 shows_in edition tokens.Assignment T p so = so
 shows_in edition tokens.Word T p so = so
 
+-- the token of an edition says this of the bytes after blanks
 pub shown_in : (edition : Edition) (position : Position) (T : List ℕ) (p : ℕ) →
     Shows (token_in edition (token_at position T (past_blanks T p))) T (past_blanks T p)
 shown_in edition position T p =

@@ -33,13 +33,16 @@ use Rattle.shgrammar.proofs.Holds.{Tells, Turned, tells_give, tells_then, tells_
 use Rattle.shgrammar.specs.declared.edition.Edition.{Edition}
 
 module _ (g : Given) where
+  -- P holds of what r reads with its tree, and of the state there
   abbrev N : {X : Type 0} → Form X → (X → State → Type 0) → State → Type 0
   N r P s = Tells Whole g r P s
 
+  -- what a form gives may be anything
   after : {X Y : Type 0} {Q : Y → State → Type 0} {r : Form X} {q : X → Form Y} {s : State} →
       ((x : X) (t : State) → N (q x) Q t) → N (both r q) Q s
   after rest = tells_after Whole g rest
 
+  -- one more element, and then the rest
   pushed_on : {A Y : Type 0} {Q : Y → State → Type 0} {xs : Row A} {x : A} {q : Row A → Form Y} {s : State} →
       N (q (xs ++ x ∷ [])) Q s → N (both (push xs x) q) Q s
   pushed_on rest = tells_pushed g rest
@@ -52,10 +55,15 @@ module _ (g : Given) where
   abbrev pub Behind : {X : Type 0} → X × Next → State → Type 0
   Behind x t = Begins x.1 t
 
+  -- one form, or the other
   picked : {X : Type 0} {P : X → State → Type 0} (b : Bool) {r q : Form X} {s : State} → N r P s → N q P s →
       N (pick b r q) P s
   picked true one two = one
   picked false one two = two
+
+  -- ---- tokens, comments and separators
+
+  -- Each row: the token that it hands on begins where the reading stands then, if the one given to it did.
 
   pub shown_next : (position : Position) (s : State) → N (next_token position) Begins s
   unfolding next_token
@@ -93,6 +101,8 @@ module _ (g : Given) where
 
   -- ---- joins
 
+  -- After comments and newlines, too, the token that is handed on begins where the reading stands.
+
   abbrev JoinShown : JoinSo → State → Type 0
   JoinShown j t = Begins j.next t
 
@@ -125,6 +135,9 @@ module _ (g : Given) where
 
   -- ---- commands
 
+  -- Each row of a command hands on the token after it; one that reads nothing hands on the one it was given.
+
+  -- what may be opened hands on the token that begins after it
   pub record Fine (inner : Inner) : Type 0 where
     pub compound : (o : Opener) (s : State) → N (inner.compound o) Behind s
     pub function : (name : Span) (s : State) → N (inner.function name) Behind s
@@ -255,6 +268,8 @@ module _ (g : Given) where
 
     -- ---- lists
 
+    -- Each row of a list hands on the token after it, which may be what ends the list.
+
     abbrev ListShown : ListSo → State → Type 0
     ListShown l t = Begins l.next t
 
@@ -300,6 +315,8 @@ module _ (g : Given) where
         (λ l t good. picked l.list.commands (tells_give Whole g good) (stopped l.next))
 
     -- ---- compound commands
+
+    -- Each row of a compound command hands on the token after it.
 
     shown_reserved_or_paren : (text : Spelled) (paren : Bool) (position : Position) (s : State) →
         N (reserved_or_paren text paren position) Behind s
@@ -514,6 +531,7 @@ module _ (g : Given) where
         (λ l v three. tells_then Whole g (shown_compound_by l.next (opener_of l.next.token) v)
         (λ b w good. tells_give Whole g good))))
 
+  -- by how many more may be opened
   pub shown_level : (room : ℕ) → Fine (level room)
   unfolding level
   shown_level zero = record {
@@ -528,16 +546,21 @@ module _ (g : Given) where
 
 -- ---- a `)`
 
+-- Where the token is a `)`, the byte is: no other byte is told as that token, nor any word.
+
+-- a choice that is a `)`, and whose first is none, took the second
 paren_else : (c : Bool) (x y : Token) → (x ≡ tokens.CloseParen → ⊥) → cond c x y ≡ tokens.CloseParen → (c ≡ false)
     × (y ≡ tokens.CloseParen)
 paren_else true x y other is = absurd (other is)
 paren_else false x y other is = (refl, is)
 
+-- a choice of two that are no `)` is none
 paren_both : (c : Bool) (x y : Token) → (x ≡ tokens.CloseParen → ⊥) → (y ≡ tokens.CloseParen → ⊥) →
     cond c x y ≡ tokens.CloseParen → ⊥
 paren_both true x y one two is = one is
 paren_both false x y one two is = two is
 
+-- a word is no `)`, in whatever position
 no_paren_word : (assigns : Bool) → word_of assigns ≡ tokens.CloseParen → ⊥
 no_paren_word true is = absurd cc
 no_paren_word false is = absurd cc
@@ -551,11 +574,13 @@ no_paren Command T p is = no_paren_first (begins_assignment T p) (reserved_at T 
 no_paren Prefix T p is = no_paren_word (begins_assignment T p) is
 no_paren Suffix T p is = absurd cc
 
+-- a choice of a `)` and what is none is a `)` where its test holds
 paren_by : (c : Bool) (x : Token) → (x ≡ tokens.CloseParen → ⊥) → cond c tokens.CloseParen x ≡ tokens.CloseParen →
     c ≡ true
 paren_by true x other is = refl
 paren_by false x other is = absurd (other is)
 
+-- what is told as a `)` is that byte
 close_byte : (position : Position) (T : List ℕ) (p : ℕ) (x : Option ℕ) → token_of position T p x ≡ tokens.CloseParen →
     x ≡ Some 41
 close_byte position T p None is = absurd cc
@@ -576,6 +601,7 @@ close_byte position T p (Some b) is =
     let same : b ≡ 41 = grind (arith, nat_tests) in
     rw same refl
 
+-- what closes as a `)` is that token
 closes_by : (t : Token) → is_closing closings.Paren t ≡ true → t ≡ tokens.CloseParen
 closes_by tokens.CloseParen e = refl
 closes_by _ e = absurd cc
@@ -604,15 +630,20 @@ paren_here g n t (position, (token, still)) closes = (
 
 -- ---- a newline
 
+-- Where the token is a newline, the byte is: no other byte is told as that token, nor any word.
+
+-- a choice of a newline and what is none is a newline where its test holds
 newline_else : (c : Bool) (y : Token) → cond c tokens.Newline y ≡ tokens.Newline → (y ≡ tokens.Newline → ⊥) → c ≡ true
 newline_else true y is other = refl
 newline_else false y is other = absurd (other is)
 
+-- a choice of two that are no newlines is none
 newline_both : (c : Bool) (x y : Token) → (x ≡ tokens.Newline → ⊥) → (y ≡ tokens.Newline → ⊥) →
     cond c x y ≡ tokens.Newline → ⊥
 newline_both true x y one two is = one is
 newline_both false x y one two is = two is
 
+-- a word is no newline, in whatever position
 no_newline_word : (assigns : Bool) → word_of assigns ≡ tokens.Newline → ⊥
 no_newline_word true is = absurd cc
 no_newline_word false is = absurd cc
@@ -626,6 +657,7 @@ no_newline Command T p is = no_newline_first (begins_assignment T p) (reserved_a
 no_newline Prefix T p is = no_newline_word (begins_assignment T p) is
 no_newline Suffix T p is = absurd cc
 
+-- what is told as a newline is that byte
 newline_byte : (position : Position) (T : List ℕ) (p : ℕ) (x : Option ℕ) → token_of position T p x ≡ tokens.Newline →
     x ≡ Some 10
 newline_byte position T p None is = absurd cc
@@ -647,10 +679,12 @@ newline_byte position T p (Some b) is =
     let same : b ≡ 10 = grind (arith, nat_tests, here) in
     rw same refl
 
+-- only that token is a newline
 newline_is : (t : Token) → is_newline_token t ≡ true → t ≡ tokens.Newline
 newline_is tokens.Newline e = refl
 newline_is _ e = absurd cc
 
+-- an edition has it where the text has it
 newline_in : (later : Bool) → is_newline_token (cond later tokens.SemicolonAmpersand tokens.Semicolon) ≡ true → ⊥
 newline_in true e = absurd cc
 newline_in false e = absurd cc

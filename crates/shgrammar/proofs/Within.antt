@@ -49,12 +49,14 @@ use Rattle.shgrammar.specs.declared.edition.Edition.{Edition}
 
 -- ---- comments
 
+-- the place before the blanks that stand before q is not past q
 pub before_blanks_low : (T : List ℕ) (q : ℕ) → before_blanks T q ≤ q
 unfolding before_blanks
 before_blanks_low T zero = omega arith
 before_blanks_low T (suc q) = cond_both (raw_in is_blank T q) _ _ (λ n. n ≤ suc q)
     (λ e. omega (arith, before_blanks_low T q)) (λ e. omega arith)
 
+-- the span of a comment, where a test told that one stands, ends before the place after it
 comment_by_test : (test : Bool) (o p last next : ℕ) (c : Span) → p ≤ next → last ≤ next →
     cond test (Some (span o p last)) None ≡ Some c
     → IsSpanWithin (o + cond test next p) c
@@ -71,6 +73,7 @@ comment_low T o p c is =
 
 -- ---- forms
 
+-- of what was read two facts hold at once
 holds_and : {X : Type 0} (P Q : X → State → Type 0) (x : Read X) → Holds P x → Holds Q x →
     Holds (λ a t. P a t × Q a t) x
 holds_and P Q (Ok (a, t)) one two = (one, two)
@@ -91,6 +94,7 @@ module _ (keep : Keep) (g : Given) (limit : ℕ) where
       ⊎_elim (λ lt. tells_so keep g (low r keep g s) (λ x t on. λ b. absurd (omega (arith, lt, on, b))))
       (λ ge. so (omega (arith, ge))) (cases_lt limit (g.offset + s.at))
 
+  -- what is given, if P holds of it
   gives : {X : Type 0} {P : X → Type 0} {x : X} {s : State} → P x → R (give x) P s
   gives so = tells_give keep g (λ b. so)
 
@@ -104,6 +108,7 @@ module _ (keep : Keep) (g : Given) (limit : ℕ) where
       ((x : X) (t : State) → R (q x) Q t) → R (both r q) Q s
   after {r = r} {s = s} rest = tells_then keep g {r = r} {s = s} (low r keep g s) (λ x t on. rest x t)
 
+  -- P holds of a row with one more element, and of the row as it was, where none is kept
   pushed_all : {A : Type 0} (P : A → Type 0) (grow : Bool) (xs : Row A) (x : A) → All P xs → P x →
       All P (pushed grow xs x)
   pushed_all P true xs x all one = All-push P xs x all one
@@ -130,11 +135,13 @@ module _ (keep : Keep) (g : Given) (limit : ℕ) where
   Stepped P (again a) = P a
   Stepped P (done a) = P a
 
+  -- what holds of a turn's step holds of where it goes on, or ends
   turned : {A : Type 0} (P : A → Type 0) (c : Step A) (t : State) → (Before t → Stepped P c) →
       Turned keep g (λ a u. Before u → P a) c t
   turned P (again a) t so = so
   turned P (done a) t so = so
 
+  -- a step that goes on or ends by a test
   stepped : {A : Type 0} (P : A → Type 0) (b : Bool) (a : A) → P a → Stepped P (step_if b a)
   stepped P true a so = so
   stepped P false a so = so
@@ -155,11 +162,14 @@ module _ (keep : Keep) (g : Given) (limit : ℕ) where
   in_level : {X : Type 0} {P : X → Type 0} {r : Form X} {s : State} → R r P (own_level s) → R (a_level r) (λ x. P x.0) s
   in_level {P = P} one = tells_level keep g {P = λ a t. Before t → P a} {Q = λ x t. Before t → P x.0} one (λ a t so. so)
 
+  -- one form, or the other
   picks : {X : Type 0} {P : X → Type 0} (b : Bool) {r q : Form X} {s : State} → R r P s → R q P s → R (pick b r q) P s
   picks true one two = one
   picks false one two = two
 
   -- ---- words
+
+  -- Each row of a word: where the substitutions so far fit within the limit, so do those with what it adds.
 
   abbrev SubstsFit : WordSoFar → Type 0
   SubstsFit h = All (SubstFits limit) h.substs
@@ -170,6 +180,7 @@ module _ (keep : Keep) (g : Given) (limit : ℕ) where
   BareFits (compound (formed form span redirects)) = IsSpanWithin limit span × Nodes limit (form_nodes form)
   BareFits (function name comments body) = CommandFits limit (function name comments body)
 
+  -- what may be opened names no offset past the limit
   pub record Fine (inner : Inner) : Type 0 where
     pub construct : (mode : Mode) (b : ℕ) (ss : Row ASubst) (s : State) → All (SubstFits limit) ss →
         R (inner.construct mode b ss) (All (SubstFits limit)) s
@@ -228,6 +239,8 @@ module _ (keep : Keep) (g : Given) (limit : ℕ) where
         (λ w u good. gives (good.1, fits_substs limit w.0 good.0)))
 
     -- ---- commands
+
+    -- Each row of a command: where what it has so far fits within the limit, so does what it gives.
 
     abbrev ItemsFit : Items → Type 0
     ItemsFit i = All (ItemFits limit) i.items
@@ -454,6 +467,8 @@ module _ (keep : Keep) (g : Given) (limit : ℕ) where
 
     -- ---- lists
 
+    -- Each row of a list: its entries fit within the limit, and so does the offset after a last separator.
+
     abbrev ListFits : ListSo → Type 0
     ListFits l = All (EntryFits limit) l.list.entries × PartedFits l.list.parted
 
@@ -497,6 +512,7 @@ module _ (keep : Keep) (g : Given) (limit : ℕ) where
         (λ n t. first (on_line_fits (list_so (none_listed blank) n) t (All-nil (EntryFits limit), tt))
         (λ l u all. after (λ newline v. gives all.0)))
 
+    -- the entries of a line, with the bodies of its here-documents
     pub line_fits : (blank : Bool) (s : State) → R (a_line inner blank) (λ x. AreWithin limit (entries_of x.0)) s
     unfolding a_line
     line_fits blank s =
@@ -505,6 +521,8 @@ module _ (keep : Keep) (g : Given) (limit : ℕ) where
         (filled_within limit l.1 (entries_of l.0.0) (fits_entries limit l.0.0 all))))
 
     -- ---- compound commands
+
+    -- Each row of a compound command: what it holds fits within the limit, and so does what closes it.
 
     reserved_or_paren_fits : (text : Spelled) (paren : Bool) (position : Position) (s : State) →
         R (reserved_or_paren text paren position) (λ x. IsSpanWithin limit x.0) s
@@ -755,6 +773,8 @@ module _ (keep : Keep) (g : Given) (limit : ℕ) where
 
     -- ---- substitutions
 
+    -- The list of a substitution fits within the limit, and so do the substitutions with one more.
+
     substitution_list_fits : (s : State) → R (substitution_list inner) (AreWithin limit) s
     unfolding substitution_list
     substitution_list_fits s =
@@ -781,6 +801,8 @@ module _ (keep : Keep) (g : Given) (limit : ℕ) where
         }))
 
     -- ---- functions
+
+    -- A function fits within the limit where its name does.
 
     under_fits : (name : Span) (cs : Row Span) (c : ACommand) → IsSpanWithin limit name → All (CommentFits limit) cs →
         CommandFits limit c → CommandFits limit (under_name name cs c)
@@ -828,6 +850,7 @@ line_within edition T o keep blank newline es t is limit le =
     subst (Holds (λ (x : Row AnEntry × Bool) (u : State). o + u.at ≤ limit → AreWithin limit (entries_of x.0))) is told
     le
 
+-- and so do those in what the line is
 kind_within : (limit : ℕ) (es : Row AnEntry) (newline : Bool) → AreWithin limit (entries_of es) →
     EntriesWithin limit (kind_of es newline)
 kind_within limit [] true so = tt
