@@ -15,6 +15,9 @@ use Rattle.shast.specs.Tree.{ACaseMark, AJoin, AHere, Entries, no_entry, more_en
 
 -- ---- what is no tree
 
+-- For each type `to_` gives a value's code, `from_` what a code says, and `back_` that it says the value.
+-- Where a code is none of a value `from_` gives some value, as `any_span`.
+
 abbrev pub to_bool : Bool → Gv
 to_bool false = gnum 0
 to_bool true = gnum 1
@@ -41,6 +44,7 @@ pub back_span : (x : Span) → from_span (to_span x) ≡ x
 back_span x = refl
 
 module _ {A : Type 0} (to : A → Gv) (from : Gv → A) (back : (x : A) → from (to x) ≡ x) where
+  -- a row and an option, by the code of what is in them
   abbrev pub to_row : Row A → Gv
   to_row [] = gnil
   to_row (x ∷ xs) = gcons (to x) (to_row xs)
@@ -65,6 +69,7 @@ module _ {A : Type 0} (to : A → Gv) (from : Gv → A) (back : (x : A) → from
   back_option None = refl
   back_option (Some x) = λ i. Some (back x i)
 
+-- an operator's code is its number
 abbrev pub to_operator : AndOrOperator → Gv
 to_operator ops.And = gnum 0
 to_operator ops.Or = gnum 1
@@ -110,6 +115,7 @@ back_redirect_operator reds.ReadWrite = refl
 back_redirect_operator reds.HereStripped = refl
 back_redirect_operator reds.Clobber = refl
 
+-- rows of spans, and a span that may be missing
 abbrev pub to_spans : Row Span → Gv
 to_spans = to_row to_span from_span back_span
 
@@ -172,6 +178,9 @@ back_mark x = λ i. record { mark = back_span x.mark i; falls = back_bool x.fall
 
 -- ---- trees
 
+-- A node's code has its parts in their order, after the number of its kind where there are several.
+
+-- some value of each type, for codes of none
 abbrev pub any_command : ACommand
 any_command = simple no_item
 
@@ -518,13 +527,17 @@ mutual
   pub back_subst : (x : ASubst) → from_subst (to_subst x) ≡ x
   back_subst (subst a b) = λ i. subst (back_entries a i) (back_span b i)
 
+-- a tree of numbers is its own code
 abbrev pub itself : Coded Gv
 itself = record { code = λ g. g; inj = λ x y e. e }
 
+-- the code of a list's entries
 abbrev pub entries_code : Coded Entries
 entries_code = code_by Gv itself to_entries from_entries back_entries
 
 -- ---- lines
+
+-- A line has entries, or a fault, or nothing: then a flag tells the end of the text from a blank line.
 
 abbrev pub fault_code : Coded Fault
 fault_code = the_fault.the_row.coded
@@ -547,6 +560,7 @@ back_sum (entries_line es) = refl
 back_sum end_line = refl
 back_sum (faulty_line f) = refl
 
+-- the code of what a line is
 abbrev pub kind_code : Coded AKind
 kind_code = code_by (Entries ⊎ (Fault ⊎ Bool))
     (coded⊎ entries_code (coded⊎ fault_code coded_bool)) to_sum from_sum back_sum

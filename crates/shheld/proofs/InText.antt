@@ -45,6 +45,7 @@ other : (test : Token → Bool) → test tokens.End ≡ false → (t : Token) �
 other test none tokens.End e = absurd (both_ways (test tokens.End) none e)
 other test none _ e = refl
 
+-- the end of the text closes nothing
 closes_none : (c : Closing) → is_closing c tokens.End ≡ false
 closes_none closings.Brace = refl
 closes_none _ = refl
@@ -53,6 +54,7 @@ module _ (g : Given) where
   abbrev T : List ℕ
   T = g.text
 
+  -- P holds of what r reads with its tree, and of the state there
   abbrev N : {X : Type 0} → Form X → (X → State → Type 0) → State → Type 0
   N r P s = Tells Whole g r P s
 
@@ -65,25 +67,31 @@ module _ (g : Given) where
     pub shows : Shows n.token T t.at
     pub within : t.at ≤ length T
 
+  -- what was read, and this token handed on after it
   abbrev pub Behind : {X : Type 0} → X × Next → State → Type 0
   Behind x t = Handed x.1 t
 
+  -- one more element, and then the rest
   pushed_on : {A Y : Type 0} {Q : Y → State → Type 0} {xs : Row A} {x : A} {q : Row A → Form Y} {s : State}
       → N (q (xs ++ x ∷ [])) Q s → N (both (push xs x) q) Q s
   pushed_on rest = tells_pushed g rest
 
+  -- one form, where a test holds, or another
   pub picked : {X : Type 0} {P : X → State → Type 0} (b : Bool) {r q : Form X} {s : State}
       → (b ≡ true → N r P s) → N q P s → N (pick b r q) P s
   picked true one two = one refl
   picked false one two = two
 
+  -- where a row stops, nothing is said
   pub stops : {X : Type 0} {P : X → State → Type 0} (inner : Inner) (n : Next) {s : State}
       → N (unexpected {X = X} inner n) P s
   stops inner n = tells_after Whole g (λ w t. record { told = tt })
 
+  -- what is given, where the reading stands
   gives : {X : Type 0} {x : X} {P : X → State → Type 0} {s : State} → P x s → N (give x) P s
   gives so = tells_give Whole g so
 
+  -- what is seen, and then the rest
   sees : {X Y : Type 0} {Q : Y → State → Type 0} {f : Sight X} {q : X → Form Y} {s : State}
       → N (q (seen f g s)) Q s → N (both (see f) q) Q s
   sees rest = tells_seen Whole g rest
@@ -96,12 +104,17 @@ module _ (g : Given) where
 
   -- ---- moves
 
+  -- A move stays in the text where the bytes that it goes over are in it.
+
+  -- one move
   moved_on : (m : Move) {s : State} → to m T s.at ≤ length T → N (move m) InText s
   moved_on m le = record { told = le }
 
+  -- one token
   token_on : {X : Type 0} {r : Form X} {how : Telling} {s : State} → N r InText s → N (token how r) InText s
   token_on one = tells_token Whole g one (λ a t le. le)
 
+  -- an operator of two bytes, where the second is read
   two_on : {how : Telling} (s : State) → IsRead T (past_byte T s.at)
       → N (token how (both (move one_byte) (λ x. move one_byte))) InText s
   two_on s is = token_on (record { told = after_high T (past_byte T s.at) is })
@@ -111,6 +124,7 @@ module _ (g : Given) where
       → test n.token ≡ true → IsRead T s.at
   read n s so test none e = so.shows.1 (other test none n.token e)
 
+  -- so the place after it is in the text
   pub read_on : (n : Next) (s : State) → Handed n s → (test : Token → Bool) → test tokens.End ≡ false
       → test n.token ≡ true → past_byte T s.at ≤ length T
   read_on n s so test none e = after_high T s.at (read n s so test none e)
@@ -121,11 +135,15 @@ module _ (g : Given) where
   next_here position s le =
       record { told = record { shows = shown_in g.edition position T s.at; within = blanks_high T s.at le } }
 
+  -- the same, with the state left to be inferred
   onward : (position : Position) {s : State} → s.at ≤ length T → N (next_token position) Handed s
   onward position {s = s} le = next_here position s le
 
   -- ---- comments, newlines and separators
 
+  -- Each row stays in the text, and hands on a token that shows the bytes there, if it was given one.
+
+  -- a comment ends in the text
   comment_high : (p : ℕ) → p ≤ length T → past_comment T p ≤ length T
   unfolding past_comment
   comment_high p le =
@@ -141,6 +159,7 @@ module _ (g : Given) where
           onward Command le ▹ λ m u good. gives good
       by_comment None = gives so
 
+  -- and so do the bodies of here-documents
   pub bodies_high : (s t : State) → s.at ≤ length T → changed bodies_here g s ≡ Ok t → t.at ≤ length T
   bodies_high s t le is = by_read (bodies_from g s.waiting s.bodies s.at) refl is
     where
@@ -182,6 +201,8 @@ module _ (g : Given) where
 
   -- ---- joins
 
+  -- Comments and newlines stay in the text, and hand on a token there.
+
   abbrev JoinHanded : JoinSo → State → Type 0
   JoinHanded j t = Handed j.next t
 
@@ -214,6 +235,9 @@ module _ (g : Given) where
 
   -- ---- redirections
 
+  -- An operator's token shows each of its bytes, so that all may be passed.
+
+  -- digits end in the text
   digits_high : (p : ℕ) → p ≤ length T → past_digits T p ≤ length T
   unfolding past_digits
   digits_high p le = past_high is_digit T p le
@@ -226,6 +250,7 @@ module _ (g : Given) where
       onward Suffix le ▹ λ m u good. gives good)
       (gives so)
 
+  -- where its bytes are read, an operator ends in the text
   operator_ends : (o : RedirectOperator) (s : State) → IsRead T s.at
       → (is_long o ≡ true → IsRead T (past_byte T s.at))
       → (is_strip o ≡ true → IsRead T (past_byte T (past_byte T s.at)))
@@ -248,6 +273,7 @@ module _ (g : Given) where
           operator_ends o s byte (so.shows.9 o is) (so.shows.10 o is) ▹ λ x t le. gives le
       by_operator None is = record { told = tt }
 
+  -- nothing moves where one more document waits
   waits_in : (w : Waiting) (s : State) → s.at ≤ length T → N (change (waits w)) InText s
   waits_in w s le =
       tells_change Whole g
@@ -264,6 +290,9 @@ module _ (g : Given) where
 
   -- ---- commands
 
+  -- Each row of a command stays in the text, where what may be opened in it does.
+
+  -- what may be opened stays in the text; a compound command and a function where their first byte is read
   pub record Stays (inner : Inner) : Type 0 where
     pub words : (s : State) → s.at ≤ length T → N (a_word inner) InText s
     pub compound : (o : Opener) (s : State) → IsRead T s.at → N (inner.compound o) Behind s
@@ -410,6 +439,8 @@ module _ (g : Given) where
 
     -- ---- lists
 
+    -- Each row of a list stays in the text, and hands on a token there.
+
     abbrev pub ListHanded : ListSo → State → Type 0
     ListHanded l t = Handed l.next t
 
@@ -456,6 +487,9 @@ module _ (g : Given) where
 
     -- ---- compound commands
 
+    -- Each row of a compound command stays in the text, and hands on a token there.
+
+    -- a reserved word ends in the text where its first byte is read, and so does what opens a command
     reserved_high : (p : ℕ) → IsRead T p → past_reserved T p ≤ length T
     unfolding past_reserved
     reserved_high p is = past_high is_name T (past_byte T p) (after_high T p is)
@@ -471,6 +505,7 @@ module _ (g : Given) where
         token_on (moved_on (past_opener paren) (opener_high paren s.at is)) ▹ λ x t le.
         onward position le ▹ λ n u good. gives good
 
+    -- where the token closes, a byte is read
     closes : (c : Closing) (n : Next) (s : State) → Handed n s → is_closing c n.token ≡ true → IsRead T s.at
     closes c n s so e = read n s so (is_closing c) (closes_none c) e
 
@@ -684,6 +719,7 @@ module _ (g : Given) where
         reserved_or_paren_in _ true Command s is ▹ λ o t one. closing_in closings.Paren o.1 t one ▹ λ c u two.
         linebreak_in [] c.1 u two ▹ λ l v three. compound_in l.next v three ▹ λ b w good. gives good
 
+  -- a word stays in the text
   words_in : (room : ℕ) (s : State) → s.at ≤ length T → N (a_word (level room)) InText s
   unfolding a_word
   words_in room s le =
@@ -693,6 +729,7 @@ module _ (g : Given) where
       (λ a t so. so.0))
       (λ w t so. gives so))
 
+  -- by how many more may be opened
   pub stays_at : (room : ℕ) → Stays (level room)
   unfolding level
   stays_at zero = record {
