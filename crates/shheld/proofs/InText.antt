@@ -21,6 +21,7 @@ use Rattle.shgrammar.specs.declared.token.Separator.{Separator}
 use Rattle.shgrammar.specs.declared.token.Token.{Token}
 use Rattle.shgrammar.specs.declared.token.Token.TheVariants as tokens
 use Rattle.shgrammar.specs.Bytes.{past_byte}
+use Rattle.shgrammar.specs.Characters.{number_sign}
 use Rattle.shgrammar.specs.Classes.{is_digit, is_name}
 use Rattle.shgrammar.specs.Commands.{pick, next_token, is_newline_token, is_semicolon, a_semicolon, is_pipe, is_bang, begins_simple, begins_word, begins_redirect, begins_pipeline, opener_of, compound_by, and_or_operator_of, Items, so_many, breaks, after_word, one_redirect, after_redirect, redirect_turn, with_redirect_list, an_item, item_by, item_turn, a_simple, unexpected, comment_by, a_comment, a_newline, with_comment, JoinSo, join_turn, a_join, a_command, a_bang, Piped, piped, one_command, pipe_turn, a_pipeline, Joined, one_pipeline, joined_by, join_pipeline, an_and_or, separator_of, separator_by, a_separator, an_entry, is_paren, is_word, a_word_command, ends_item, falls_through, is_long, is_number_token, is_strip, redirect_operator_of, a_number, an_operator, operator_by, a_target, a_document, document_by, takes_here}
 use Rattle.shgrammar.specs.Comments.{comment_at, past_comment}
@@ -147,7 +148,7 @@ module _ (g : Given) where
   comment_high : (p : ℕ) → p ≤ length T → past_comment T p ≤ length T
   unfolding past_comment
   comment_high p le =
-      cond_both (raw_stands T p 35) _ _ (λ q. q ≤ length T) (λ e. next_newline_high T p le) (λ e. le)
+      cond_both (raw_stands T p number_sign) _ _ (λ q. q ≤ length T) (λ e. next_newline_high T p le) (λ e. le)
 
   comment_in : (n : Next) (s : State) → Handed n s → N (a_comment n) Behind s
   unfolding a_comment

@@ -10,6 +10,7 @@ use Rattle.shgrammar.specs.declared.token.Position.TheVariants.{Command}
 use Rattle.shgrammar.specs.declared.token.Token.{Token}
 use Rattle.shgrammar.specs.declared.token.Token.TheVariants as tokens
 use Rattle.shgrammar.specs.Bytes.{past_byte}
+use Rattle.shgrammar.specs.Characters.{newline_char}
 use Rattle.shgrammar.specs.Commands.{is_newline_token, none_waits, nothing_waits}
 use Rattle.shgrammar.specs.Form.{change, does, nothing_read}
 use Rattle.shgrammar.specs.HereDocuments.{bodies_here, first_waiting, own_level}
@@ -51,13 +52,13 @@ module _ (g : Given) where
   Rest newline t = is_ended T newline t.at ≡ false → t.at ≡ length T
 
   -- after a newline token, with the bodies that follow it
-  rest_by : (t : State) → t.at ≤ length T → (raw_stands T (t.at - 1) 10 ≡ true) ⊎ (at_end T t.at ≡ true)
+  rest_by : (t : State) → t.at ≤ length T → (raw_stands T (t.at - 1) newline_char ≡ true) ⊎ (at_end T t.at ≡ true)
       → Rest true t
   rest_by t le ends not_ended =
-      ⊎_elim (λ last. absurd (both_ways (raw_stands T (t.at - 1) 10) not_ended last))
+      ⊎_elim (λ last. absurd (both_ways (raw_stands T (t.at - 1) newline_char) not_ended last))
       (λ none. let high = end_high T t.at none in omega arith) ends
 
-  bodies_rest : (s : State) → s.at ≤ length T → raw_stands T (s.at - 1) 10 ≡ true
+  bodies_rest : (s : State) → s.at ≤ length T → raw_stands T (s.at - 1) newline_char ≡ true
       → Tells Whole g (change bodies_here) (λ x t. Rest true t) s
   bodies_rest s le newline =
       tells_change Whole g
@@ -80,7 +81,7 @@ module _ (g : Given) where
       picked g (is_newline_token n.token)
       (λ e. let here = so.shows.6 in
       let at : s.at ≡ past_byte T s.at - 1 = omega (arith, here) in
-      let newline = subst (λ p. raw_stands T p 10 ≡ true) at (so.shows.2 (newline_is n.token e)) in
+      let newline = subst (λ p. raw_stands T p newline_char ≡ true) at (so.shows.2 (newline_is n.token e)) in
       tells_moved Whole g
       (tells_then Whole g
       (bodies_rest (record s { at = past_byte T s.at }) (read_on g n s so is_newline_token refl e) newline)

@@ -5,6 +5,7 @@ use Rattle.std.proofs.lemmas.Option.{slice_get_within}
 use Rattle.shast.specs.Tree.{AnEntry}
 use Rattle.std.specs.Prelude.{List as Row}
 use Rattle.shgrammar.specs.declared.edition.Edition.{Edition}
+use Rattle.shgrammar.specs.Characters.{newline_char}
 use Rattle.shgrammar.specs.declared.keep.Keep.TheVariants.{Whole}
 use Rattle.shgrammar.specs.Levels.{level, most_open}
 use Rattle.shgrammar.specs.Lines.{AKind, ALine, IsLine, a_line, line_read, line_stops}
@@ -25,11 +26,11 @@ held l = record { kind = l.kind; len = l.next; ended = l.ended }
 only : (edition : Edition) (T : List ℕ) (l m : HeldLine AKind) → IsTopLine edition T l → IsTopLine edition T m → l ≡ m
 only edition T l m one two = ap held (line_only edition T (as_read l) one ∙ sym (line_only edition T (as_read m) two))
 
-byte_within : (T : List ℕ) (p : ℕ) (b : Option ℕ) → slice_get T p ≡ b → is_byte b 10 ≡ true → p < length T
+byte_within : (T : List ℕ) (p : ℕ) (b : Option ℕ) → slice_get T p ≡ b → is_byte b newline_char ≡ true → p < length T
 byte_within T p None is e = absurd cc
 byte_within T p (Some b) is e = slice_get_within T p b is
 
-stands_within : (T : List ℕ) (p : ℕ) → raw_stands T p 10 ≡ true → p < length T
+stands_within : (T : List ℕ) (p : ℕ) → raw_stands T p newline_char ≡ true → p < length T
 unfolding raw_stands
 stands_within T p e = byte_within T p (slice_get T p) refl e
 
