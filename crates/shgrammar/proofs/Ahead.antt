@@ -6,6 +6,7 @@ use Rattle.shtext.specs.Text.{is_newline}
 use Rattle.shgrammar.specs.Classes.{is_blank, is_letter, is_digit, is_name}
 use Rattle.shgrammar.specs.Standing.{is_byte, raw_in, raw_stands, raw_past, passes, continues}
 use Rattle.shgrammar.specs.Bytes.{ends, ends_word, past, past_blanks, is_broken_at, past_continuations, byte_at, past_byte, stands, stands_in}
+use Rattle.shgrammar.specs.Characters.{left_parenthesis, semicolon, ampersand, vertical_line, less_than_sign, greater_than_sign, newline_char, right_parenthesis, backslash, equals_sign, hyphen}
 use Rattle.shgrammar.specs.declared.token.Position.{Position}
 use Rattle.shgrammar.specs.declared.token.Position.TheVariants.{Command, Prefix, Suffix}
 use Rattle.shgrammar.specs.declared.token.Token.TheVariants as tokens
@@ -29,16 +30,16 @@ ender b c e f = must_fail (b == c)
 -- goes on, and it ends a word
 pub record Ender (c : ℕ) : Type 0 where
   pub ends_it : ends (Some c) ≡ true
-  pub no_open : (c == 40) ≡ false
+  pub no_open : (c == left_parenthesis) ≡ false
   pub no_blank : is_blank c ≡ false
-  pub no_semicolon : (c == 59) ≡ false
-  pub no_ampersand : (c == 38) ≡ false
-  pub no_bar : (c == 124) ≡ false
-  pub no_less : (c == 60) ≡ false
-  pub no_greater : (c == 62) ≡ false
+  pub no_semicolon : (c == semicolon) ≡ false
+  pub no_ampersand : (c == ampersand) ≡ false
+  pub no_bar : (c == vertical_line) ≡ false
+  pub no_less : (c == less_than_sign) ≡ false
+  pub no_greater : (c == greater_than_sign) ≡ false
 
 -- a newline is such a byte
-pub newline_ends : Ender 10
+pub newline_ends : Ender newline_char
 newline_ends = record {
   ends_it = refl;
   no_open = refl;
@@ -51,7 +52,7 @@ newline_ends = record {
 }
 
 -- and so is a `)`
-pub bracket_ends : Ender 41
+pub bracket_ends : Ender right_parenthesis
 bracket_ends = record {
   ends_it = refl;
   no_open = refl;
@@ -102,9 +103,9 @@ passes_goes g None e = absurd cc
 passes_goes g (Some b) e = g.on b e
 
 -- a byte over which it goes on is no backslash
-clear_goes : (x : Option ℕ) → passes goes_on x ≡ true → is_byte x 92 ≡ false
+clear_goes : (x : Option ℕ) → passes goes_on x ≡ true → is_byte x backslash ≡ false
 clear_goes None e = refl
-clear_goes (Some b) e = must_fail (b == 92) (λ f. both_ways (goes_on b) (rw f refl) e)
+clear_goes (Some b) e = must_fail (b == backslash) (λ f. both_ways (goes_on b) (rw f refl) e)
 
 -- a byte that stands passes the test for itself
 pub stands_passes : (x : Option ℕ) (c : ℕ) → is_byte x c ≡ true → passes (λ b. b == c) x ≡ true
@@ -154,7 +155,7 @@ pub record ListEnds (edition : Edition) (T T2 : List ℕ) (a L : ℕ) (to : ℕ 
   pub ender : Ender c
 
 -- what ends the reading in both texts is no backslash
-pub not_backslash : (c : ℕ) → Ender c → (c == 92) ≡ false
+pub not_backslash : (c : ℕ) → Ender c → (c == backslash) ≡ false
 not_backslash c e = let f = e.ends_it in grind (arith, nat_tests)
 
 module _ {edition : Edition} {T T2 : List ℕ} {a L : ℕ} {to : ℕ → ℕ} {c : ℕ} (E : ListEnds edition T T2 a L to c) where
@@ -166,12 +167,12 @@ module _ {edition : Edition} {T T2 : List ℕ} {a L : ℕ} {to : ℕ → ℕ} {c
 
   -- No continuation stands there, in either text, so its byte is read there.
 
-  limit_clear : raw_stands T L 92 ≡ false
+  limit_clear : raw_stands T L backslash ≡ false
   unfolding raw_stands
   limit_clear = rw E.byte (not_backslash c E.ender)
 
-  limit_clear_there : raw_stands T2 (to L) 92 ≡ false
-  limit_clear_there = raw_same E.kept L 92 E.under (omega arith) ∙ limit_clear
+  limit_clear_there : raw_stands T2 (to L) backslash ≡ false
+  limit_clear_there = raw_same E.kept L backslash E.under (omega arith) ∙ limit_clear
 
   limit_place : past_continuations T L ≡ L
   limit_place = joined_none T L (no_backslash T L limit_clear)
@@ -190,7 +191,7 @@ module _ {edition : Edition} {T T2 : List ℕ} {a L : ℕ} {to : ℕ → ℕ} {c
   W = record {
     here = ap ends limit_byte ∙ E.ender.ends_it;
     there = ap ends limit_byte_there ∙ E.ender.ends_it;
-    closed = ap (λ b. is_byte b 40) limit_byte_there ∙ E.ender.no_open;
+    closed = ap (λ b. is_byte b left_parenthesis) limit_byte_there ∙ E.ender.no_open;
   }
 
   -- where no continuation begins in the first text none begins in the second
@@ -245,7 +246,7 @@ module _ {edition : Edition} {T T2 : List ℕ} {a L : ℕ} {to : ℕ → ℕ} {c
   raw_safe (halts low lt none stop) on other = absurd (both_ways _ stop on)
   raw_safe (one_byte low on rest) also other = rest
   raw_safe (two_bytes {p = p} low c rest) on other =
-      absurd (both_ways (raw_stands T p 92) (on_no_backslash T p on) (continued T p c).0)
+      absurd (both_ways (raw_stands T p backslash) (on_no_backslash T p on) (continued T p c).0)
 
   module _ (test : ℕ → Bool) (g : Goes c test) where
     not_there : (p : ℕ) → raw_in test T p ≡ true → p ≡ L → ⊥
@@ -286,7 +287,7 @@ module _ {edition : Edition} {T T2 : List ℕ} {a L : ℕ} {to : ℕ → ℕ} {c
     pub past_safe : {p : ℕ} → Safe T a L p → Safe T a L (past test T p) × (past test T2 (to p) ≡ to (past test T p))
     past_safe {p = p} s = past_below (suc (length T - p)) p (omega arith) s
 
-    raw_clear : (p : ℕ) → stands_in test T p ≡ true → raw_stands T (past_continuations T p) 92 ≡ false
+    raw_clear : (p : ℕ) → stands_in test T p ≡ true → raw_stands T (past_continuations T p) backslash ≡ false
     unfolding stands_in raw_stands
     raw_clear p e = clear_goes (byte_at T p) (passes_goes g (byte_at T p) e)
 
@@ -349,7 +350,8 @@ module _ {edition : Edition} {T T2 : List ℕ} {a L : ℕ} {to : ℕ → ℕ} {c
   same_continues (halts {p = p} low lt none stop) = at_limit_same p low lt none ∙ sym none
   same_continues (one_byte {p = p} low on rest) =
       let e = on_no_backslash T p on in
-      no_backslash T2 (to p) (raw_same K p 92 low (omega (arith, safe_high K rest)) ∙ e) ∙ sym (no_backslash T p e)
+      no_backslash T2 (to p) (raw_same K p backslash low (omega (arith, safe_high K rest)) ∙ e) ∙ sym
+      (no_backslash T p e)
   same_continues (two_bytes {p = p} low d rest) = pair_same K p low (omega (arith, safe_high K rest))
 
   -- a continuation after blanks stands in both texts, or in none
@@ -397,7 +399,7 @@ module _ {edition : Edition} {T T2 : List ℕ} {a L : ℕ} {to : ℕ → ℕ} {c
   unfolding begins_assignment
   same_assignment s =
       let r = past_safe is_name (goes_name c E.ender) s in
-      rw (same_stands_in s is_letter, r.1, same_stands r.0 61) refl
+      rw (same_stands_in s is_letter, r.1, same_stands r.0 equals_sign) refl
 
   pub same_name : {p : ℕ} → Safe T a L p → is_name_at T2 (to p) ≡ is_name_at T p
   unfolding is_name_at ends_word
@@ -409,7 +411,7 @@ module _ {edition : Edition} {T T2 : List ℕ} {a L : ℕ} {to : ℕ → ℕ} {c
   unfolding is_number
   same_number s =
       let r = past_safe is_digit (goes_digit c E.ender) s in
-      rw (same_stands_in s is_digit, r.1, same_stands r.0 60, same_stands r.0 62) refl
+      rw (same_stands_in s is_digit, r.1, same_stands r.0 less_than_sign, same_stands r.0 greater_than_sign) refl
 
   same_in_position : (position : Position) {p : ℕ} → Safe T a L p → word_by position T2 (to p) ≡ word_by position T p
   same_in_position Command s = rw (same_assignment s, same_reserved s) refl
@@ -419,15 +421,16 @@ module _ {edition : Edition} {T T2 : List ℕ} {a L : ℕ} {to : ℕ → ℕ} {c
   same_less : {q : ℕ} → Safe T a L q → less_at T2 (to q) ≡ less_at T q
   unfolding less_at
   same_less {q = q} s =
-      rw (same_stands s 60, same_stands s 38, same_stands s 62)
-      (same_if (stands T q 60) _ _ _ _
-      (λ e. let next = next_safe (λ x. x == 60) (goes_one c 60 refl E.ender.no_less) s (stands_is q 60 e) in
-      rw (same_after s, same_stands next 45) refl)
+      rw (same_stands s less_than_sign, same_stands s ampersand, same_stands s greater_than_sign)
+      (same_if (stands T q less_than_sign) _ _ _ _
+      (λ e. let next = next_safe (λ x. x == less_than_sign) (goes_one c less_than_sign refl E.ender.no_less) s
+      (stands_is q less_than_sign e) in
+      rw (same_after s, same_stands next hyphen) refl)
       (λ e. refl))
 
   same_greater : {q : ℕ} → Safe T a L q → greater_at T2 (to q) ≡ greater_at T q
   unfolding greater_at
-  same_greater s = rw (same_stands s 62, same_stands s 38, same_stands s 124) refl
+  same_greater s = rw (same_stands s greater_than_sign, same_stands s ampersand, same_stands s vertical_line) refl
 
   token_by : (position : Position) {p : ℕ} (x : Option ℕ) → Safe T a L p → byte_at T p ≡ x →
       token_of position T2 (to p) x ≡ token_of position T p x
@@ -435,22 +438,24 @@ module _ {edition : Edition} {T T2 : List ℕ} {a L : ℕ} {to : ℕ → ℕ} {c
   token_by position None s is = refl
   token_by position {p = p} (Some b) s is =
       same_if (is_newline b) _ _ _ _ (λ e. refl)
-      (λ e. same_if (b == 59) _ _ _ _
-      (λ f. let next = next_safe (λ x. x == 59) (goes_one c 59 refl E.ender.no_semicolon) s (rw is f) in
-      rw (same_after s, same_stands next 59, same_stands next 38) refl)
-      (λ f. same_if (b == 38) _ _ _ _
-      (λ g. let next = next_safe (λ x. x == 38) (goes_one c 38 refl E.ender.no_ampersand) s (rw is g) in
-      rw (same_after s, same_stands next 38) refl)
-      (λ g. same_if (b == 124) _ _ _ _
-      (λ h. let next = next_safe (λ x. x == 124) (goes_one c 124 refl E.ender.no_bar) s (rw is h) in
-      rw (same_after s, same_stands next 124) refl)
-      (λ h. same_if (b == 40) _ _ _ _ (λ i. refl)
-      (λ i. same_if (b == 41) _ _ _ _ (λ j. refl)
-      (λ j. same_if (b == 60) _ _ _ _
-      (λ k. let next = next_safe (λ x. x == 60) (goes_one c 60 refl E.ender.no_less) s (rw is k) in
+      (λ e. same_if (b == semicolon) _ _ _ _
+      (λ f. let next = next_safe (λ x. x == semicolon) (goes_one c semicolon refl E.ender.no_semicolon) s (rw is f) in
+      rw (same_after s, same_stands next semicolon, same_stands next ampersand) refl)
+      (λ f. same_if (b == ampersand) _ _ _ _
+      (λ g. let next = next_safe (λ x. x == ampersand) (goes_one c ampersand refl E.ender.no_ampersand) s (rw is g) in
+      rw (same_after s, same_stands next ampersand) refl)
+      (λ g. same_if (b == vertical_line) _ _ _ _
+      (λ h. let next = next_safe (λ x. x == vertical_line) (goes_one c vertical_line refl E.ender.no_bar) s (rw is h) in
+      rw (same_after s, same_stands next vertical_line) refl)
+      (λ h. same_if (b == left_parenthesis) _ _ _ _ (λ i. refl)
+      (λ i. same_if (b == right_parenthesis) _ _ _ _ (λ j. refl)
+      (λ j. same_if (b == less_than_sign) _ _ _ _
+      (λ k. let next = next_safe (λ x. x == less_than_sign) (goes_one c less_than_sign refl E.ender.no_less) s
+      (rw is k) in
       ap tokens.Redirect (ap (less_at T2) (same_after s) ∙ same_less next))
-      (λ k. same_if (b == 62) _ _ _ _
-      (λ l. let next = next_safe (λ x. x == 62) (goes_one c 62 refl E.ender.no_greater) s (rw is l) in
+      (λ k. same_if (b == greater_than_sign) _ _ _ _
+      (λ l. let next = next_safe (λ x. x == greater_than_sign) (goes_one c greater_than_sign refl E.ender.no_greater) s
+      (rw is l) in
       ap tokens.Redirect (ap (greater_at T2) (same_after s) ∙ same_greater next))
       (λ l. rw (same_number s, same_in_position position s) refl))))))))
 

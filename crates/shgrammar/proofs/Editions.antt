@@ -23,6 +23,7 @@ use Rattle.shgrammar.specs.HereDocuments.{delimiter_of, has_dollar_single, not_q
 use Rattle.shgrammar.specs.Words.{dollar_single, escaped_turn}
 use Rattle.shgrammar.specs.Standing.{at_end, continues, count_front, raw_past, raw_stands}
 use Rattle.shgrammar.specs.Bytes.{byte_at, count_joined, ends, is_broken_at, past, past_below, past_blanks, past_byte, past_continuations, stands, stands_in}
+use Rattle.shgrammar.specs.Characters.{semicolon, ampersand, vertical_line, left_parenthesis, right_parenthesis, less_than_sign, greater_than_sign, number_sign, dollar_sign, left_brace, apostrophe, quotation_mark, right_brace, backslash, grave_accent}
 use Rattle.shgrammar.specs.Pieces.{bracket_by, byte_by, dollar_at, dollar_by, end_by, past_taken, piece_at, piece_by, piece_in}
 use Rattle.shgrammar.specs.Tokens.{begins_assignment, first_word, is_number, next_at, next_in, reserved_at, token_at, token_in, token_of, word_by, word_of}
 
@@ -55,15 +56,15 @@ pub tokens_same : (position : Position) (T : List ℕ) (p : ℕ) (x : Option ℕ
 tokens_same position T p None = refl
 tokens_same position T p (Some b) =
     either (is_newline b) _ _ _ _ refl
-    (either (b == 59) _ _ _ _ (either (stands T (past_byte T p) 59) _ _ _ _ refl
-    (neither (stands T (past_byte T p) 38)))
-    (either (b == 38) _ _ _ _ (either (stands T (past_byte T p) 38) _ _ _ _ refl refl)
-    (either (b == 124) _ _ _ _ (either (stands T (past_byte T p) 124) _ _ _ _ refl refl)
-    (either (b == 40) _ _ _ _ refl
-    (either (b == 41) _ _ _ _ refl
-    (either (b == 60) _ _ _ _ refl
-    (either (b == 62) _ _ _ _ refl
-    (either (b == 35) _ _ _ _ refl
+    (either (b == semicolon) _ _ _ _ (either (stands T (past_byte T p) semicolon) _ _ _ _ refl
+    (neither (stands T (past_byte T p) ampersand)))
+    (either (b == ampersand) _ _ _ _ (either (stands T (past_byte T p) ampersand) _ _ _ _ refl refl)
+    (either (b == vertical_line) _ _ _ _ (either (stands T (past_byte T p) vertical_line) _ _ _ _ refl refl)
+    (either (b == left_parenthesis) _ _ _ _ refl
+    (either (b == right_parenthesis) _ _ _ _ refl
+    (either (b == less_than_sign) _ _ _ _ refl
+    (either (b == greater_than_sign) _ _ _ _ refl
+    (either (b == number_sign) _ _ _ _ refl
     (either (is_number T p) _ _ _ _ refl (by_position position T p))))))))))
 
 -- ---- what a `$` begins
@@ -82,9 +83,10 @@ pub dollars_same : (mode : Mode) (T : List ℕ) (q : ℕ) (x : Option ℕ) →
     piece_in Y2017 mode (dollar_by T q x) ≡ dollar_2017 T q x
 dollars_same mode T q None = refl
 dollars_same mode T q (Some b) =
-    in_mode mode (b == 36) _ _ _ _ refl
-    (in_mode mode (b == 40) _ _ _ _ (in_mode mode (stands T (past_byte T q) 40) _ _ _ _ refl refl)
-    (in_mode mode (b == 123) _ _ _ _ refl (plain_dollar mode (b == 39))))
+    in_mode mode (b == dollar_sign) _ _ _ _ refl
+    (in_mode mode (b == left_parenthesis) _ _ _ _
+    (in_mode mode (stands T (past_byte T q) left_parenthesis) _ _ _ _ refl refl)
+    (in_mode mode (b == left_brace) _ _ _ _ refl (plain_dollar mode (b == apostrophe))))
 
 -- ---- pieces
 
@@ -95,14 +97,15 @@ bracket_same (suc n) two = refl
 
 bytes_same : (mode : Mode) (T : List ℕ) (p n b : ℕ) → piece_in Y2017 mode (byte_by T p mode n b) ≡ byte_by T p mode n b
 bytes_same Plain T p n b = in_mode Plain (ends (Some b)) _ _ _ _ refl
-    (in_mode Plain (b == 39) _ _ _ _ refl (in_mode Plain (b == 34) _ _ _ _ refl refl))
-bytes_same Double T p n b = in_mode Double (b == 34) _ _ _ _ refl refl
-bytes_same Brace T p n b = in_mode Brace (b == 125) _ _ _ _ refl
-    (in_mode Brace (b == 39) _ _ _ _ refl (in_mode Brace (b == 34) _ _ _ _ refl refl))
+    (in_mode Plain (b == apostrophe) _ _ _ _ refl (in_mode Plain (b == quotation_mark) _ _ _ _ refl refl))
+bytes_same Double T p n b = in_mode Double (b == quotation_mark) _ _ _ _ refl refl
+bytes_same Brace T p n b = in_mode Brace (b == right_brace) _ _ _ _ refl
+    (in_mode Brace (b == apostrophe) _ _ _ _ refl (in_mode Brace (b == quotation_mark) _ _ _ _ refl refl))
 bytes_same DoubleBrace T p n b =
-    in_mode DoubleBrace (b == 125) _ _ _ _ refl (in_mode DoubleBrace (b == 34) _ _ _ _ refl refl)
-bytes_same Arith T p n b = in_mode Arith (b == 41) _ _ _ _ (bracket_same n (stands T (past_byte T p) 41))
-    (in_mode Arith (b == 40) _ _ _ _ refl refl)
+    in_mode DoubleBrace (b == right_brace) _ _ _ _ refl (in_mode DoubleBrace (b == quotation_mark) _ _ _ _ refl refl)
+bytes_same Arith T p n b = in_mode Arith (b == right_parenthesis) _ _ _ _
+    (bracket_same n (stands T (past_byte T p) right_parenthesis))
+    (in_mode Arith (b == left_parenthesis) _ _ _ _ refl refl)
 
 end_same : (mode : Mode) → piece_in Y2017 mode (end_by mode) ≡ end_by mode
 end_same Plain = refl
@@ -116,9 +119,9 @@ piece_by_same : (mode : Mode) (T : List ℕ) (n p : ℕ) (x : Option ℕ) →
 unfolding dollar_at
 piece_by_same mode T n p None = end_same mode
 piece_by_same mode T n p (Some b) =
-    in_mode mode (b == 92) _ _ _ _ (in_mode mode (at_end T (past_byte T p)) _ _ _ _ refl refl)
-    (in_mode mode (b == 96) _ _ _ _ refl
-    (in_mode mode (b == 36) _ _ _ _ (dollars_same mode T (past_byte T p) (byte_at T (past_byte T p)))
+    in_mode mode (b == backslash) _ _ _ _ (in_mode mode (at_end T (past_byte T p)) _ _ _ _ refl refl)
+    (in_mode mode (b == grave_accent) _ _ _ _ refl
+    (in_mode mode (b == dollar_sign) _ _ _ _ (dollars_same mode T (past_byte T p) (byte_at T (past_byte T p)))
     (bytes_same mode T p n b)))
 
 -- ---- what a row sees

@@ -14,6 +14,7 @@ use Rattle.shtext.specs.Text.{is_newline}
 use Rattle.shgrammar.specs.Classes.{is_blank, is_operator}
 use Rattle.shgrammar.specs.Standing.{is_byte, is_none, passes, raw_stands, at_end}
 use Rattle.shgrammar.specs.Bytes.{byte_at, past_byte, ends, ends_word, past_blanks, past_continuations, stands, stands_in}
+use Rattle.shgrammar.specs.Characters.{ampersand, vertical_line, semicolon, left_parenthesis, right_parenthesis, less_than_sign, greater_than_sign, newline_char, hyphen, number_sign}
 use Rattle.shast.specs.declared.tree.RedirectOperator.{RedirectOperator}
 use Rattle.shgrammar.specs.Commands.{is_long, is_strip, redirect_operator_of, takes_here, falls_through}
 use Rattle.shgrammar.specs.declared.edition.Edition.{Edition}
@@ -40,20 +41,23 @@ some_read T q (Some b) is e = slice_get_within T q b is
 -- ---- what the bytes are, by the token
 
 -- a byte that is none of these is no operator
-no_operator : (b : ℕ) → (b == 38) ≡ false → (b == 124) ≡ false → (b == 59) ≡ false → (b == 40) ≡ false →
-    (b == 41) ≡ false → (b == 60) ≡ false → (b == 62) ≡ false → is_operator b ≡ false
+no_operator : (b : ℕ) → (b == ampersand) ≡ false → (b == vertical_line) ≡ false → (b == semicolon) ≡ false →
+    (b == left_parenthesis) ≡ false →
+    (b == right_parenthesis) ≡ false → (b == less_than_sign) ≡ false → (b == greater_than_sign) ≡ false →
+    is_operator b ≡ false
 no_operator b one two three four five six seven = rw (one, two, three, four, five, six, seven) refl
 
 -- what the bytes at p are, by the token
 abbrev Byte : List ℕ → ℕ → Option ℕ → Token → Type 0
 Byte T p b tokens.End = is_none b ≡ true
-Byte T p b tokens.Newline = is_byte b 10 ≡ true
+Byte T p b tokens.Newline = is_byte b newline_char ≡ true
 Byte T p b tokens.AndIf = IsRead T (past_byte T p)
 Byte T p b tokens.OrIf = IsRead T (past_byte T p)
 Byte T p b tokens.DoubleSemicolon = IsRead T (past_byte T p)
 Byte T p b tokens.SemicolonAmpersand = IsRead T (past_byte T p)
 Byte T p b (tokens.Redirect o) = (is_long o ≡ true → IsRead T (past_byte T p))
-    × (is_strip o ≡ true → IsRead T (past_byte T (past_byte T p))) × (takes_here o ≡ true → is_byte b 60 ≡ true)
+    × (is_strip o ≡ true → IsRead T (past_byte T (past_byte T p))) ×
+    (takes_here o ≡ true → is_byte b less_than_sign ≡ true)
 Byte T p b (tokens.Reserved r) = ends b ≡ false
 Byte T p b tokens.Assignment = ends b ≡ false
 Byte T p b tokens.Word = ends b ≡ false
@@ -81,11 +85,13 @@ module _ (T : List ℕ) (p : ℕ) where
   less_long : Long (less_at T (past_byte T p))
   unfolding less_at
   less_long =
-      cond_both (stands T (past_byte T p) 60) _ _ Long
-      (λ e. cond_both (stands T (past_byte T (past_byte T p)) 45) _ _ Long (λ f l. stands_read T (past_byte T p) 60 e)
-      (λ f l. stands_read T (past_byte T p) 60 e))
-      (λ e. cond_both (stands T (past_byte T p) 38) _ _ Long (λ f l. stands_read T (past_byte T p) 38 f)
-      (λ f. cond_both (stands T (past_byte T p) 62) _ _ Long (λ g l. stands_read T (past_byte T p) 62 g)
+      cond_both (stands T (past_byte T p) less_than_sign) _ _ Long
+      (λ e. cond_both (stands T (past_byte T (past_byte T p)) hyphen) _ _ Long
+      (λ f l. stands_read T (past_byte T p) less_than_sign e)
+      (λ f l. stands_read T (past_byte T p) less_than_sign e))
+      (λ e. cond_both (stands T (past_byte T p) ampersand) _ _ Long (λ f l. stands_read T (past_byte T p) ampersand f)
+      (λ f. cond_both (stands T (past_byte T p) greater_than_sign) _ _ Long
+      (λ g l. stands_read T (past_byte T p) greater_than_sign g)
       (λ g l. absurd cc)))
 
   -- `<<-` has a third one
@@ -95,35 +101,37 @@ module _ (T : List ℕ) (p : ℕ) where
   less_strip : Strip (less_at T (past_byte T p))
   unfolding less_at
   less_strip =
-      cond_both (stands T (past_byte T p) 60) _ _ Strip
-      (λ e. cond_both (stands T (past_byte T (past_byte T p)) 45) _ _ Strip
-      (λ f l. stands_read T (past_byte T (past_byte T p)) 45 f) (λ f l. absurd cc))
-      (λ e. cond_both (stands T (past_byte T p) 38) _ _ Strip (λ f l. absurd cc)
-      (λ f. cond_both (stands T (past_byte T p) 62) _ _ Strip (λ g l. absurd cc) (λ g l. absurd cc)))
+      cond_both (stands T (past_byte T p) less_than_sign) _ _ Strip
+      (λ e. cond_both (stands T (past_byte T (past_byte T p)) hyphen) _ _ Strip
+      (λ f l. stands_read T (past_byte T (past_byte T p)) hyphen f) (λ f l. absurd cc))
+      (λ e. cond_both (stands T (past_byte T p) ampersand) _ _ Strip (λ f l. absurd cc)
+      (λ f. cond_both (stands T (past_byte T p) greater_than_sign) _ _ Strip (λ g l. absurd cc) (λ g l. absurd cc)))
 
   greater_strip : Strip (greater_at T (past_byte T p))
   unfolding greater_at
   greater_strip =
-      cond_both (stands T (past_byte T p) 62) _ _ Strip (λ e l. absurd cc)
-      (λ e. cond_both (stands T (past_byte T p) 38) _ _ Strip (λ f l. absurd cc)
-      (λ f. cond_both (stands T (past_byte T p) 124) _ _ Strip (λ g l. absurd cc) (λ g l. absurd cc)))
+      cond_both (stands T (past_byte T p) greater_than_sign) _ _ Strip (λ e l. absurd cc)
+      (λ e. cond_both (stands T (past_byte T p) ampersand) _ _ Strip (λ f l. absurd cc)
+      (λ f. cond_both (stands T (past_byte T p) vertical_line) _ _ Strip (λ g l. absurd cc) (λ g l. absurd cc)))
 
   greater_long : Long (greater_at T (past_byte T p))
   unfolding greater_at
   greater_long =
-      cond_both (stands T (past_byte T p) 62) _ _ Long (λ e l. stands_read T (past_byte T p) 62 e)
-      (λ e. cond_both (stands T (past_byte T p) 38) _ _ Long (λ f l. stands_read T (past_byte T p) 38 f)
-      (λ f. cond_both (stands T (past_byte T p) 124) _ _ Long (λ g l. stands_read T (past_byte T p) 124 g)
+      cond_both (stands T (past_byte T p) greater_than_sign) _ _ Long
+      (λ e l. stands_read T (past_byte T p) greater_than_sign e)
+      (λ e. cond_both (stands T (past_byte T p) ampersand) _ _ Long (λ f l. stands_read T (past_byte T p) ampersand f)
+      (λ f. cond_both (stands T (past_byte T p) vertical_line) _ _ Long
+      (λ g l. stands_read T (past_byte T p) vertical_line g)
       (λ g l. absurd cc)))
 
   -- and none that begins with `>` takes a here-document
-  greater_plain : (b : Option ℕ) → takes_here (greater_at T (past_byte T p)) ≡ true → is_byte b 60 ≡ true
+  greater_plain : (b : Option ℕ) → takes_here (greater_at T (past_byte T p)) ≡ true → is_byte b less_than_sign ≡ true
   unfolding greater_at
   greater_plain b =
-      let Plain : RedirectOperator → Type 0 = λ o. takes_here o ≡ true → is_byte b 60 ≡ true in
-      cond_both (stands T (past_byte T p) 62) _ _ Plain (λ e l. absurd cc)
-      (λ e. cond_both (stands T (past_byte T p) 38) _ _ Plain (λ f l. absurd cc)
-      (λ f. cond_both (stands T (past_byte T p) 124) _ _ Plain (λ g l. absurd cc) (λ g l. absurd cc)))
+      let Plain : RedirectOperator → Type 0 = λ o. takes_here o ≡ true → is_byte b less_than_sign ≡ true in
+      cond_both (stands T (past_byte T p) greater_than_sign) _ _ Plain (λ e l. absurd cc)
+      (λ e. cond_both (stands T (past_byte T p) ampersand) _ _ Plain (λ f l. absurd cc)
+      (λ f. cond_both (stands T (past_byte T p) vertical_line) _ _ Plain (λ g l. absurd cc) (λ g l. absurd cc)))
 
   -- by the byte
   token_byte : (position : Position) (b : Option ℕ) → passes is_blank b ≡ false → Byte T p b (token_of position T p b)
@@ -131,18 +139,21 @@ module _ (T : List ℕ) (p : ℕ) where
   token_byte position (Some b) blank =
       let P = Byte T p (Some b) in
       cond_both (is_newline b) _ _ P (λ e. e)
-      (λ n. cond_both (b == 59) _ _ P
-      (λ e. cond_both (stands T (past_byte T p) 59) _ _ P (λ f. stands_read T (past_byte T p) 59 f)
-      (λ f. cond_both (stands T (past_byte T p) 38) _ _ P (λ g. stands_read T (past_byte T p) 38 g) (λ g. tt)))
-      (λ e. cond_both (b == 38) _ _ P
-      (λ f. cond_both (stands T (past_byte T p) 38) _ _ P (λ g. stands_read T (past_byte T p) 38 g) (λ g. tt))
-      (λ f. cond_both (b == 124) _ _ P
-      (λ g. cond_both (stands T (past_byte T p) 124) _ _ P (λ h. stands_read T (past_byte T p) 124 h) (λ h. tt))
-      (λ i. cond_both (b == 40) _ _ P (λ g. tt)
-      (λ j. cond_both (b == 41) _ _ P (λ g. tt)
-      (λ k. cond_both (b == 60) _ _ P (λ g. (less_long, less_strip, λ h. g))
-      (λ l. cond_both (b == 62) _ _ P (λ g. (greater_long, greater_strip, greater_plain (Some b)))
-      (λ m. cond_both (b == 35) _ _ P (λ g. tt)
+      (λ n. cond_both (b == semicolon) _ _ P
+      (λ e. cond_both (stands T (past_byte T p) semicolon) _ _ P (λ f. stands_read T (past_byte T p) semicolon f)
+      (λ f. cond_both (stands T (past_byte T p) ampersand) _ _ P (λ g. stands_read T (past_byte T p) ampersand g)
+      (λ g. tt)))
+      (λ e. cond_both (b == ampersand) _ _ P
+      (λ f. cond_both (stands T (past_byte T p) ampersand) _ _ P (λ g. stands_read T (past_byte T p) ampersand g)
+      (λ g. tt))
+      (λ f. cond_both (b == vertical_line) _ _ P
+      (λ g. cond_both (stands T (past_byte T p) vertical_line) _ _ P
+      (λ h. stands_read T (past_byte T p) vertical_line h) (λ h. tt))
+      (λ i. cond_both (b == left_parenthesis) _ _ P (λ g. tt)
+      (λ j. cond_both (b == right_parenthesis) _ _ P (λ g. tt)
+      (λ k. cond_both (b == less_than_sign) _ _ P (λ g. (less_long, less_strip, λ h. g))
+      (λ l. cond_both (b == greater_than_sign) _ _ P (λ g. (greater_long, greater_strip, greater_plain (Some b)))
+      (λ m. cond_both (b == number_sign) _ _ P (λ g. tt)
       (λ g. cond_both (is_number T p) _ _ P (λ h. tt)
       (λ h. in_position position (Some b)
       (or_from _ _ (or_from _ _ blank n) (no_operator b f i e j k l m))))))))))))
@@ -153,13 +164,14 @@ module _ (T : List ℕ) (p : ℕ) where
   some_byte position (Some b) e = refl
 
   -- a `#` begins a comment
-  hash_byte : (position : Position) (b : Option ℕ) → is_byte b 35 ≡ true → is_comment (token_of position T p b) ≡ true
+  hash_byte : (position : Position) (b : Option ℕ) → is_byte b number_sign ≡ true →
+      is_comment (token_of position T p b) ≡ true
   hash_byte position None e = absurd cc
-  hash_byte position (Some b) e = rw (eqb-true b 35 e) refl
+  hash_byte position (Some b) e = rw (eqb-true b number_sign e) refl
 
   -- so where the token is no comment there is no `#`
-  no_hash : (position : Position) (b : Option ℕ) (hash : Bool) → is_byte b 35 ≡ hash →
-      is_comment (token_of position T p b) ≡ false → is_byte b 35 ≡ false
+  no_hash : (position : Position) (b : Option ℕ) (hash : Bool) → is_byte b number_sign ≡ hash →
+      is_comment (token_of position T p b) ≡ false → is_byte b number_sign ≡ false
   no_hash position b true is e =
       let contrary : true ≡ false = sym (hash_byte position b is) ∙ e in
       absurd cc
@@ -181,14 +193,14 @@ strip_read : (T : List ℕ) (p : ℕ) (o : RedirectOperator) → (is_strip o ≡
     IsRead T (past_byte T (past_byte T p))
 strip_read T p o so z is strip = let same : o ≡ z = cc in so (rw same strip)
 
-here_read : (T : List ℕ) (p : ℕ) (o : RedirectOperator) → (takes_here o ≡ true → raw_stands T p 60 ≡ true) →
+here_read : (T : List ℕ) (p : ℕ) (o : RedirectOperator) → (takes_here o ≡ true → raw_stands T p less_than_sign ≡ true) →
     (z : RedirectOperator) → redirect_operator_of (tokens.Redirect o) ≡ Some z → takes_here z ≡ true →
-    raw_stands T p 60 ≡ true
+    raw_stands T p less_than_sign ≡ true
 here_read T p o so z is takes = let same : o ≡ z = cc in so (rw same takes)
 
 -- each token, by what its bytes are
 shows_by : (T : List ℕ) (p : ℕ) (t : Token) → past_continuations T p ≡ p → (is_end t ≡ false → IsRead T p) →
-    Byte T p (byte_at T p) t → (is_comment t ≡ false → raw_stands T p 35 ≡ false) → Shows t T p
+    Byte T p (byte_at T p) t → (is_comment t ≡ false → raw_stands T p number_sign ≡ false) → Shows t T p
 unfolding ends_word raw_stands at_end
 shows_by T p tokens.End still some e none = (
   λ f. absurd cc,
@@ -207,7 +219,7 @@ shows_by T p tokens.End still some e none = (
 shows_by T p tokens.Newline still some e none = (
   λ f. absurd cc,
   some,
-  λ f. ap (λ q. is_byte (slice_get T q) 10) (sym still) ∙ e,
+  λ f. ap (λ q. is_byte (slice_get T q) newline_char) (sym still) ∙ e,
   λ f. absurd cc,
   λ o f. absurd cc,
   none,
@@ -356,7 +368,7 @@ shows_by T p (tokens.Redirect z) still some e none = (
   λ f. absurd cc,
   redirect_read T p z e.0,
   strip_read T p z e.1,
-  here_read T p z (λ f. ap (λ q. is_byte (slice_get T q) 60) (sym still) ∙ e.2 f),
+  here_read T p z (λ f. ap (λ q. is_byte (slice_get T q) less_than_sign) (sym still) ∙ e.2 f),
 )
 shows_by T p tokens.Comment still some e none = (
   λ f. absurd cc,
@@ -442,7 +454,8 @@ shown position T p =
     let q = past_blanks T p in
     shows_by T q _ (blanks_still T p) (λ e. some_read T _ _ refl (some_byte T q position (byte_at T q) e))
     (token_byte T q position (byte_at T q) (blanks_stop T p))
-    (λ e. ap (λ r. is_byte (slice_get T r) 35) (sym (blanks_still T p)) ∙ no_hash T q position (byte_at T q) _ refl e)
+    (λ e. ap (λ r. is_byte (slice_get T r) number_sign) (sym (blanks_still T p)) ∙ no_hash T q position
+    (byte_at T q) _ refl e)
 
 -- the token that an edition has in its place says no more of them
 shows_later : (T : List ℕ) (p : ℕ) (later : Bool) → Shows tokens.SemicolonAmpersand T p →

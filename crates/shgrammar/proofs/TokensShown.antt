@@ -19,6 +19,7 @@ use Rattle.shast.specs.Nodes.{word_span}
 use Rattle.shast.specs.Tree.{ACommand, AnItem, AWord}
 use Rattle.shtext.specs.Text.{is_newline}
 use Rattle.shgrammar.specs.Bytes.{byte_at, past_byte, past_continuations, stands}
+use Rattle.shgrammar.specs.Characters.{right_parenthesis, semicolon, ampersand, vertical_line, left_parenthesis, less_than_sign, greater_than_sign, number_sign, newline_char}
 use Rattle.shgrammar.specs.Comments.{comment_at}
 use Rattle.shgrammar.specs.Tokens.{begins_assignment, first_word, is_number, reserved_at, is_later, token_at, token_in, token_of, word_by, word_of}
 use Rattle.shgrammar.specs.Sights.{Given, State}
@@ -582,23 +583,25 @@ paren_by false x other is = absurd (other is)
 
 -- what is told as a `)` is that byte
 close_byte : (position : Position) (T : List ℕ) (p : ℕ) (x : Option ℕ) → token_of position T p x ≡ tokens.CloseParen →
-    x ≡ Some 41
+    x ≡ Some right_parenthesis
 close_byte position T p None is = absurd cc
 close_byte position T p (Some b) is =
-    let newline = paren_else (is_newline b) _ _ (λ e. absurd cc) is in
-    let semicolon = paren_else (b == 59) _ _
-    (λ e. paren_both (stands T (past_byte T p) 59) _ _ (λ f. absurd cc)
-    (λ f. paren_both (stands T (past_byte T p) 38) _ _ (λ g. absurd cc) (λ g. absurd cc) f) e) newline.1 in
-    let ampersand = paren_else (b == 38) _ _
-    (λ e. paren_both (stands T (past_byte T p) 38) _ _ (λ f. absurd cc) (λ f. absurd cc) e) semicolon.1 in
-    let bar = paren_else (b == 124) _ _
-    (λ e. paren_both (stands T (past_byte T p) 124) _ _ (λ f. absurd cc) (λ f. absurd cc) e) ampersand.1 in
-    let open_paren = paren_else (b == 40) _ _ (λ e. absurd cc) bar.1 in
-    let here = paren_by (b == 41) _
-    (λ e. paren_both (b == 60) _ _ (λ f. absurd cc) (λ f. paren_both (b == 62) _ _ (λ h. absurd cc)
-    (λ h. paren_both (b == 35) _ _ (λ d. absurd cc)
-    (λ d. paren_both (is_number T p) _ _ (λ k. absurd cc) (λ k. no_paren position T p k) d) h) f) e) open_paren.1 in
-    let same : b ≡ 41 = grind (arith, nat_tests) in
+    let not_newline = paren_else (is_newline b) _ _ (λ e. absurd cc) is in
+    let not_semicolon = paren_else (b == semicolon) _ _
+    (λ e. paren_both (stands T (past_byte T p) semicolon) _ _ (λ f. absurd cc)
+    (λ f. paren_both (stands T (past_byte T p) ampersand) _ _ (λ g. absurd cc) (λ g. absurd cc) f) e) not_newline.1 in
+    let not_ampersand = paren_else (b == ampersand) _ _
+    (λ e. paren_both (stands T (past_byte T p) ampersand) _ _ (λ f. absurd cc) (λ f. absurd cc) e) not_semicolon.1 in
+    let not_bar = paren_else (b == vertical_line) _ _
+    (λ e. paren_both (stands T (past_byte T p) vertical_line) _ _ (λ f. absurd cc) (λ f. absurd cc) e) not_ampersand.1
+    in
+    let not_open = paren_else (b == left_parenthesis) _ _ (λ e. absurd cc) not_bar.1 in
+    let here = paren_by (b == right_parenthesis) _
+    (λ e. paren_both (b == less_than_sign) _ _ (λ f. absurd cc)
+    (λ f. paren_both (b == greater_than_sign) _ _ (λ h. absurd cc)
+    (λ h. paren_both (b == number_sign) _ _ (λ d. absurd cc)
+    (λ d. paren_both (is_number T p) _ _ (λ k. absurd cc) (λ k. no_paren position T p k) d) h) f) e) not_open.1 in
+    let same : b ≡ right_parenthesis = grind (arith, nat_tests) in
     rw same refl
 
 -- what closes as a `)` is that token
@@ -620,7 +623,7 @@ closes_of edition _ e = absurd cc
 
 -- where a row hands on a `)`, that byte stands
 pub paren_here : (g : Given) (n : Next) (t : State) → Begins g n t → is_closing closings.Paren n.token ≡ true →
-    (byte_at g.text t.at ≡ Some 41) × (past_continuations g.text t.at ≡ t.at)
+    (byte_at g.text t.at ≡ Some right_parenthesis) × (past_continuations g.text t.at ≡ t.at)
 unfolding token_at
 paren_here g n t (position, (token, still)) closes = (
   close_byte position g.text t.at (byte_at g.text t.at)
@@ -659,24 +662,24 @@ no_newline Suffix T p is = absurd cc
 
 -- what is told as a newline is that byte
 newline_byte : (position : Position) (T : List ℕ) (p : ℕ) (x : Option ℕ) → token_of position T p x ≡ tokens.Newline →
-    x ≡ Some 10
+    x ≡ Some newline_char
 newline_byte position T p None is = absurd cc
 newline_byte position T p (Some b) is =
-    let here : (b == 10) ≡ true = newline_else (is_newline b) _ is (λ e.
-    newline_both (b == 59) _ _ (λ f. newline_both (stands T (past_byte T p) 59) _ _ (λ h. absurd cc)
-    (λ h. newline_both (stands T (past_byte T p) 38) _ _ (λ i. absurd cc) (λ i. absurd cc) h) f)
-    (λ f. newline_both (b == 38) _ _
-    (λ h. newline_both (stands T (past_byte T p) 38) _ _ (λ i. absurd cc) (λ i. absurd cc) h)
-    (λ h. newline_both (b == 124) _ _
-    (λ i. newline_both (stands T (past_byte T p) 124) _ _ (λ j. absurd cc) (λ j. absurd cc) i)
-    (λ i. newline_both (b == 40) _ _ (λ j. absurd cc)
-    (λ j. newline_both (b == 41) _ _ (λ k. absurd cc)
-    (λ k. newline_both (b == 60) _ _ (λ l. absurd cc)
-    (λ l. newline_both (b == 62) _ _ (λ m. absurd cc)
-    (λ m. newline_both (b == 35) _ _ (λ o. absurd cc)
+    let here : (b == newline_char) ≡ true = newline_else (is_newline b) _ is (λ e.
+    newline_both (b == semicolon) _ _ (λ f. newline_both (stands T (past_byte T p) semicolon) _ _ (λ h. absurd cc)
+    (λ h. newline_both (stands T (past_byte T p) ampersand) _ _ (λ i. absurd cc) (λ i. absurd cc) h) f)
+    (λ f. newline_both (b == ampersand) _ _
+    (λ h. newline_both (stands T (past_byte T p) ampersand) _ _ (λ i. absurd cc) (λ i. absurd cc) h)
+    (λ h. newline_both (b == vertical_line) _ _
+    (λ i. newline_both (stands T (past_byte T p) vertical_line) _ _ (λ j. absurd cc) (λ j. absurd cc) i)
+    (λ i. newline_both (b == left_parenthesis) _ _ (λ j. absurd cc)
+    (λ j. newline_both (b == right_parenthesis) _ _ (λ k. absurd cc)
+    (λ k. newline_both (b == less_than_sign) _ _ (λ l. absurd cc)
+    (λ l. newline_both (b == greater_than_sign) _ _ (λ m. absurd cc)
+    (λ m. newline_both (b == number_sign) _ _ (λ o. absurd cc)
     (λ o. newline_both (is_number T p) _ _ (λ q. absurd cc) (λ q. no_newline position T p q) o) m) l) k) j) i) h) f)
     e) in
-    let same : b ≡ 10 = grind (arith, nat_tests, here) in
+    let same : b ≡ newline_char = grind (arith, nat_tests, here) in
     rw same refl
 
 -- only that token is a newline
@@ -696,7 +699,7 @@ newline_of edition _ e = absurd cc
 
 -- where a row hands on a newline, that byte stands
 pub newline_here : (g : Given) (n : Next) (t : State) → Begins g n t → is_newline_token n.token ≡ true →
-    (byte_at g.text t.at ≡ Some 10) × (past_continuations g.text t.at ≡ t.at)
+    (byte_at g.text t.at ≡ Some newline_char) × (past_continuations g.text t.at ≡ t.at)
 unfolding token_at
 newline_here g n t (position, (token, still)) is = (
   newline_byte position g.text t.at (byte_at g.text t.at)
