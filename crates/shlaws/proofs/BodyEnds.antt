@@ -5,6 +5,7 @@ use Rattle.std.proofs.lemmas.Bool.{and_left, and_parts, and_right, both_ways, ca
 use Rattle.std.proofs.lemmas.List.Sums.{fold-append}
 use Rattle.std.proofs.lemmas.Option.{slice_get-get_or}
 use Rattle.shgrammar.specs.Standing.{at_end, is_byte, next_newline, passes, raw_in, raw_stands}
+use Rattle.shgrammar.specs.Characters.{newline_char, backslash}
 use Rattle.shgrammar.specs.States.{Waiting}
 use Rattle.shgrammar.specs.HereDocuments.{delimiter_below, delimiter_from, delimiter_on, is_delimiter, past_line, rest_of_line, takes_newline}
 use Rattle.shgrammar.proofs.BodiesAnywhere.{bytes_same, bytes_self}
@@ -14,15 +15,15 @@ use Rattle.shlaws.specs.Bodies.{IsDelimiterLine, IsFirstDelimiterLine, BeginsLin
 -- ---- an odd number of backslashes before a newline
 
 -- a newline is no backslash
-newline_other : (T : List ℕ) (q : ℕ) → slice_get T q ≡ Some 10 → raw_stands T q 92 ≡ false
+newline_other : (T : List ℕ) (q : ℕ) → slice_get T q ≡ Some newline_char → raw_stands T q backslash ≡ false
 unfolding raw_stands
-newline_other T q is = ap (λ b. is_byte b 92) is
+newline_other T q is = ap (λ b. is_byte b backslash) is
 
 -- none stands before the body
 none_outside : (T : List ℕ) (p q : ℕ) → q ≤ p → backslashes_before T p q ≡ 0
 unfolding backslashes_before
 none_outside T p zero le = refl
-none_outside T p (suc q) le = rw (and_left (nat_le p q) (raw_stands T q 92) (lt-leb p q (omega arith))) refl
+none_outside T p (suc q) le = rw (and_left (nat_le p q) (raw_stands T q backslash) (lt-leb p q (omega arith))) refl
 
 -- nor right before a line
 none_at_start : (T : List ℕ) (p q : ℕ) → BeginsLine T p q → backslashes_before T p q ≡ 0
@@ -30,10 +31,10 @@ unfolding backslashes_before
 none_at_start T p zero start = refl
 none_at_start T p (suc q) start =
     let one : suc q - 1 ≡ q = omega arith in
-    let none : (nat_le p q && raw_stands T q 92) ≡ false = ⊎_elim
-    (λ (same : suc q ≡ p). and_left (nat_le p q) (raw_stands T q 92) (lt-leb p q (omega arith)))
-    (λ (behind : (p < suc q) × (slice_get T (suc q - 1) ≡ Some 10)). and_right (nat_le p q)
-    (raw_stands T q 92) (newline_other T q (rw one at behind.1))) start in
+    let none : (nat_le p q && raw_stands T q backslash) ≡ false = ⊎_elim
+    (λ (same : suc q ≡ p). and_left (nat_le p q) (raw_stands T q backslash) (lt-leb p q (omega arith)))
+    (λ (behind : (p < suc q) × (slice_get T (suc q - 1) ≡ Some newline_char)). and_right (nat_le p q)
+    (raw_stands T q backslash) (newline_other T q (rw one at behind.1))) start in
     rw none refl
 
 odd_more : (is : Bool) (n : ℕ) (odd : Bool) → odd ≡ is_odd n → (is && not odd) ≡ is_odd (cond is (1 + n) 0)
@@ -41,13 +42,13 @@ unfolding is_odd
 odd_more true n odd same = let next : 1 + n ≡ suc n = omega arith in rw (same, next) refl
 odd_more false n odd same = refl
 
-backslash_at : (T : List ℕ) (q : ℕ) → q < length T → raw_stands T q 92 ≡ (get_or T q 0 == 92)
+backslash_at : (T : List ℕ) (q : ℕ) → q < length T → raw_stands T q backslash ≡ (get_or T q 0 == backslash)
 unfolding raw_stands
-backslash_at T q lt = ap (λ b. is_byte b 92) (slice_get-get_or T q 0 lt)
+backslash_at T q lt = ap (λ b. is_byte b backslash) (slice_get-get_or T q 0 lt)
 
 -- the flag that goes over a line tells whether their number is odd
 line_odd : (T : List ℕ) (p r k : ℕ) → p ≤ r → BeginsLine T p r → r + k ≤ length T
-    → fold (λ odd b. b == 92 && not odd) false (take k (drop r T)) ≡ is_odd (backslashes_before T p (r + k))
+    → fold (λ odd b. b == backslash && not odd) false (take k (drop r T)) ≡ is_odd (backslashes_before T p (r + k))
 unfolding is_odd backslashes_before
 line_odd T p r zero low start within =
     let same : r + 0 ≡ r = omega arith in
@@ -56,33 +57,34 @@ line_odd T p r (suc k) low start within =
     let next : r + suc k ≡ suc (r + k) = omega arith in
     let longer : take (suc k) (drop r T) ≡ take k (drop r T) ++ (get_or (drop r T) k 0 ∷ []) =
     take-suc (drop r T) k 0 (omega (arith, length-drop r T)) in
-    let byte : (nat_le p (r + k) && raw_stands T (r + k) 92) ≡ (get_or (drop r T) k 0 == 92) =
+    let byte : (nat_le p (r + k) && raw_stands T (r + k) backslash) ≡ (get_or (drop r T) k 0 == backslash) =
     rw (le-leb p (r + k) (omega arith), backslash_at T (r + k) (omega arith), get_or-drop r T k 0) refl in
     rw (
       next,
       longer,
-      fold-append (λ odd b. b == 92 && not odd) false (take k (drop r T))
+      fold-append (λ odd b. b == backslash && not odd) false (take k (drop r T))
           (get_or (drop r T) k 0 ∷ []),
       byte,
     )
-    (odd_more (get_or (drop r T) k 0 == 92) (backslashes_before T p (r + k))
-    (fold (λ odd b. b == 92 && not odd) false (take k (drop r T))) (line_odd T p r k low start (omega arith)))
+    (odd_more (get_or (drop r T) k 0 == backslash) (backslashes_before T p (r + k))
+    (fold (λ odd b. b == backslash && not odd) false (take k (drop r T))) (line_odd T p r k low start (omega arith)))
 
 -- ---- from line to line
 
 -- the line after a newline
-newline_at : (T : List ℕ) (r : ℕ) → next_newline T r < length T → slice_get T (next_newline T r) ≡ Some 10
+newline_at : (T : List ℕ) (r : ℕ) → next_newline T r < length T → slice_get T (next_newline T r) ≡ Some newline_char
 unfolding raw_in
 newline_at T r lt =
     let byte = slice_get-get_or T (next_newline T r) 0 lt in
-    let stops : not (get_or T (next_newline T r) 0 == 10) ≡ false =
-    ap (passes (λ b. not (b == 10))) (sym byte) ∙ raw_past_stops (λ b. not (b == 10)) T r in
-    byte ∙ ap (λ (b : ℕ). Some b) (eqb-true (get_or T (next_newline T r) 0) 10 (not-false _ stops))
+    let stops : not (get_or T (next_newline T r) 0 == newline_char) ≡ false =
+    ap (passes (λ b. not (b == newline_char))) (sym byte) ∙ raw_past_stops (λ b. not (b == newline_char)) T r in
+    byte ∙ ap (λ (b : ℕ). Some b) (eqb-true (get_or T (next_newline T r) 0) newline_char (not-false _ stops))
 
-no_newline : (T : List ℕ) (r k : ℕ) → r ≤ k → k < next_newline T r → ¬ (slice_get T k ≡ Some 10)
+no_newline : (T : List ℕ) (r k : ℕ) → r ≤ k → k < next_newline T r → ¬ (slice_get T k ≡ Some newline_char)
 unfolding raw_in
 no_newline T r k le lt is =
-    both_ways _ (ap (passes (λ b. not (b == 10))) is) (raw_past_all (λ b. not (b == 10)) T r k le lt)
+    both_ways _ (ap (passes (λ b. not (b == newline_char))) is)
+    (raw_past_all (λ b. not (b == newline_char)) T r k le lt)
 
 module _ (T : List ℕ) (w : Waiting) (p : ℕ) where
   abbrev Line : ℕ → Type 0
@@ -106,7 +108,7 @@ module _ (T : List ℕ) (w : Waiting) (p : ℕ) where
   none_between : (r m : ℕ) → p ≤ r → r < m → m < past_line T r → ¬ BeginsLine T p m
   none_between r m low lt near start =
       ⊎_elim (λ (same : m ≡ p). absurd (omega arith))
-      (λ (behind : (p < m) × (slice_get T (m - 1) ≡ Some 10)). no_newline T r (m - 1) (omega arith)
+      (λ (behind : (p < m) × (slice_get T (m - 1) ≡ Some newline_char)). no_newline T r (m - 1) (omega arith)
       (omega arith) behind.1) start
 
   abbrev Outcome : Option ℕ → Type 0
@@ -166,7 +168,7 @@ module _ (T : List ℕ) (w : Waiting) (p : ℕ) where
   none_before : (m : ℕ) → m < p → ¬ Line m
   none_before m lt line =
       ⊎_elim (λ (same : m ≡ p). absurd (omega arith))
-      (λ (behind : (p < m) × (slice_get T (m - 1) ≡ Some 10)). absurd (omega arith)) line.start
+      (λ (behind : (p < m) × (slice_get T (m - 1) ≡ Some newline_char)). absurd (omega arith)) line.start
 
   first_apart : is_taken_in T w p p ≡ false
   unfolding is_odd

@@ -8,6 +8,7 @@ use Rattle.shgrammar.specs.declared.mode.Mode.TheVariants.{Plain, Double, Brace,
 use Rattle.shgrammar.specs.declared.mode.Piece.{Piece}
 use Rattle.shgrammar.specs.declared.mode.Piece.TheVariants as pieces
 use Rattle.shgrammar.specs.Bytes.{byte_at, ends, past_byte, stands}
+use Rattle.shgrammar.specs.Characters.{backslash, grave_accent, dollar_sign, left_parenthesis, left_brace, apostrophe, quotation_mark}
 use Rattle.shgrammar.specs.HereDocuments.{Quoting, in_double, is_quote, not_quoted}
 use Rattle.shgrammar.specs.Pieces.{byte_by, dollar_at, dollar_by, piece_at, piece_by, piece_in, quotes_singly}
 use Rattle.shgrammar.specs.Standing.{at_end, is_byte}
@@ -27,21 +28,22 @@ is_unquoted mode = false
 -- a piece that begins with the byte b, after which x is read or, if it is the last, nothing stands
 pub data Begins (later last : Bool) (b : ℕ) (x : Option ℕ) : Mode → Piece → Type 0 where
   lone : {mode : Mode} → Begins later last b x mode pieces.LoneBackslash
-  escapes : {mode : Mode} → b ≡ 92 → last ≡ false → Begins later last b x mode pieces.Escape
-  backquote : {mode : Mode} → b ≡ 96 → Begins later last b x mode pieces.Backquote
-  dollars : {mode : Mode} → b ≡ 36 → x ≡ Some 36 → Begins later last b x mode pieces.Pid
-  arithmetic : {mode : Mode} → b ≡ 36 → x ≡ Some 40 → Begins later last b x mode pieces.Arith
-  substitution : {mode : Mode} → b ≡ 36 → x ≡ Some 40 → Begins later last b x mode pieces.Subst
-  parameter : {mode : Mode} → b ≡ 36 → x ≡ Some 123 → Begins later last b x mode pieces.Param
-  dollar_quote : b ≡ 36 → x ≡ Some 39 → later ≡ true → Begins later last b x Plain pieces.DollarSingle
-  dollar : {mode : Mode} → b ≡ 36 → is_byte x 36 ≡ false → is_byte x 40 ≡ false → is_byte x 123 ≡ false
-      → (later ≡ true → (is_quote (quoting_in mode) 39 && is_byte x 39) ≡ false)
+  escapes : {mode : Mode} → b ≡ backslash → last ≡ false → Begins later last b x mode pieces.Escape
+  backquote : {mode : Mode} → b ≡ grave_accent → Begins later last b x mode pieces.Backquote
+  dollars : {mode : Mode} → b ≡ dollar_sign → x ≡ Some dollar_sign → Begins later last b x mode pieces.Pid
+  arithmetic : {mode : Mode} → b ≡ dollar_sign → x ≡ Some left_parenthesis → Begins later last b x mode pieces.Arith
+  substitution : {mode : Mode} → b ≡ dollar_sign → x ≡ Some left_parenthesis → Begins later last b x mode pieces.Subst
+  parameter : {mode : Mode} → b ≡ dollar_sign → x ≡ Some left_brace → Begins later last b x mode pieces.Param
+  dollar_quote : b ≡ dollar_sign → x ≡ Some apostrophe → later ≡ true → Begins later last b x Plain pieces.DollarSingle
+  dollar : {mode : Mode} → b ≡ dollar_sign → is_byte x dollar_sign ≡ false → is_byte x left_parenthesis ≡ false →
+      is_byte x left_brace ≡ false
+      → (later ≡ true → (is_quote (quoting_in mode) apostrophe && is_byte x apostrophe) ≡ false)
       → Begins later last b x mode pieces.Ordinary
-  quote : b ≡ 39 → Begins later last b x Plain pieces.Single
-  double_quote : b ≡ 34 → Begins later last b x Plain pieces.Double
-  closes : b ≡ 34 → Begins later last b x Double pieces.Closer
+  quote : b ≡ apostrophe → Begins later last b x Plain pieces.Single
+  double_quote : b ≡ quotation_mark → Begins later last b x Plain pieces.Double
+  closes : b ≡ quotation_mark → Begins later last b x Double pieces.Closer
   ends_here : ends (Some b) ≡ true → Begins later last b x Plain pieces.Closer
-  another : {mode : Mode} → (b == 92) ≡ false → (b == 96) ≡ false → (b == 36) ≡ false
+  another : {mode : Mode} → (b == backslash) ≡ false → (b == grave_accent) ≡ false → (b == dollar_sign) ≡ false
       → is_quote (quoting_in mode) b ≡ false
       → Begins later last b x mode pieces.Ordinary
 
@@ -49,13 +51,13 @@ same_byte : (b c : ℕ) → (b == c) ≡ true → b ≡ c
 same_byte b c is = eqb-true b c is
 
 module _ (edition : Edition) (T : List ℕ) (last : Bool) (b : ℕ) where
-  dollar_quoted : (mode : Mode) (y : ℕ) → is_unquoted mode ≡ true → b ≡ 36 → (y == 36) ≡ false
-      → (y == 40) ≡ false → (y == 123) ≡ false → (y == 39) ≡ true
+  dollar_quoted : (mode : Mode) (y : ℕ) → is_unquoted mode ≡ true → b ≡ dollar_sign → (y == dollar_sign) ≡ false
+      → (y == left_parenthesis) ≡ false → (y == left_brace) ≡ false → (y == apostrophe) ≡ true
       → Begins (is_later edition) last b (Some y) mode (piece_in edition mode pieces.DollarSingle)
   dollar_quoted Plain y read is no_dollar no_open no_brace quoted =
       cond_both (is_later edition && quotes_singly Plain) _ _
       (Begins (is_later edition) last b (Some y) Plain)
-      (λ e. dollar_quote is (ap (λ (n : ℕ). Some n) (same_byte y 39 quoted)) (and_parts _ _ e).0)
+      (λ e. dollar_quote is (ap (λ (n : ℕ). Some n) (same_byte y apostrophe quoted)) (and_parts _ _ e).0)
       (λ e. dollar is no_dollar no_open no_brace
       (λ later. absurd (both_ways (is_later edition && true) e (ap (λ c. c && true) later))))
   dollar_quoted Double y read is no_dollar no_open no_brace quoted =
@@ -67,9 +69,9 @@ module _ (edition : Edition) (T : List ℕ) (last : Bool) (b : ℕ) where
   dollar_quoted DoubleBrace y read is no_dollar no_open no_brace quoted = absurd cc
   dollar_quoted Arith y read is no_dollar no_open no_brace quoted = absurd cc
 
-  dollar_begins : (mode : Mode) (r : ℕ) (x : Option ℕ) → is_unquoted mode ≡ true → b ≡ 36
+  dollar_begins : (mode : Mode) (r : ℕ) (x : Option ℕ) → is_unquoted mode ≡ true → b ≡ dollar_sign
       → Begins (is_later edition) last b x mode (piece_in edition mode (dollar_by T r x))
-  dollar_begins mode r None read is = dollar is refl refl refl (λ later. none (is_quote (quoting_in mode) 39))
+  dollar_begins mode r None read is = dollar is refl refl refl (λ later. none (is_quote (quoting_in mode) apostrophe))
     where
       none : (c : Bool) → (c && false) ≡ false
       none true = refl
@@ -77,32 +79,33 @@ module _ (edition : Edition) (T : List ℕ) (last : Bool) (b : ℕ) where
   dollar_begins mode r (Some y) read is =
       let G : Piece → Type 0 =
       λ z. Begins (is_later edition) last b (Some y) mode (piece_in edition mode z) in
-      cond_both (y == 36) _ _ G (λ e. dollars is (ap (λ (n : ℕ). Some n) (same_byte y 36 e)))
-      (λ no_dollar. cond_both (y == 40) _ _ G
-      (λ e. cond_both (stands T (past_byte T r) 40) _ _ G
-      (λ f. arithmetic is (ap (λ (n : ℕ). Some n) (same_byte y 40 e)))
-      (λ f. substitution is (ap (λ (n : ℕ). Some n) (same_byte y 40 e))))
-      (λ no_open. cond_both (y == 123) _ _ G (λ e. parameter is (ap (λ (n : ℕ). Some n) (same_byte y 123 e)))
-      (λ no_brace. cond_both (y == 39) _ _ G (λ e. dollar_quoted mode y read is no_dollar no_open no_brace e)
+      cond_both (y == dollar_sign) _ _ G (λ e. dollars is (ap (λ (n : ℕ). Some n) (same_byte y dollar_sign e)))
+      (λ no_dollar. cond_both (y == left_parenthesis) _ _ G
+      (λ e. cond_both (stands T (past_byte T r) left_parenthesis) _ _ G
+      (λ f. arithmetic is (ap (λ (n : ℕ). Some n) (same_byte y left_parenthesis e)))
+      (λ f. substitution is (ap (λ (n : ℕ). Some n) (same_byte y left_parenthesis e))))
+      (λ no_open. cond_both (y == left_brace) _ _ G
+      (λ e. parameter is (ap (λ (n : ℕ). Some n) (same_byte y left_brace e)))
+      (λ no_brace. cond_both (y == apostrophe) _ _ G (λ e. dollar_quoted mode y read is no_dollar no_open no_brace e)
       (λ no_quote. dollar is no_dollar no_open no_brace
-      (λ later. none (is_quote (quoting_in mode) 39) (y == 39) no_quote)))))
+      (λ later. none (is_quote (quoting_in mode) apostrophe) (y == apostrophe) no_quote)))))
     where
       none : (c d : Bool) → d ≡ false → (c && d) ≡ false
       none true d e = e
       none false d e = refl
 
-  byte_begins : (mode : Mode) (p : ℕ) (x : Option ℕ) → is_unquoted mode ≡ true → (b == 92) ≡ false
-      → (b == 96) ≡ false → (b == 36) ≡ false
+  byte_begins : (mode : Mode) (p : ℕ) (x : Option ℕ) → is_unquoted mode ≡ true → (b == backslash) ≡ false
+      → (b == grave_accent) ≡ false → (b == dollar_sign) ≡ false
       → Begins (is_later edition) last b x mode (piece_in edition mode (byte_by T p mode 0 b))
   byte_begins Plain p x read no_backslash no_tick no_dollar =
       let G : Piece → Type 0 = λ z. Begins (is_later edition) last b x Plain (piece_in edition Plain z) in
       cond_both (ends (Some b)) _ _ G (λ e. ends_here e)
-      (λ more. cond_both (b == 39) _ _ G (λ e. quote (same_byte b 39 e))
-      (λ no_quote. cond_both (b == 34) _ _ G (λ e. double_quote (same_byte b 34 e))
+      (λ more. cond_both (b == apostrophe) _ _ G (λ e. quote (same_byte b apostrophe e))
+      (λ no_quote. cond_both (b == quotation_mark) _ _ G (λ e. double_quote (same_byte b quotation_mark e))
       (λ no_double. another no_backslash no_tick no_dollar (rw (no_quote, no_double) refl))))
   byte_begins Double p x read no_backslash no_tick no_dollar =
       let G : Piece → Type 0 = λ z. Begins (is_later edition) last b x Double (piece_in edition Double z) in
-      cond_both (b == 34) _ _ G (λ e. closes (same_byte b 34 e))
+      cond_both (b == quotation_mark) _ _ G (λ e. closes (same_byte b quotation_mark e))
       (λ no_double. another no_backslash no_tick no_dollar no_double)
   byte_begins Brace p x read no_backslash no_tick no_dollar = absurd cc
   byte_begins DoubleBrace p x read no_backslash no_tick no_dollar = absurd cc
@@ -117,10 +120,10 @@ piece_begins edition T b mode p read =
     let last = at_end T (past_byte T p) in
     let x = byte_at T (past_byte T p) in
     let G : Piece → Type 0 = λ z. Begins (is_later edition) last b x mode (piece_in edition mode z) in
-    cond_both (b == 92) _ _ G (λ e. cond_both last _ _ G (λ f. lone) (λ f. escapes (same_byte b 92 e) f))
-    (λ no_backslash. cond_both (b == 96) _ _ G (λ e. backquote (same_byte b 96 e))
-    (λ no_tick. cond_both (b == 36) _ _ G
-    (λ e. dollar_begins edition T last b mode (past_byte T p) x read (same_byte b 36 e))
+    cond_both (b == backslash) _ _ G (λ e. cond_both last _ _ G (λ f. lone) (λ f. escapes (same_byte b backslash e) f))
+    (λ no_backslash. cond_both (b == grave_accent) _ _ G (λ e. backquote (same_byte b grave_accent e))
+    (λ no_tick. cond_both (b == dollar_sign) _ _ G
+    (λ e. dollar_begins edition T last b mode (past_byte T p) x read (same_byte b dollar_sign e))
     (λ no_dollar. byte_begins edition T last b mode p x read no_backslash no_tick no_dollar)))
 
 pub begins : (edition : Edition) (T : List ℕ) (mode : Mode) (p b : ℕ) (piece : Piece)
@@ -168,15 +171,15 @@ byte_there edition T mode p piece read is inner = by (byte_at T p) refl
 
 -- in double quotes a byte closes, too
 pub closer_there : (edition : Edition) (T : List ℕ) (p : ℕ)
-    → piece_by_edition edition T Double p ≡ pieces.Closer → byte_at T p ≡ Some 34
+    → piece_by_edition edition T Double p ≡ pieces.Closer → byte_at T p ≡ Some quotation_mark
 unfolding piece_at
 closer_there edition T p is = by (byte_at T p) refl
   where
     quote_of : (later last : Bool) (b : ℕ) (x : Option ℕ) → Begins later last b x Double pieces.Closer
-        → b ≡ 34
+        → b ≡ quotation_mark
     quote_of later last b x (closes e) = e
 
-    by : (x : Option ℕ) → byte_at T p ≡ x → byte_at T p ≡ Some 34
+    by : (x : Option ℕ) → byte_at T p ≡ x → byte_at T p ≡ Some quotation_mark
     by None none =
         let same : pieces.Missing ≡ pieces.Closer =
         ap (λ y. piece_in edition Double (piece_by T p Double 0 y)) (sym none) ∙ is in

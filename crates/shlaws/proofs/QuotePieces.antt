@@ -8,6 +8,7 @@ use Rattle.shgrammar.specs.declared.mode.Mode.{Mode}
 use Rattle.shgrammar.specs.declared.mode.Mode.TheVariants.{Plain, Double, Brace, DoubleBrace, Arith}
 use Rattle.shgrammar.specs.declared.mode.Piece.TheVariants as pieces
 use Rattle.shgrammar.specs.Bytes.{byte_at, past_byte, past_continuations}
+use Rattle.shgrammar.specs.Characters.{backslash, dollar_sign, apostrophe, quotation_mark}
 use Rattle.shgrammar.specs.Form.{raw}
 use Rattle.shgrammar.specs.HereDocuments.{delimiter_in, has_dollar_single, in_double, is_quoted, not_quoted, unquoted}
 use Rattle.shgrammar.specs.Pieces.{next_quote, past_closer}
@@ -30,19 +31,19 @@ module _ (later : Bool) (W : List ℕ) where
       another_leads later W mode p b byte no_backslash no_tick no_dollar no_quote
 
 pub escape_of : (later last : Bool) (b : ℕ) (x : Option ℕ) (mode : Mode)
-    → Begins later last b x mode pieces.Escape → (b ≡ 92) × (last ≡ false)
+    → Begins later last b x mode pieces.Escape → (b ≡ backslash) × (last ≡ false)
 escape_of later last b x mode (escapes is more) = (is, more)
 
 pub pid_of : (later last : Bool) (b : ℕ) (x : Option ℕ) (mode : Mode) → Begins later last b x mode pieces.Pid
-    → (b ≡ 36) × (x ≡ Some 36)
+    → (b ≡ dollar_sign) × (x ≡ Some dollar_sign)
 pid_of later last b x mode (dollars is next) = (is, next)
 
 pub single_of : (later last : Bool) (b : ℕ) (x : Option ℕ) (mode : Mode)
-    → Begins later last b x mode pieces.Single → (b ≡ 39) × (mode ≡ Plain)
+    → Begins later last b x mode pieces.Single → (b ≡ apostrophe) × (mode ≡ Plain)
 single_of later last b x mode (quote is) = (is, refl)
 
 pub double_of : (later last : Bool) (b : ℕ) (x : Option ℕ) (mode : Mode)
-    → Begins later last b x mode pieces.Double → (b ≡ 34) × (mode ≡ Plain)
+    → Begins later last b x mode pieces.Double → (b ≡ quotation_mark) × (mode ≡ Plain)
 double_of later last b x mode (double_quote is) = (is, refl)
 
 some_is : (o : Option ℕ) (b c : ℕ) → o ≡ Some b → b ≡ c → o ≡ Some c
@@ -65,33 +66,34 @@ module _ (edition : Edition) (W : List ℕ) where
       (begins edition W mode p b pieces.Ordinary read byte is)
 
   pub both_leads : (mode : Mode) (p : ℕ) → is_unquoted mode ≡ true
-      → piece_by_edition edition W mode p ≡ pieces.Pid → At mode p (36 ∷ 36 ∷ []) mode (past_byte W (past_byte W p))
+      → piece_by_edition edition W mode p ≡ pieces.Pid →
+      At mode p (dollar_sign ∷ dollar_sign ∷ []) mode (past_byte W (past_byte W p))
   both_leads mode p read is =
       let there = byte_there edition W mode p pieces.Pid read is refl in
       let one = pid_of _ _ there.0 _ mode there.2 in
-      pid_leads (is_later edition) W mode p (some_is (byte_at W p) there.0 36 there.1 one.0) one.1
+      pid_leads (is_later edition) W mode p (some_is (byte_at W p) there.0 dollar_sign there.1 one.0) one.1
 
   pub backslash_there : (mode : Mode) (p : ℕ) → is_unquoted mode ≡ true
       → piece_by_edition edition W mode p ≡ pieces.Escape
-      → (byte_at W p ≡ Some 92) × (at_end W (past_byte W p) ≡ false)
+      → (byte_at W p ≡ Some backslash) × (at_end W (past_byte W p) ≡ false)
   backslash_there mode p read is =
       let there = byte_there edition W mode p pieces.Escape read is refl in
       let one = escape_of _ _ there.0 _ mode there.2 in
-      (some_is (byte_at W p) there.0 92 there.1 one.0, one.1)
+      (some_is (byte_at W p) there.0 backslash there.1 one.0, one.1)
 
   pub quote_there : (mode : Mode) (p : ℕ) → is_unquoted mode ≡ true
-      → piece_by_edition edition W mode p ≡ pieces.Single → (byte_at W p ≡ Some 39) × (mode ≡ Plain)
+      → piece_by_edition edition W mode p ≡ pieces.Single → (byte_at W p ≡ Some apostrophe) × (mode ≡ Plain)
   quote_there mode p read is =
       let there = byte_there edition W mode p pieces.Single read is refl in
       let one = single_of _ _ there.0 _ mode there.2 in
-      (some_is (byte_at W p) there.0 39 there.1 one.0, one.1)
+      (some_is (byte_at W p) there.0 apostrophe there.1 one.0, one.1)
 
   pub double_there : (mode : Mode) (p : ℕ) → is_unquoted mode ≡ true
-      → piece_by_edition edition W mode p ≡ pieces.Double → (byte_at W p ≡ Some 34) × (mode ≡ Plain)
+      → piece_by_edition edition W mode p ≡ pieces.Double → (byte_at W p ≡ Some quotation_mark) × (mode ≡ Plain)
   double_there mode p read is =
       let there = byte_there edition W mode p pieces.Double read is refl in
       let one = double_of _ _ there.0 _ mode there.2 in
-      (some_is (byte_at W p) there.0 34 there.1 one.0, one.1)
+      (some_is (byte_at W p) there.0 quotation_mark there.1 one.0, one.1)
 
   pub taken_leads : (mode : Mode) (p c : ℕ) → is_unquoted mode ≡ true
       → piece_by_edition edition W mode p ≡ pieces.Escape → slice_get W (past_continuations W p + 1) ≡ Some c
@@ -132,7 +134,8 @@ module _ (edition : Edition) (W : List ℕ) where
       (b ∷ []) left (byte_leads mode p b read is byte) (walk mode (past_byte W p) q left read rest)
   walk mode p q text read (pid {left = left} is rest) =
       leads_on (is_later edition) W (quoting_in mode) (quoting_in mode) not_quoted p (past_byte W (past_byte W p)) q
-      (36 ∷ 36 ∷ []) left (both_leads mode p read is) (walk mode (past_byte W (past_byte W p)) q left read rest)
+      (dollar_sign ∷ dollar_sign ∷ []) left (both_leads mode p read is)
+      (walk mode (past_byte W (past_byte W p)) q left read rest)
   walk mode p q text read (escape {left = left} c is next rest) =
       leads_on (is_later edition) W (quoting_in mode) (quoting_in mode) not_quoted p
       (past_continuations W p + 2) q (escape_leaves mode c) left (taken_leads mode p c read is next)
@@ -161,7 +164,7 @@ module _ (edition : Edition) (W : List ℕ) where
       → (p ≤ past_closer W mode p) × (past_closer W mode p ≤ length W)
   closer_far Plain p read is within = (omega arith, within)
   closer_far Double p read is within =
-      (omega (arith, after_low W p), within_byte p 34 (closer_there edition W p is))
+      (omega (arith, after_low W p), within_byte p quotation_mark (closer_there edition W p is))
   closer_far Brace p read is within = absurd cc
   closer_far DoubleBrace p read is within = absurd cc
   closer_far Arith p read is within = absurd cc
@@ -170,7 +173,7 @@ module _ (edition : Edition) (W : List ℕ) where
       → piece_by_edition edition W mode p ≡ pieces.Pid → past_byte W (past_byte W p) ≤ length W
   pid_within mode p read is =
       let there = byte_there edition W mode p pieces.Pid read is refl in
-      within_byte (past_byte W p) 36 (pid_of _ _ there.0 _ mode there.2).1
+      within_byte (past_byte W p) dollar_sign (pid_of _ _ there.0 _ mode there.2).1
 
   pub far : (mode : Mode) (p q : ℕ) (text : List ℕ) → is_unquoted mode ≡ true → Leaves edition W mode p q text
       → p ≤ length W → (p ≤ q) × (q ≤ length W)
@@ -188,10 +191,10 @@ module _ (edition : Edition) (W : List ℕ) where
   far mode p q text read (single {left = left} is more rest) within =
       let lt = not_end_low W (next_quote W (past_byte W p)) more in
       let r = far mode (next_quote W (past_byte W p) + 1) q left read rest (omega (arith, lt)) in
-      (omega (arith, r.0, after_low W p, next_of_low 39 W (past_byte W p)), r.1)
+      (omega (arith, r.0, after_low W p, next_of_low apostrophe W (past_byte W p)), r.1)
   far mode p q text read (double {m = m} {inside = inside} {left = left} is held rest) within =
       let there = double_there mode p read is in
-      let one = far Double (past_byte W p) m inside refl held (within_byte p 34 there.0) in
+      let one = far Double (past_byte W p) m inside refl held (within_byte p quotation_mark there.0) in
       let two = far mode m q left read rest one.1 in
       (omega (arith, one.0, two.0, after_low W p), two.1)
 

@@ -16,6 +16,7 @@ use Rattle.shgrammar.specs.declared.mode.Mode.TheVariants.{Plain, Double, Brace,
 use Rattle.shgrammar.specs.declared.mode.Piece.{Piece}
 use Rattle.shgrammar.specs.declared.mode.Piece.TheVariants as pieces
 use Rattle.shgrammar.specs.Bytes.{byte_at, ends, ends_word, past_byte, past_continuations, stands}
+use Rattle.shgrammar.specs.Characters.{grave_accent, dollar_sign, left_brace, left_parenthesis, apostrophe, backslash, quotation_mark}
 use Rattle.shgrammar.specs.Form.{Read, Spelled, Step, again, does, many, may, raw, ◌▸◌}
 use Rattle.shgrammar.specs.HereDocuments.{ADelimiter, Quoting, delimiter_in, has_dollar_single, in_double, is_quoted, not_quoted, unquoted}
 use Rattle.shgrammar.specs.Levels.{ReadsWord, level}
@@ -61,24 +62,24 @@ not_clear left some none = both_ways _ (ap is_some none) some
 -- ---- what begins the pieces that leave nothing
 
 backquote_of : (later last : Bool) (b : ℕ) (x : Option ℕ) (mode : Mode)
-    → Begins later last b x mode pieces.Backquote → b ≡ 96
+    → Begins later last b x mode pieces.Backquote → b ≡ grave_accent
 backquote_of later last b x mode (backquote is) = is
 
 parameter_of : (later last : Bool) (b : ℕ) (x : Option ℕ) (mode : Mode)
-    → Begins later last b x mode pieces.Param → (b ≡ 36) × (x ≡ Some 123)
+    → Begins later last b x mode pieces.Param → (b ≡ dollar_sign) × (x ≡ Some left_brace)
 parameter_of later last b x mode (parameter is next) = (is, next)
 
 substitution_of : (later last : Bool) (b : ℕ) (x : Option ℕ) (mode : Mode)
-    → Begins later last b x mode pieces.Subst → (b ≡ 36) × (x ≡ Some 40)
+    → Begins later last b x mode pieces.Subst → (b ≡ dollar_sign) × (x ≡ Some left_parenthesis)
 substitution_of later last b x mode (substitution is next) = (is, next)
 
 arithmetic_of : (later last : Bool) (b : ℕ) (x : Option ℕ) (mode : Mode)
-    → Begins later last b x mode pieces.Arith → (b ≡ 36) × (x ≡ Some 40)
+    → Begins later last b x mode pieces.Arith → (b ≡ dollar_sign) × (x ≡ Some left_parenthesis)
 arithmetic_of later last b x mode (arithmetic is next) = (is, next)
 
 dollar_quote_of : (later last : Bool) (b : ℕ) (x : Option ℕ) (mode : Mode)
     → Begins later last b x mode pieces.DollarSingle
-    → (b ≡ 36) × (x ≡ Some 39) × (later ≡ true) × (mode ≡ Plain)
+    → (b ≡ dollar_sign) × (x ≡ Some apostrophe) × (later ≡ true) × (mode ≡ Plain)
 dollar_quote_of later last b x mode (dollar_quote is next newer) = (is, next, newer, refl)
 
 -- brackets of arithmetic
@@ -212,7 +213,7 @@ module _ (edition : Edition) (W : List ℕ) (o : ℕ) where
         slice_get-get_or W (past_continuations W s.at + 1) 0
         (not_end_low W (past_continuations W s.at + 1) more)
 
-    taken_at : byte_at W s.at ≡ Some 92
+    taken_at : byte_at W s.at ≡ Some backslash
         → past_taken W (past_continuations W s.at) ≡ past_continuations W s.at + 2
     unfolding past_taken raw_stands
     taken_at is = rw is refl
@@ -262,7 +263,7 @@ module _ (edition : Edition) (W : List ℕ) (o : ℕ) where
         let lt = not_end_low W e more in
         let rest =
         goes_on h (place s (e + 1)) _ turn
-        (omega (arith, after_low W s.at, next_of_low 39 W (past_byte W s.at))) (omega (arith, lt))
+        (omega (arith, after_low W s.at, next_of_low apostrophe W (past_byte W s.at))) (omega (arith, lt))
         (quoted_leads edition W mode s.at read is more) in
         (_, quoted is more rest.1)
 
@@ -296,7 +297,7 @@ module _ (edition : Edition) (W : List ℕ) (o : ℕ) where
         (row_is room mode b h s pieces.Double read is ∙ double_turn some ∙ ap held_by inner) whole)
     double_by is some (Ok (k, u)) inner =
         let there = double_there edition W mode s.at read is in
-        let near = byte_within s.at 34 there.0 in
+        let near = byte_within s.at quotation_mark there.0 in
         let opens = opened_leads edition W mode s.at read is in
         let held =
         finds (room - 1) Double (o + past_continuations W s.at) (having 0 h.substs) k inside_at u refl
@@ -331,30 +332,30 @@ module _ (edition : Edition) (W : List ℕ) (o : ℕ) where
         (backquote_none (is_later edition) W mode s.at
         (there.1 ∙ ap (λ (c : ℕ). Some c) (backquote_of _ _ there.0 _ mode there.2)))
 
-    opener_here : (c d : ℕ) → c ≡ 36 → byte_at W s.at ≡ Some c → byte_at W (past_byte W s.at) ≡ Some d
-        → (is_byte (Some d) 40 || is_byte (Some d) 123) ≡ true → ⊥
+    opener_here : (c d : ℕ) → c ≡ dollar_sign → byte_at W s.at ≡ Some c → byte_at W (past_byte W s.at) ≡ Some d
+        → (is_byte (Some d) left_parenthesis || is_byte (Some d) left_brace) ≡ true → ⊥
     opener_here c d same byte next opens =
         not_clear _ clear.some
         (opener_none (is_later edition) W mode s.at (byte ∙ ap (λ (x : ℕ). Some x) same)
-        (ap (λ y. is_byte y 40 || is_byte y 123) next ∙ opens))
+        (ap (λ y. is_byte y left_parenthesis || is_byte y left_brace) next ∙ opens))
 
     parameter_here : Is pieces.Param → ⊥
     parameter_here is =
         let there = byte_there edition W mode s.at pieces.Param read is refl in
         let begun = parameter_of _ _ there.0 _ mode there.2 in
-        opener_here there.0 123 begun.0 there.1 begun.1 refl
+        opener_here there.0 left_brace begun.0 there.1 begun.1 refl
 
     substitution_here : Is pieces.Subst → ⊥
     substitution_here is =
         let there = byte_there edition W mode s.at pieces.Subst read is refl in
         let begun = substitution_of _ _ there.0 _ mode there.2 in
-        opener_here there.0 40 begun.0 there.1 begun.1 refl
+        opener_here there.0 left_parenthesis begun.0 there.1 begun.1 refl
 
     arithmetic_here : Is pieces.Arith → ⊥
     arithmetic_here is =
         let there = byte_there edition W mode s.at pieces.Arith read is refl in
         let begun = arithmetic_of _ _ there.0 _ mode there.2 in
-        opener_here there.0 40 begun.0 there.1 begun.1 refl
+        opener_here there.0 left_parenthesis begun.0 there.1 begun.1 refl
 
     dollar_quote_here : Is pieces.DollarSingle → ⊥
     dollar_quote_here is =
@@ -449,7 +450,7 @@ word_alone room p n g read =
     let short : length W ≤ n = omega (arith, length-take (p + n - p) (drop p g.text)) in
     let none : byte_at W (0 + n) ≡ None =
     slice_get_past W (past_continuations W (0 + n)) (omega (arith, short, place_low W (0 + n))) in
-    anywhere room g (given g.edition W 0) p 0 n read same (ap ends none) (ap (λ y. is_byte y 40) none)
+    anywhere room g (given g.edition W 0) p 0 n read same (ap ends none) (ap (λ y. is_byte y left_parenthesis) none)
 
 clear_from : (later : Bool) (found : Bool) (text : Option (List ℕ)) (literal : Bool) (d : ADelimiter)
     → cond (later && found) None (option_map (λ l. record { text = l; literal = literal }) text) ≡ Some d

@@ -7,6 +7,7 @@ use Rattle.std.proofs.lemmas.Option.{slice_get_within, slice_get-get_or}
 use Rattle.shgrammar.specs.declared.mode.Mode.{Mode}
 use Rattle.shgrammar.specs.declared.mode.Mode.TheVariants.{Plain, Double, Brace, DoubleBrace, Arith}
 use Rattle.shgrammar.specs.Bytes.{byte_at, count_joined, past_byte, past_continuations, stands}
+use Rattle.shgrammar.specs.Characters.{dollar_sign, grave_accent, backslash, newline_char, apostrophe, left_parenthesis, left_brace, quotation_mark}
 use Rattle.shgrammar.specs.Form.{raw}
 use Rattle.shgrammar.specs.HereDocuments.{Quoting, after_quote, byte_left, escape_left, has_dollar_single, in_double, in_single, is_live, is_quote, left_before, not_quoted, unquoted}
 use Rattle.shgrammar.specs.Pieces.{next_quote}
@@ -38,14 +39,14 @@ live_in Brace c b = refl
 live_in DoubleBrace c b = refl
 live_in Arith c b = refl
 
-dollar_no_quote : (mode : Mode) → is_quote (quoting_in mode) 36 ≡ false
+dollar_no_quote : (mode : Mode) → is_quote (quoting_in mode) dollar_sign ≡ false
 dollar_no_quote Plain = refl
 dollar_no_quote Double = refl
 dollar_no_quote Brace = refl
 dollar_no_quote DoubleBrace = refl
 dollar_no_quote Arith = refl
 
-tick_no_quote : (mode : Mode) → is_quote (quoting_in mode) 96 ≡ false
+tick_no_quote : (mode : Mode) → is_quote (quoting_in mode) grave_accent ≡ false
 tick_no_quote Plain = refl
 tick_no_quote Double = refl
 tick_no_quote Brace = refl
@@ -62,12 +63,12 @@ drop_two f b c bs n =
 
 module _ (q : Quoting) (second : Bool) (live : (c b : ℕ) → is_live q c b ≡ (b == c)) where
   skip_by : (b c : ℕ) (bs : List ℕ) → unquoted q second bs ≡ unquoted q second (drop (count_joined bs) bs)
-      → (x y : Bool) → (b == 92) ≡ x → (c == 10) ≡ y
+      → (x y : Bool) → (b == backslash) ≡ x → (c == newline_char) ≡ y
       → unquoted q second (b ∷ c ∷ bs) ≡ unquoted q second
       (drop (cond (x && y) (2 + count_joined bs) 0) (b ∷ c ∷ bs))
   skip_by b c bs rest true true e f =
       let dropped : escape_left q c (unquoted q second bs) ≡ unquoted q second bs = rw f refl in
-      unquoted_escape q second b c bs (live 92 b ∙ e) ∙ dropped ∙ rest
+      unquoted_escape q second b c bs (live backslash b ∙ e) ∙ dropped ∙ rest
       ∙ drop_two (unquoted q second) b c bs (count_joined bs)
   skip_by b c bs rest true false e f = refl
   skip_by b c bs rest false y e f = refl
@@ -76,16 +77,16 @@ module _ (q : Quoting) (second : Bool) (live : (c b : ℕ) → is_live q c b ≡
   unfolding count_joined
   skip [] = refl
   skip (b ∷ []) = refl
-  skip (b ∷ c ∷ bs) = skip_by b c bs (skip bs) (b == 92) (c == 10) refl refl
+  skip (b ∷ c ∷ bs) = skip_by b c bs (skip bs) (b == backslash) (c == newline_char) refl refl
 
   has_skip_by : (b c : ℕ) (bs : List ℕ)
       → has_dollar_single q second bs ≡ has_dollar_single q second (drop (count_joined bs) bs) → (x y : Bool)
-      → (b == 92) ≡ x → (c == 10) ≡ y
+      → (b == backslash) ≡ x → (c == newline_char) ≡ y
       → has_dollar_single q second (b ∷ c ∷ bs) ≡ has_dollar_single q second
       (drop (cond (x && y) (2 + count_joined bs) 0) (b ∷ c ∷ bs))
   unfolding has_dollar_single
   has_skip_by b c bs rest true true e f =
-      let is : is_live q 92 b ≡ true = live 92 b ∙ e in
+      let is : is_live q backslash b ≡ true = live backslash b ∙ e in
       let dropped : has_dollar_single q second (b ∷ c ∷ bs) ≡ has_dollar_single q second bs = rw is refl in
       dropped ∙ rest ∙ drop_two (has_dollar_single q second) b c bs (count_joined bs)
   has_skip_by b c bs rest true false e f = refl
@@ -96,7 +97,7 @@ module _ (q : Quoting) (second : Bool) (live : (c b : ℕ) → is_live q c b ≡
   unfolding count_joined
   has_skip [] = refl
   has_skip (b ∷ []) = refl
-  has_skip (b ∷ c ∷ bs) = has_skip_by b c bs (has_skip bs) (b == 92) (c == 10) refl refl
+  has_skip (b ∷ c ∷ bs) = has_skip_by b c bs (has_skip bs) (b == backslash) (c == newline_char) refl refl
 
 -- ---- the byte that is read at a place
 
@@ -117,9 +118,9 @@ read_on f same W p b is =
 -- and what is looked for after it
 abbrev turn : Quoting → Bool → ℕ → List ℕ → Bool
 turn q second b rest = cond (is_quote q b) (has_dollar_single (after_quote q b) false rest)
-    (cond (is_live q 36 b)
-    ((not second && is_quote q 39 && stands rest 0 39) || has_dollar_single q
-    (not second && stands rest 0 36) rest)
+    (cond (is_live q dollar_sign b)
+    ((not second && is_quote q apostrophe && stands rest 0 apostrophe) || has_dollar_single q
+    (not second && stands rest 0 dollar_sign) rest)
     (has_dollar_single q second rest))
 
 none_there : (c d x : Bool) → false ≡ cond c false (cond d ((x && false) || false) false)
@@ -128,16 +129,16 @@ none_there false true true = refl
 none_there false true false = refl
 none_there false false x = refl
 
-has_byte : (q : Quoting) (second : Bool) (b : ℕ) (rest : List ℕ) → is_live q 92 b ≡ false
+has_byte : (q : Quoting) (second : Bool) (b : ℕ) (rest : List ℕ) → is_live q backslash b ≡ false
     → has_dollar_single q second (b ∷ rest) ≡ turn q second b rest
 unfolding has_dollar_single stands
-has_byte q second b [] none = none_there (is_quote q b) (is_live q 36 b) (not second && is_quote q 39)
+has_byte q second b [] none = none_there (is_quote q b) (is_live q dollar_sign b) (not second && is_quote q apostrophe)
 has_byte q second b (c ∷ bs) none = rw none refl
 
 -- ---- text in single quotes
 
 abbrev no_quote : ℕ → Bool
-no_quote b = not (b == 39)
+no_quote b = not (b == apostrophe)
 
 one_left : (b : ℕ) (text : List ℕ) (left : Option (List ℕ))
     → left_before b (left_of text left) ≡ left_of (b ∷ text) left
@@ -153,7 +154,7 @@ SingleLeaves xs k =
     (unquoted in_single false xs ≡ left_of (take k xs) (unquoted not_quoted false (drop (k + 1) xs)))
     × (has_dollar_single in_single false xs ≡ has_dollar_single not_quoted false (drop (k + 1) xs))
 
-single_by : (b : ℕ) (bs : List ℕ) (t : Bool) → (b == 39) ≡ t
+single_by : (b : ℕ) (bs : List ℕ) (t : Bool) → (b == apostrophe) ≡ t
     → (t ≡ false → SingleLeaves bs (count_front no_quote bs))
     → SingleLeaves (b ∷ bs) (cond (not t) (1 + count_front no_quote bs) 0)
 single_by b bs true e rest =
@@ -181,7 +182,7 @@ single_by b bs false e rest =
 single_run : (xs : List ℕ) → count_front no_quote xs < length xs → SingleLeaves xs (count_front no_quote xs)
 unfolding count_front
 single_run [] lt = absurd (omega arith)
-single_run (b ∷ bs) lt = single_by b bs (b == 39) refl (λ e. single_run bs (shorter (b == 39) e lt))
+single_run (b ∷ bs) lt = single_by b bs (b == apostrophe) refl (λ e. single_run bs (shorter (b == apostrophe) e lt))
   where
     shorter : (t : Bool) → t ≡ false → cond (not t) (1 + count_front no_quote bs) 0 < suc (length bs)
         → count_front no_quote bs < length bs
@@ -222,29 +223,30 @@ module _ (later : Bool) (W : List ℕ) where
       (has_skip (quoting_in mode) second (live_in mode)) W p b is
 
   -- a byte that is no backslash
-  byte_on : (mode : Mode) (second : Bool) (p b : ℕ) → byte_at W p ≡ Some b → (b == 92) ≡ false
+  byte_on : (mode : Mode) (second : Bool) (p b : ℕ) → byte_at W p ≡ Some b → (b == backslash) ≡ false
       → unquoted (quoting_in mode) second (drop p W) ≡ byte_left (quoting_in mode) second b
       (drop (past_byte W p) W) (λ r s. unquoted r s (drop (past_byte W p) W))
   byte_on mode second p b is other =
       unquoted_on mode second p b is
       ∙ unquoted_byte (quoting_in mode) second b (drop (past_byte W p) W)
-      (and_right _ _ (live_in mode 92 b ∙ other))
+      (and_right _ _ (live_in mode backslash b ∙ other))
 
-  has_byte_on : (mode : Mode) (second : Bool) (p b : ℕ) → byte_at W p ≡ Some b → (b == 92) ≡ false
+  has_byte_on : (mode : Mode) (second : Bool) (p b : ℕ) → byte_at W p ≡ Some b → (b == backslash) ≡ false
       → has_dollar_single (quoting_in mode) second (drop p W) ≡ turn (quoting_in mode) second b
       (drop (past_byte W p) W)
   has_byte_on mode second p b is other =
       has_on mode second p b is
-      ∙ has_byte (quoting_in mode) second b (drop (past_byte W p) W) (live_in mode 92 b ∙ other)
+      ∙ has_byte (quoting_in mode) second b (drop (past_byte W p) W) (live_in mode backslash b ∙ other)
 
-  pub another_leads : (mode : Mode) (p b : ℕ) → byte_at W p ≡ Some b → (b == 92) ≡ false → (b == 96) ≡ false
-      → (b == 36) ≡ false → is_quote (quoting_in mode) b ≡ false
+  pub another_leads : (mode : Mode) (p b : ℕ) → byte_at W p ≡ Some b → (b == backslash) ≡ false →
+      (b == grave_accent) ≡ false
+      → (b == dollar_sign) ≡ false → is_quote (quoting_in mode) b ≡ false
       → Leads later W (quoting_in mode) p (b ∷ []) (quoting_in mode) (past_byte W p)
   another_leads mode p b is no_backslash no_tick no_dollar unquoting =
       let q = quoting_in mode in
       let rest = drop (past_byte W p) W in
-      let tick : is_live q 96 b ≡ false = live_in mode 96 b ∙ no_tick in
-      let dollar : is_live q 36 b ≡ false = live_in mode 36 b ∙ no_dollar in
+      let tick : is_live q grave_accent b ≡ false = live_in mode grave_accent b ∙ no_tick in
+      let dollar : is_live q dollar_sign b ≡ false = live_in mode dollar_sign b ∙ no_dollar in
       let stays : byte_left q false b rest (λ r s. unquoted r s rest) ≡ left_of (b ∷ [])
       (unquoted q false rest) =
       rw (unquoting, tick, dollar) refl in
@@ -254,92 +256,98 @@ module _ (later : Bool) (W : List ℕ) where
         found = λ e. has_byte_on mode false p b is no_backslash ∙ on;
       }
 
-  pub dollar_leads : (mode : Mode) (p : ℕ) → byte_at W p ≡ Some 36
-      → is_byte (byte_at W (past_byte W p)) 36 ≡ false → is_byte (byte_at W (past_byte W p)) 40 ≡ false
-      → is_byte (byte_at W (past_byte W p)) 123 ≡ false
-      → (later ≡ true → (is_quote (quoting_in mode) 39 && is_byte (byte_at W (past_byte W p)) 39) ≡ false)
-      → Leads later W (quoting_in mode) p (36 ∷ []) (quoting_in mode) (past_byte W p)
+  pub dollar_leads : (mode : Mode) (p : ℕ) → byte_at W p ≡ Some dollar_sign
+      → is_byte (byte_at W (past_byte W p)) dollar_sign ≡ false →
+      is_byte (byte_at W (past_byte W p)) left_parenthesis ≡ false
+      → is_byte (byte_at W (past_byte W p)) left_brace ≡ false
+      → (later ≡ true → (is_quote (quoting_in mode) apostrophe && is_byte (byte_at W (past_byte W p)) apostrophe) ≡
+      false)
+      → Leads later W (quoting_in mode) p (dollar_sign ∷ []) (quoting_in mode) (past_byte W p)
   dollar_leads mode p is no_dollar no_open no_brace no_quoted =
       let q = quoting_in mode in
       let rest = drop (past_byte W p) W in
-      let tick : is_live q 96 36 ≡ false = live_in mode 96 36 in
-      let live : is_live q 36 36 ≡ true = live_in mode 36 36 in
-      let one : stands rest 0 40 ≡ false = rest_stands W (past_byte W p) 40 ∙ no_open in
-      let two : stands rest 0 123 ≡ false = rest_stands W (past_byte W p) 123 ∙ no_brace in
-      let three : stands rest 0 36 ≡ false = rest_stands W (past_byte W p) 36 ∙ no_dollar in
-      let stays : byte_left q false 36 rest (λ r s. unquoted r s rest) ≡ left_of (36 ∷ [])
+      let tick : is_live q grave_accent dollar_sign ≡ false = live_in mode grave_accent dollar_sign in
+      let live : is_live q dollar_sign dollar_sign ≡ true = live_in mode dollar_sign dollar_sign in
+      let one : stands rest 0 left_parenthesis ≡ false = rest_stands W (past_byte W p) left_parenthesis ∙ no_open in
+      let two : stands rest 0 left_brace ≡ false = rest_stands W (past_byte W p) left_brace ∙ no_brace in
+      let three : stands rest 0 dollar_sign ≡ false = rest_stands W (past_byte W p) dollar_sign ∙ no_dollar in
+      let stays : byte_left q false dollar_sign rest (λ r s. unquoted r s rest) ≡ left_of (dollar_sign ∷ [])
       (unquoted q false rest) =
       rw (dollar_no_quote mode, tick, live, one, two, three) refl in
-      let on : (later ≡ true) → turn q false 36 rest ≡ has_dollar_single q false rest = λ e.
-      let lone : (is_quote q 39 && stands rest 0 39) ≡ false =
-      ap (λ c. is_quote q 39 && c) (rest_stands W (past_byte W p) 39) ∙ no_quoted e in
+      let on : (later ≡ true) → turn q false dollar_sign rest ≡ has_dollar_single q false rest = λ e.
+      let lone : (is_quote q apostrophe && stands rest 0 apostrophe) ≡ false =
+      ap (λ c. is_quote q apostrophe && c) (rest_stands W (past_byte W p) apostrophe) ∙ no_quoted e in
       rw (dollar_no_quote mode, live, lone, three) refl in
       record {
-        left = byte_on mode false p 36 is refl ∙ stays;
-        found = λ e. has_byte_on mode false p 36 is refl ∙ on e;
+        left = byte_on mode false p dollar_sign is refl ∙ stays;
+        found = λ e. has_byte_on mode false p dollar_sign is refl ∙ on e;
       }
 
-  pub pid_leads : (mode : Mode) (p : ℕ) → byte_at W p ≡ Some 36 → byte_at W (past_byte W p) ≡ Some 36
-      → Leads later W (quoting_in mode) p (36 ∷ 36 ∷ []) (quoting_in mode) (past_byte W (past_byte W p))
+  pub pid_leads : (mode : Mode) (p : ℕ) → byte_at W p ≡ Some dollar_sign → byte_at W (past_byte W p) ≡ Some dollar_sign
+      → Leads later W (quoting_in mode) p (dollar_sign ∷ dollar_sign ∷ []) (quoting_in mode)
+      (past_byte W (past_byte W p))
   pid_leads mode p is next =
       let q = quoting_in mode in
       let r = past_byte W p in
       let rest = drop r W in
       let last = drop (past_byte W r) W in
-      let tick : is_live q 96 36 ≡ false = live_in mode 96 36 in
-      let live : is_live q 36 36 ≡ true = live_in mode 36 36 in
-      let one : stands rest 0 40 ≡ false = rest_stands W r 40 ∙ ap (λ y. is_byte y 40) next in
-      let two : stands rest 0 123 ≡ false = rest_stands W r 123 ∙ ap (λ y. is_byte y 123) next in
-      let three : stands rest 0 36 ≡ true = rest_stands W r 36 ∙ ap (λ y. is_byte y 36) next in
-      let quoted : (is_quote q 39 && stands rest 0 39) ≡ false =
-      and_right _ _ (rest_stands W r 39 ∙ ap (λ y. is_byte y 39) next) in
-      let first : byte_left q false 36 rest (λ r s. unquoted r s rest) ≡ left_before 36
+      let tick : is_live q grave_accent dollar_sign ≡ false = live_in mode grave_accent dollar_sign in
+      let live : is_live q dollar_sign dollar_sign ≡ true = live_in mode dollar_sign dollar_sign in
+      let one : stands rest 0 left_parenthesis ≡ false = rest_stands W r left_parenthesis ∙ ap
+      (λ y. is_byte y left_parenthesis) next in
+      let two : stands rest 0 left_brace ≡ false = rest_stands W r left_brace ∙ ap (λ y. is_byte y left_brace) next in
+      let three : stands rest 0 dollar_sign ≡ true = rest_stands W r dollar_sign ∙ ap (λ y. is_byte y dollar_sign) next
+      in
+      let quoted : (is_quote q apostrophe && stands rest 0 apostrophe) ≡ false =
+      and_right _ _ (rest_stands W r apostrophe ∙ ap (λ y. is_byte y apostrophe) next) in
+      let first : byte_left q false dollar_sign rest (λ r s. unquoted r s rest) ≡ left_before dollar_sign
       (unquoted q true rest) =
       rw (dollar_no_quote mode, tick, live, one, two, three) refl in
-      let second : byte_left q true 36 last (λ r s. unquoted r s last) ≡ left_before 36
+      let second : byte_left q true dollar_sign last (λ r s. unquoted r s last) ≡ left_before dollar_sign
       (unquoted q false last) =
       rw (dollar_no_quote mode, tick, live) refl in
-      let first_on : turn q false 36 rest ≡ has_dollar_single q true rest =
+      let first_on : turn q false dollar_sign rest ≡ has_dollar_single q true rest =
       rw (dollar_no_quote mode, live, quoted, three) refl in
-      let second_on : turn q true 36 last ≡ has_dollar_single q false last =
+      let second_on : turn q true dollar_sign last ≡ has_dollar_single q false last =
       rw (dollar_no_quote mode, live) refl in
       record {
         left =
-            byte_on mode false p 36 is refl ∙ first
-            ∙ ap (left_before 36) (byte_on mode true r 36 next refl ∙ second)
-            ∙ both_left (36 ∷ []) (36 ∷ []) (unquoted q false last);
+            byte_on mode false p dollar_sign is refl ∙ first
+            ∙ ap (left_before dollar_sign) (byte_on mode true r dollar_sign next refl ∙ second)
+            ∙ both_left (dollar_sign ∷ []) (dollar_sign ∷ []) (unquoted q false last);
         found =
-            λ e. has_byte_on mode false p 36 is refl ∙ first_on ∙ has_byte_on mode true r 36 next refl
+            λ e. has_byte_on mode false p dollar_sign is refl ∙ first_on ∙ has_byte_on mode true r dollar_sign next refl
             ∙ second_on;
       }
 
   escape_two : (c : ℕ) (left : Option (List ℕ)) (t : Bool)
-      → cond (not t) (left_before 92 (left_before c left)) (left_before c left) ≡ left_of
-      (cond t (c ∷ []) (92 ∷ c ∷ [])) left
+      → cond (not t) (left_before backslash (left_before c left)) (left_before c left) ≡ left_of
+      (cond t (c ∷ []) (backslash ∷ c ∷ [])) left
   escape_two c left true = refl
   escape_two c None false = refl
   escape_two c (Some bs) false = refl
 
-  escape_is : (mode : Mode) (c : ℕ) (left : Option (List ℕ)) → is_unquoted mode ≡ true → (c == 10) ≡ false
+  escape_is : (mode : Mode) (c : ℕ) (left : Option (List ℕ)) → is_unquoted mode ≡ true → (c == newline_char) ≡ false
       → escape_left (quoting_in mode) c left ≡ left_of (escape_leaves mode c) left
   escape_is Plain c left read other = rw other refl
-  escape_is Double c left read other = rw other (escape_two c left (c == 36 || c == 96 || c == 34 || c == 92))
+  escape_is Double c left read other = rw other
+      (escape_two c left (c == dollar_sign || c == grave_accent || c == quotation_mark || c == backslash))
   escape_is Brace c left read other = absurd cc
   escape_is DoubleBrace c left read other = absurd cc
   escape_is Arith c left read other = absurd cc
 
   -- after continuations no other one stands
-  not_newline : (p c : ℕ) → byte_at W p ≡ Some 92 → slice_get W (past_continuations W p + 1) ≡ Some c
-      → (c == 10) ≡ false
+  not_newline : (p c : ℕ) → byte_at W p ≡ Some backslash → slice_get W (past_continuations W p + 1) ≡ Some c
+      → (c == newline_char) ≡ false
   unfolding continues raw_stands
-  not_newline p c is next = false_from_ne_true (c == 10) (λ e.
+  not_newline p c is next = false_from_ne_true (c == newline_char) (λ e.
       let P = past_continuations W p in
       let both : continues W P ≡ true =
-      and_from _ _ (ap (λ y. is_byte y 92) is) (ap (λ y. is_byte y 10) next ∙ e) in
+      and_from _ _ (ap (λ y. is_byte y backslash) is) (ap (λ y. is_byte y newline_char) next ∙ e) in
       let on = joined_more W P both in
       omega (arith, on, place_same W p, place_low W (P + 2)))
 
-  pub escape_leads : (mode : Mode) (p c : ℕ) → is_unquoted mode ≡ true → byte_at W p ≡ Some 92
+  pub escape_leads : (mode : Mode) (p c : ℕ) → is_unquoted mode ≡ true → byte_at W p ≡ Some backslash
       → slice_get W (past_continuations W p + 1) ≡ Some c
       → Leads later W (quoting_in mode) p (escape_leaves mode c) (quoting_in mode)
       (past_continuations W p + 2)
@@ -350,19 +358,19 @@ module _ (later : Bool) (W : List ℕ) where
       let two : P + 1 + 1 ≡ P + 2 = omega arith in
       let rest : drop (P + 1) W ≡ c ∷ drop (P + 2) W =
       drop_here W (P + 1) c next ∙ ap (λ k. c ∷ drop k W) two in
-      let live : is_live q 92 92 ≡ true = live_in mode 92 92 in
-      let on : has_dollar_single q false (92 ∷ c ∷ drop (P + 2) W) ≡ has_dollar_single q false
+      let live : is_live q backslash backslash ≡ true = live_in mode backslash backslash in
+      let on : has_dollar_single q false (backslash ∷ c ∷ drop (P + 2) W) ≡ has_dollar_single q false
       (drop (P + 2) W) =
       rw live refl in
       record {
         left =
-            unquoted_on mode false p 92 is ∙ ap (λ bs. unquoted q false (92 ∷ bs)) rest
-            ∙ unquoted_escape q false 92 c (drop (P + 2) W) live
+            unquoted_on mode false p backslash is ∙ ap (λ bs. unquoted q false (backslash ∷ bs)) rest
+            ∙ unquoted_escape q false backslash c (drop (P + 2) W) live
             ∙ escape_is mode c (unquoted q false (drop (P + 2) W)) read (not_newline p c is next);
-        found = λ e. has_on mode false p 92 is ∙ ap (λ bs. has_dollar_single q false (92 ∷ bs)) rest ∙ on;
+        found = λ e. has_on mode false p backslash is ∙ ap (λ bs. has_dollar_single q false (backslash ∷ bs)) rest ∙ on;
       }
 
-  pub single_leads : (p : ℕ) → byte_at W p ≡ Some 39 → at_end W (next_quote W (past_byte W p)) ≡ false
+  pub single_leads : (p : ℕ) → byte_at W p ≡ Some apostrophe → at_end W (next_quote W (past_byte W p)) ≡ false
       → Leads later W not_quoted p (raw W (past_byte W p) (next_quote W (past_byte W p))) not_quoted
       (next_quote W (past_byte W p) + 1)
   unfolding raw_past
@@ -376,62 +384,65 @@ module _ (later : Bool) (W : List ℕ) where
       let far : drop (k + 1) rest ≡ drop (r + k + 1) W =
       drop-drop (k + 1) r W ∙ ap (λ n. drop n W)
       (let there : r + (k + 1) ≡ r + k + 1 = omega arith in there) in
-      let opened : byte_left not_quoted false 39 rest
+      let opened : byte_left not_quoted false apostrophe rest
       (λ r s. unquoted r s rest) ≡ unquoted in_single false rest =
       refl in
-      let on : turn not_quoted false 39 rest ≡ has_dollar_single in_single false rest = refl in
+      let on : turn not_quoted false apostrophe rest ≡ has_dollar_single in_single false rest = refl in
       record {
         left =
-            byte_on Plain false p 39 is refl ∙ opened ∙ run.0
+            byte_on Plain false p apostrophe is refl ∙ opened ∙ run.0
             ∙ ap (λ n. left_of (take n rest) (unquoted not_quoted false (drop (k + 1) rest))) (sym width)
             ∙ ap (λ l. left_of (take (r + k - r) rest) (unquoted not_quoted false l)) far;
         found =
-            λ e. has_byte_on Plain false p 39 is refl ∙ on ∙ run.1
+            λ e. has_byte_on Plain false p apostrophe is refl ∙ on ∙ run.1
             ∙ ap (has_dollar_single not_quoted false) far;
       }
 
-  pub double_leads : (p : ℕ) → byte_at W p ≡ Some 34 → Leads later W not_quoted p [] in_double (past_byte W p)
+  pub double_leads : (p : ℕ) → byte_at W p ≡ Some quotation_mark →
+      Leads later W not_quoted p [] in_double (past_byte W p)
   double_leads p is = record {
-    left = byte_on Plain false p 34 is refl ∙ sym (nothing_more _);
-    found = λ e. has_byte_on Plain false p 34 is refl;
+    left = byte_on Plain false p quotation_mark is refl ∙ sym (nothing_more _);
+    found = λ e. has_byte_on Plain false p quotation_mark is refl;
   }
 
-  pub closer_leads : (p : ℕ) → byte_at W p ≡ Some 34 → Leads later W in_double p [] not_quoted (past_byte W p)
+  pub closer_leads : (p : ℕ) → byte_at W p ≡ Some quotation_mark →
+      Leads later W in_double p [] not_quoted (past_byte W p)
   closer_leads p is = record {
-    left = byte_on Double false p 34 is refl ∙ sym (nothing_more _);
-    found = λ e. has_byte_on Double false p 34 is refl;
+    left = byte_on Double false p quotation_mark is refl ∙ sym (nothing_more _);
+    found = λ e. has_byte_on Double false p quotation_mark is refl;
   }
 
   -- ---- pieces that leave nothing
 
-  pub backquote_none : (mode : Mode) (p : ℕ) → byte_at W p ≡ Some 96
+  pub backquote_none : (mode : Mode) (p : ℕ) → byte_at W p ≡ Some grave_accent
       → unquoted (quoting_in mode) false (drop p W) ≡ None
   backquote_none mode p is =
       let q = quoting_in mode in
       let rest = drop (past_byte W p) W in
-      let live : is_live q 96 96 ≡ true = live_in mode 96 96 in
-      let none : byte_left q false 96 rest (λ r s. unquoted r s rest) ≡ None =
+      let live : is_live q grave_accent grave_accent ≡ true = live_in mode grave_accent grave_accent in
+      let none : byte_left q false grave_accent rest (λ r s. unquoted r s rest) ≡ None =
       rw (tick_no_quote mode, live) refl in
-      byte_on mode false p 96 is refl ∙ none
+      byte_on mode false p grave_accent is refl ∙ none
 
-  pub opener_none : (mode : Mode) (p : ℕ) → byte_at W p ≡ Some 36
-      → (is_byte (byte_at W (past_byte W p)) 40 || is_byte (byte_at W (past_byte W p)) 123) ≡ true
+  pub opener_none : (mode : Mode) (p : ℕ) → byte_at W p ≡ Some dollar_sign
+      → (is_byte (byte_at W (past_byte W p)) left_parenthesis || is_byte (byte_at W (past_byte W p)) left_brace) ≡ true
       → unquoted (quoting_in mode) false (drop p W) ≡ None
   opener_none mode p is opens =
       let q = quoting_in mode in
       let rest = drop (past_byte W p) W in
-      let tick : is_live q 96 36 ≡ false = live_in mode 96 36 in
-      let live : is_live q 36 36 ≡ true = live_in mode 36 36 in
-      let one : (stands rest 0 40 || stands rest 0 123) ≡ true =
-      rw (rest_stands W (past_byte W p) 40, rest_stands W (past_byte W p) 123) opens in
-      let none : byte_left q false 36 rest (λ r s. unquoted r s rest) ≡ None =
+      let tick : is_live q grave_accent dollar_sign ≡ false = live_in mode grave_accent dollar_sign in
+      let live : is_live q dollar_sign dollar_sign ≡ true = live_in mode dollar_sign dollar_sign in
+      let one : (stands rest 0 left_parenthesis || stands rest 0 left_brace) ≡ true =
+      rw (rest_stands W (past_byte W p) left_parenthesis, rest_stands W (past_byte W p) left_brace) opens in
+      let none : byte_left q false dollar_sign rest (λ r s. unquoted r s rest) ≡ None =
       rw (dollar_no_quote mode, tick, live, one) refl in
-      byte_on mode false p 36 is refl ∙ none
+      byte_on mode false p dollar_sign is refl ∙ none
 
-  pub dollar_quote_found : (p : ℕ) → byte_at W p ≡ Some 36 → byte_at W (past_byte W p) ≡ Some 39
+  pub dollar_quote_found : (p : ℕ) → byte_at W p ≡ Some dollar_sign → byte_at W (past_byte W p) ≡ Some apostrophe
       → has_dollar_single not_quoted false (drop p W) ≡ true
   dollar_quote_found p is next =
       let rest = drop (past_byte W p) W in
-      let one : stands rest 0 39 ≡ true = rest_stands W (past_byte W p) 39 ∙ ap (λ y. is_byte y 39) next in
-      let found : turn not_quoted false 36 rest ≡ true = rw one refl in
-      has_byte_on Plain false p 36 is refl ∙ found
+      let one : stands rest 0 apostrophe ≡ true = rest_stands W (past_byte W p) apostrophe ∙ ap
+      (λ y. is_byte y apostrophe) next in
+      let found : turn not_quoted false dollar_sign rest ≡ true = rw one refl in
+      has_byte_on Plain false p dollar_sign is refl ∙ found

@@ -14,6 +14,7 @@ use Rattle.shast.specs.declared.tree.Span.{Span}
 use Rattle.shast.specs.Tree.{ASubst}
 use Rattle.shgrammar.specs.Standing.{at_end, raw_stands}
 use Rattle.shgrammar.specs.Bytes.{byte_at, ends, ends_word, past_byte, past_continuations, stands}
+use Rattle.shgrammar.specs.Characters.{backslash, apostrophe, dollar_sign, left_parenthesis, left_brace, quotation_mark, right_brace, right_parenthesis, grave_accent}
 use Rattle.shgrammar.specs.Pieces.{bracket_by, byte_by, closes_by, dollar_at, dollar_by, end_by, next_escaped, next_quote, past_closer, past_taken, piece_at, piece_by, piece_in, quotes_singly}
 use Rattle.shgrammar.specs.Tokens.{is_later}
 use Rattle.shgrammar.specs.Form.{Step, again, give, leads_on, ◌>>=◌}
@@ -26,7 +27,7 @@ use Rattle.shlaws.proofs.Forms.{Goes, Stepped, Steps, ahead, beyond, first, foll
 
 taken_low : (T : List ℕ) (q : ℕ) → q < past_taken T q
 unfolding past_taken
-taken_low T q = cond_both (raw_stands T q 92) _ _ (λ n. q < q + n) (λ e. omega arith) (λ e. omega arith)
+taken_low T q = cond_both (raw_stands T q backslash) _ _ (λ n. q < q + n) (λ e. omega arith) (λ e. omega arith)
 
 module _ (g : Given) where
   abbrev T : List ℕ
@@ -42,7 +43,7 @@ module _ (g : Given) where
   single_on s =
       let q = past_byte T s.at in
       sees g (moves g (moves g (whens g (stops g)
-      (moves_to g (omega (arith, after_low T s.at, next_of_low 39 T q, taken_low T (next_quote T q)))))))
+      (moves_to g (omega (arith, after_low T s.at, next_of_low apostrophe T q, taken_low T (next_quote T q)))))))
 
   escaped_on : (how : Escaping) (b : ℕ) (u : Unit {0}) (s : State)
       → Goes g (escaped_turn how b u) (Steps g All s) s
@@ -109,11 +110,11 @@ module _ (g : Given) where
     dollar_needs None read = read
     dollar_needs (Some v) read =
         let P = Needs mode p in
-        cond_both (v == 36) _ _ P (λ e. read)
-        (λ e. cond_both (v == 40) _ _ P
-        (λ f. cond_both (stands T (past_byte T (past_byte T p)) 40) _ _ P (λ d. read) (λ d. read))
-        (λ f. cond_both (v == 123) _ _ P (λ d. read)
-        (λ d. cond_both (v == 39) _ _ P (λ z. read) (λ z. read))))
+        cond_both (v == dollar_sign) _ _ P (λ e. read)
+        (λ e. cond_both (v == left_parenthesis) _ _ P
+        (λ f. cond_both (stands T (past_byte T (past_byte T p)) left_parenthesis) _ _ P (λ d. read) (λ d. read))
+        (λ f. cond_both (v == left_brace) _ _ P (λ d. read)
+        (λ d. cond_both (v == apostrophe) _ _ P (λ z. read) (λ z. read))))
 
     bracket_needs : (m : ℕ) (two : Bool) → IsRead T p → Needs Arith p (bracket_by m two)
     bracket_needs zero true read = λ e. absurd cc
@@ -126,19 +127,23 @@ module _ (g : Given) where
     byte_needs Plain v some read =
         let P = Needs Plain p in
         cond_both (ends (Some v)) _ _ P (λ e f. rw some e)
-        (λ e. cond_both (v == 39) _ _ P (λ f. read) (λ f. cond_both (v == 34) _ _ P (λ d. read) (λ d. read)))
-    byte_needs Double v some read = cond_both (v == 34) _ _ (Needs Double p) (λ e f. absurd cc) (λ e. read)
+        (λ e. cond_both (v == apostrophe) _ _ P (λ f. read)
+        (λ f. cond_both (v == quotation_mark) _ _ P (λ d. read) (λ d. read)))
+    byte_needs Double v some read = cond_both (v == quotation_mark) _ _ (Needs Double p) (λ e f. absurd cc) (λ e. read)
     byte_needs Brace v some read =
         let P = Needs Brace p in
-        cond_both (v == 125) _ _ P (λ e f. absurd cc)
-        (λ e. cond_both (v == 39) _ _ P (λ f. read) (λ f. cond_both (v == 34) _ _ P (λ d. read) (λ d. read)))
+        cond_both (v == right_brace) _ _ P (λ e f. absurd cc)
+        (λ e. cond_both (v == apostrophe) _ _ P (λ f. read)
+        (λ f. cond_both (v == quotation_mark) _ _ P (λ d. read) (λ d. read)))
     byte_needs DoubleBrace v some read =
         let P = Needs DoubleBrace p in
-        cond_both (v == 125) _ _ P (λ e f. absurd cc) (λ e. cond_both (v == 34) _ _ P (λ f. read) (λ f. read))
+        cond_both (v == right_brace) _ _ P (λ e f. absurd cc)
+        (λ e. cond_both (v == quotation_mark) _ _ P (λ f. read) (λ f. read))
     byte_needs Arith v some read =
         let P = Needs Arith p in
-        cond_both (v == 41) _ _ P (λ e. bracket_needs n (stands T (past_byte T p) 41) read)
-        (λ e. cond_both (v == 40) _ _ P (λ f. read) (λ f. read))
+        cond_both (v == right_parenthesis) _ _ P
+        (λ e. bracket_needs n (stands T (past_byte T p) right_parenthesis) read)
+        (λ e. cond_both (v == left_parenthesis) _ _ P (λ f. read) (λ f. read))
 
     needs_by : (x : Option ℕ) → byte_at T p ≡ x → Needs mode p (piece_by T p mode n x)
     unfolding dollar_at
@@ -146,9 +151,9 @@ module _ (g : Given) where
     needs_by (Some v) some =
         let P = Needs mode p in
         let read = slice_get_within T (past_continuations T p) v some in
-        cond_both (v == 92) _ _ P (λ e. cond_both (at_end T (past_byte T p)) _ _ P (λ f. read) (λ f. read))
-        (λ e. cond_both (v == 96) _ _ P (λ f. read)
-        (λ f. cond_both (v == 36) _ _ P (λ d. dollar_needs (byte_at T (past_byte T p)) read)
+        cond_both (v == backslash) _ _ P (λ e. cond_both (at_end T (past_byte T p)) _ _ P (λ f. read) (λ f. read))
+        (λ e. cond_both (v == grave_accent) _ _ P (λ f. read)
+        (λ f. cond_both (v == dollar_sign) _ _ P (λ d. dollar_needs (byte_at T (past_byte T p)) read)
         (λ d. byte_needs mode v some read)))
 
     -- and so does the piece that the edition has in its place
