@@ -1,5 +1,5 @@
 -- A line without the trees in its command substitutions, and the line of the whole reading.
-use Rattle.std.proofs.Common.{◌≡◌, ℕ, Bool, false, Result, Ok, Err, List, List as Row, drop, map, subst, sym, refl}
+use Rattle.std.proofs.Common.{◌≡◌, ℕ, Bool, false, Ok, Err, List, List as Row, drop, map, subst, refl}
 use Rattle.shast.specs.Moved.{blanked_row, outer_entry}
 use Rattle.shast.specs.Tree.{AnEntry}
 use Rattle.shgrammar.specs.declared.edition.Edition.{Edition}
