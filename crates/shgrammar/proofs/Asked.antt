@@ -10,6 +10,7 @@ use Rattle.shgrammar.specs.declared.mode.Mode.TheVariants.{Plain, Double, Brace,
 use Rattle.shgrammar.specs.Classes.{is_letter, is_digit, is_name, is_blank, is_special}
 use Rattle.shgrammar.specs.Standing.{is_byte, is_none, at_end, raw_in, raw_stands, raw_past, next_of, next_newline, before_blanks, passes, continues}
 use Rattle.shgrammar.specs.Bytes.{past, past_blanks, past_continuations, byte_at, past_byte, stands, stands_in}
+use Rattle.shgrammar.specs.Characters.{newline_char, apostrophe, backslash, number_sign, right_parenthesis, dollar_sign, left_parenthesis, grave_accent, percent_sign}
 use Rattle.shgrammar.specs.Comments.{span, comment_at, past_comment}
 use Rattle.shgrammar.specs.Pieces.{dollar_by, dollar_at, byte_by, piece_by, piece_at, past_taken, next_quote, is_last_backslash, past_parameter, rest_mode, past_closer, closes_by, next_escaped}
 use Rattle.shgrammar.specs.Tokens.{past_digits, past_reserved}
@@ -165,11 +166,11 @@ module _ {edition : Edition} {T U : List ℕ} {a M : ℕ} {to : ℕ → ℕ} {li
   unfolding at_end
   same_end p low le = ap is_none (E.kept.same p low (omega (arith, le)))
 
-  no_newline : (q : ℕ) → raw_stands T (q + 1) 10 ≡ false → continues T q ≡ false
-  no_newline q e = must_fail _ (λ c. both_ways (raw_stands T (q + 1) 10) e (continued T q c).1)
+  no_newline : (q : ℕ) → raw_stands T (q + 1) newline_char ≡ false → continues T q ≡ false
+  no_newline q e = must_fail _ (λ c. both_ways (raw_stands T (q + 1) newline_char) e (continued T q c).1)
 
   -- from p, after which b stands, up to what is looked for, which is no newline
-  found_good : (test : ℕ → Bool) (b p : ℕ) → a ≤ p → p ≤ b → raw_stands T (raw_past test T b) 10 ≡ false →
+  found_good : (test : ℕ → Bool) (b p : ℕ) → a ≤ p → p ≤ b → raw_stands T (raw_past test T b) newline_char ≡ false →
       G (raw_past test T b) → G p × (raw_past test U (to b) ≡ to (raw_past test T b))
   found_good test b p low le other s =
       let q = raw_past test T b in
@@ -177,25 +178,27 @@ module _ {edition : Edition} {T U : List ℕ} {a M : ℕ} {to : ℕ → ℕ} {li
         ⊎_elim
             (λ lt. let back : q - 1 + 1 ≡ q = omega (arith, lt) in
             good_over p (q - 1) low (omega (arith, lt))
-            (no_newline (q - 1) (subst (λ z. raw_stands T z 10 ≡ false) (sym back) other)) (subst G (sym back) s))
+            (no_newline (q - 1) (subst (λ z. raw_stands T z newline_char ≡ false) (sym back) other))
+            (subst G (sym back) s))
             (λ ge. let is : q ≡ p = omega (arith, ge, le, from) in subst G is s) (cases_lt p q),
         raw_there E.kept test b (omega (arith, low, le)) (omega (arith, high s)),
       )
 
-  quote_other : (x : Option ℕ) (c : ℕ) → (39 == c) ≡ false → passes (λ b. not (b == 39)) x ≡ false → is_byte x c ≡ false
+  quote_other : (x : Option ℕ) (c : ℕ) → (apostrophe == c) ≡ false → passes (λ b. not (b == apostrophe)) x ≡ false →
+      is_byte x c ≡ false
   quote_other None c e f = refl
   quote_other (Some b) c e f = grind (arith, nat_tests)
 
-  escaped_other : (how : Escaping) (x : Option ℕ) → passes (λ b. not (b == closes_by how || b == 92)) x ≡ false →
-      is_byte x 10 ≡ false
+  escaped_other : (how : Escaping) (x : Option ℕ) → passes (λ b. not (b == closes_by how || b == backslash)) x ≡ false →
+      is_byte x newline_char ≡ false
   escaped_other how None e = refl
   escaped_other escapings.Backquotes (Some b) e = grind (arith, nat_tests)
   escaped_other escapings.DollarSingle (Some b) e = grind (arith, nat_tests)
 
-  pub moves_one : (p : ℕ) → raw_stands T p 92 ≡ false → Moves (λ T p. p + 1) p
+  pub moves_one : (p : ℕ) → raw_stands T p backslash ≡ false → Moves (λ T p. p + 1) p
   moves_one p e = (omega arith, λ low s. (good_back p low (no_backslash T p e) s, sym (on p 1 low)))
 
-  pub moves_two : (p : ℕ) → raw_stands T p 92 ≡ true → Moves (λ T p. p + 2) p
+  pub moves_two : (p : ℕ) → raw_stands T p backslash ≡ true → Moves (λ T p. p + 2) p
   moves_two p e = (
     omega arith,
     λ low s. (
@@ -205,32 +208,32 @@ module _ {edition : Edition} {T U : List ℕ} {a M : ℕ} {to : ℕ → ℕ} {li
     ),
   )
 
-  pub same_taken : (p : ℕ) → raw_stands T p 92 ≡ true → a ≤ p → G p → at_end U (to p + 1) ≡ at_end T (p + 1)
+  pub same_taken : (p : ℕ) → raw_stands T p backslash ≡ true → a ≤ p → G p → at_end U (to p + 1) ≡ at_end T (p + 1)
   unfolding raw_stands
   same_taken p e low s =
       ap (at_end U) (sym (on p 1 low))
       ∙ same_end (p + 1) (omega (arith, low))
       (⊎_elim (λ lt. omega (arith, lt))
       (λ ge. let is : p ≡ M = omega (arith, ge, high s) in
-      absurd (both_ways (is_byte (slice_get T M) 92) (rw E.byte (not_backslash limit E.ender)) (rw (sym is) e)))
+      absurd (both_ways (is_byte (slice_get T M) backslash) (rw E.byte (not_backslash limit E.ender)) (rw (sym is) e)))
       (cases_lt p M))
 
   pub same_raw_stands : (p c : ℕ) → a ≤ p → p ≤ M → raw_stands U (to p) c ≡ raw_stands T p c
   unfolding raw_stands
   same_raw_stands p c low le = ap (λ b. is_byte b c) (E.kept.same p low (omega (arith, le)))
 
-  newline_by : (x : Option ℕ) → x ≡ Some 10 → passes (λ b. not (b == 10)) x ≡ false
+  newline_by : (x : Option ℕ) → x ≡ Some newline_char → passes (λ b. not (b == newline_char)) x ≡ false
   newline_by x is = rw is refl
 
   -- a newline at the limit is the next one, or after it
-  pub newline_near : limit ≡ 10 → (p : ℕ) → p ≤ M → next_newline T p ≤ M
+  pub newline_near : limit ≡ newline_char → (p : ℕ) → p ≤ M → next_newline T p ≤ M
   unfolding raw_in
   newline_near ten p le =
       ⊎_elim (λ lt. absurd (both_ways _ (newline_by (slice_get T M) (E.byte ∙ ap Some ten))
-      (raw_past_all (λ b. not (b == 10)) T p M le lt))) (λ ge. ge) (cases_lt M (next_newline T p))
+      (raw_past_all (λ b. not (b == newline_char)) T p M le lt))) (λ ge. ge) (cases_lt M (next_newline T p))
 
   pub same_newline : (p : ℕ) → a ≤ p → next_newline T p ≤ M → next_newline U (to p) ≡ to (next_newline T p)
-  same_newline p low near = raw_there E.kept (λ b. not (b == 10)) p low (omega (arith, near))
+  same_newline p low near = raw_there E.kept (λ b. not (b == newline_char)) p low (omega (arith, near))
 
   -- before q, after a byte at p that is no blank
   before_there : (n p q : ℕ) → q ≤ p + n → a ≤ p → p < q → q ≤ M → raw_in is_blank T p ≡ false →
@@ -261,21 +264,22 @@ module _ {edition : Edition} {T U : List ℕ} {a M : ℕ} {to : ℕ → ℕ} {li
       ))
       (cases_Bool (raw_in is_blank T r))
 
-  hash_goes : (x : Option ℕ) → is_byte x 35 ≡ true → (passes goes_on x ≡ false) × (passes is_blank x ≡ false)
-      × (passes (λ b. not (b == 10)) x ≡ true)
+  hash_goes : (x : Option ℕ) → is_byte x number_sign ≡ true → (passes goes_on x ≡ false) × (passes is_blank x ≡ false)
+      × (passes (λ b. not (b == newline_char)) x ≡ true)
   hash_goes None e = absurd cc
   hash_goes (Some b) e = (grind (arith, nat_tests), grind (arith, nat_tests), grind (arith, nat_tests))
 
-  no_hash : (limit == 35) ≡ false
-  no_hash = ender limit 35 E.ender.ends_it refl
+  no_hash : (limit == number_sign) ≡ false
+  no_hash = ender limit number_sign E.ender.ends_it refl
 
-  at_hash : (p : ℕ) → a ≤ p → p ≤ M → raw_stands T p 35 ≡ true → G p
+  at_hash : (p : ℕ) → a ≤ p → p ≤ M → raw_stands T p number_sign ≡ true → G p
   unfolding raw_stands raw_in
   at_hash p low le e =
       let lt : p < M = ⊎_elim (λ l. l)
       (λ g. let is : M ≡ p = omega (arith, g, le) in
-      absurd (both_ways (is_byte (slice_get T M) 35) (rw E.byte no_hash) (rw is e))) (cases_lt p M) in
-      good_halt p low lt (no_backslash T p (byte_other (slice_get T p) 35 92 refl e)) (hash_goes (slice_get T p) e).0
+      absurd (both_ways (is_byte (slice_get T M) number_sign) (rw E.byte no_hash) (rw is e))) (cases_lt p M) in
+      good_halt p low lt (no_backslash T p (byte_other (slice_get T p) number_sign backslash refl e))
+      (hash_goes (slice_get T p) e).0
 
   same_take : (n : ℕ) (A B : List ℕ) → ((i : ℕ) → i < n → slice_get A i ≡ slice_get B i) → take n A ≡ take n B
   same_take zero A B same = refl
@@ -329,19 +333,20 @@ module _ {edition : Edition} {T U : List ℕ} {a M : ℕ} {to : ℕ → ℕ} {li
 
   -- a bracket that may close arithmetic is not at the limit
   abbrev pub NoBracket : Mode → Type 0
-  NoBracket Arith = (limit == 41) ≡ false
+  NoBracket Arith = (limit == right_parenthesis) ≡ false
   NoBracket _ = Unit {0}
 
   dollar_by_same : (q : ℕ) (x : Option ℕ) → G q → byte_at T q ≡ x → dollar_by U (to q) x ≡ dollar_by T q x
   dollar_by_same q None s is = refl
   dollar_by_same q (Some b) s is =
-      same_if (b == 36) _ _ _ _ (λ e. refl)
-      (λ e. same_if (b == 40) _ _ _ _ (λ f. rw (same_next q b 40 40 s is f refl E.ender.no_open) refl) (λ f. refl))
+      same_if (b == dollar_sign) _ _ _ _ (λ e. refl)
+      (λ e. same_if (b == left_parenthesis) _ _ _ _
+      (λ f. rw (same_next q b left_parenthesis left_parenthesis s is f refl E.ender.no_open) refl) (λ f. refl))
 
-  dollar_same : (p b : ℕ) → G p → byte_at T p ≡ Some b → (b == 36) ≡ true → dollar_at U (to p) ≡ dollar_at T p
+  dollar_same : (p b : ℕ) → G p → byte_at T p ≡ Some b → (b == dollar_sign) ≡ true → dollar_at U (to p) ≡ dollar_at T p
   unfolding dollar_at
   dollar_same p b s is e =
-      let next = next_byte p b 36 s is e refl (ender limit 36 E.ender.ends_it refl) in
+      let next = next_byte p b dollar_sign s is e refl (ender limit dollar_sign E.ender.ends_it refl) in
       rw (same_after E s, same_byte E next) (dollar_by_same (past_byte T p) (byte_at T (past_byte T p)) next refl)
 
   byte_same : (mode : Mode) (p n b : ℕ) → NoBracket mode → G p → byte_at T p ≡ Some b →
@@ -351,13 +356,14 @@ module _ {edition : Edition} {T U : List ℕ} {a M : ℕ} {to : ℕ → ℕ} {li
   byte_same Brace p n b other s is = refl
   byte_same DoubleBrace p n b other s is = refl
   byte_same Arith p n b other s is =
-      same_if (b == 41) _ _ _ _ (λ e. rw (same_next p b 41 41 s is e refl other) refl) (λ e. refl)
+      same_if (b == right_parenthesis) _ _ _ _
+      (λ e. rw (same_next p b right_parenthesis right_parenthesis s is e refl other) refl) (λ e. refl)
 
   piece_same : (mode : Mode) (p n : ℕ) (x : Option ℕ) → NoBracket mode → G p → byte_at T p ≡ x →
       piece_by U (to p) mode n x ≡ piece_by T p mode n x
   piece_same mode p n None free s is = refl
   piece_same mode p n (Some b) free s is =
-      same_if (b == 92) _ _ _ _
+      same_if (b == backslash) _ _ _ _
       (λ e. let clear = not_backslash limit E.ender in let other : (b == limit) ≡ false = grind (arith, nat_tests) in
       rw (
         same_after E s,
@@ -365,8 +371,8 @@ module _ {edition : Edition} {T U : List ℕ} {a M : ℕ} {to : ℕ → ℕ} {li
             (escape_in p b s is other),
       )
       refl)
-      (λ e. same_if (b == 96) _ _ _ _ (λ f. refl)
-      (λ f. same_if (b == 36) _ _ _ _ (λ g. dollar_same p b s is g) (λ g. byte_same mode p n b free s is)))
+      (λ e. same_if (b == grave_accent) _ _ _ _ (λ f. refl)
+      (λ f. same_if (b == dollar_sign) _ _ _ _ (λ g. dollar_same p b s is g) (λ g. byte_same mode p n b free s is)))
 
   pub same_piece : (mode : Mode) (n p : ℕ) → NoBracket mode → G p → piece_at U mode n (to p) ≡ piece_at T mode n p
   unfolding piece_at
@@ -374,14 +380,14 @@ module _ {edition : Edition} {T U : List ℕ} {a M : ℕ} {to : ℕ → ℕ} {li
 
   pub same_mode : (mode : Mode) (p : ℕ) → G p → rest_mode U mode (to p) ≡ rest_mode T mode p
   unfolding rest_mode
-  same_mode mode p s = rw (same_stands E s 35, same_stands E s 37) refl
+  same_mode mode p s = rw (same_stands E s number_sign, same_stands E s percent_sign) refl
 
   -- ---- the moves that are left
 
   pub moves_joined : (p : ℕ) → Moves past_continuations p
   moves_joined p = (place_low T p, λ low s. let g = safe_place (K E) p low s in (g, same_place E g))
 
-  by_taken : (p n : ℕ) (b : Bool) → raw_stands T p 92 ≡ b → a ≤ p → G (p + cond b 2 1) → G p
+  by_taken : (p n : ℕ) (b : Bool) → raw_stands T p backslash ≡ b → a ≤ p → G (p + cond b 2 1) → G p
       × (to p + cond b 2 1 ≡ to (p + cond b 2 1))
   by_taken p n true e low s = (moves_two p e).1 low s
   by_taken p n false e low s = (moves_one p e).1 low s
@@ -391,17 +397,18 @@ module _ {edition : Edition} {T U : List ℕ} {a M : ℕ} {to : ℕ → ℕ} {li
   moves_taken p = (
     omega arith,
     λ low s.
-        let w = by_taken p 0 (raw_stands T p 92) refl low s in
-        (w.0, rw (same_raw_stands p 92 low (high w.0)) w.1),
+        let w = by_taken p 0 (raw_stands T p backslash) refl low s in
+        (w.0, rw (same_raw_stands p backslash low (high w.0)) w.1),
   )
 
   pub moves_quote : (p : ℕ) → Moves next_quote p
   unfolding raw_in raw_stands
   moves_quote p = (
-    next_of_low 39 T p,
+    next_of_low apostrophe T p,
     λ low s.
-        found_good (λ x. not (x == 39)) p p low (omega arith)
-        (quote_other (slice_get T (next_of 39 T p)) 10 refl (raw_past_stops (λ x. not (x == 39)) T p)) s,
+        found_good (λ x. not (x == apostrophe)) p p low (omega arith)
+        (quote_other (slice_get T (next_of apostrophe T p)) newline_char refl
+        (raw_past_stops (λ x. not (x == apostrophe)) T p)) s,
   )
 
   pub moves_escaped : (how : Escaping) (p : ℕ) → Moves (next_escaped how) p
@@ -409,23 +416,23 @@ module _ {edition : Edition} {T U : List ℕ} {a M : ℕ} {to : ℕ → ℕ} {li
   moves_escaped how p = (
     next_escaped_low how T p,
     λ low s.
-        found_good (λ x. not (x == closes_by how || x == 92)) p p low (omega arith)
+        found_good (λ x. not (x == closes_by how || x == backslash)) p p low (omega arith)
         (escaped_other how (slice_get T (next_escaped how T p))
-        (raw_past_stops (λ x. not (x == closes_by how || x == 92)) T p)) s,
+        (raw_past_stops (λ x. not (x == closes_by how || x == backslash)) T p)) s,
   )
 
   pub moves_comment : (p : ℕ) → Moves past_comment p
   unfolding past_comment
   moves_comment p = (
-    comment_far (raw_stands T p 35),
+    comment_far (raw_stands T p number_sign),
     λ low s.
         ⊎_elim
-        (λ (e : raw_stands T p 35 ≡ true). let t : G (next_newline T p) = rw e at s in
+        (λ (e : raw_stands T p number_sign ≡ true). let t : G (next_newline T p) = rw e at s in
         let le : p ≤ M = omega (arith, next_newline_low T p, high t) in
         let g : G p = at_hash p low le e in
-        (g, rw (same_raw_stands p 35 low le, e) (same_newline p low (high t))))
-        (λ (e : raw_stands T p 35 ≡ false). let g : G p = rw e at s in
-        (g, rw (same_raw_stands p 35 low (high g), e) refl)) (cases_Bool (raw_stands T p 35)),
+        (g, rw (same_raw_stands p number_sign low le, e) (same_newline p low (high t))))
+        (λ (e : raw_stands T p number_sign ≡ false). let g : G p = rw e at s in
+        (g, rw (same_raw_stands p number_sign low (high g), e) refl)) (cases_Bool (raw_stands T p number_sign)),
   )
     where
       comment_far : (b : Bool) → p ≤ cond b (next_newline T p) p
@@ -439,10 +446,11 @@ module _ {edition : Edition} {T U : List ℕ} {a M : ℕ} {to : ℕ → ℕ} {li
 
   pub same_last_backslash : (p : ℕ) → a ≤ p → G p → is_last_backslash U (to p) ≡ is_last_backslash T p
   same_last_backslash p low s =
-      rw (same_raw_stands p 92 low (high s)) (same_and (raw_stands T p 92) _ _ (λ e. same_taken p e low s))
+      rw (same_raw_stands p backslash low (high s))
+      (same_and (raw_stands T p backslash) _ _ (λ e. same_taken p e low s))
 
   -- where a comment ends
-  pub comment_end : (p : ℕ) → G p → raw_stands T p 35 ≡ true → next_newline T p ≤ M
+  pub comment_end : (p : ℕ) → G p → raw_stands T p number_sign ≡ true → next_newline T p ≤ M
       → (before_blanks U (next_newline U (to p)) ≡ to (before_blanks T (next_newline T p)))
       × (p ≤ before_blanks T (next_newline T p))
   unfolding raw_in raw_stands
@@ -450,22 +458,22 @@ module _ {edition : Edition} {T U : List ℕ} {a M : ℕ} {to : ℕ → ℕ} {li
       let low = low_of s in
       let bytes = hash_goes (slice_get T p) e in
       let q = next_newline T p in
-      let more : q ≡ next_newline T (p + 1) = raw_more (λ b. not (b == 10)) T p bytes.2 in
+      let more : q ≡ next_newline T (p + 1) = raw_more (λ b. not (b == newline_char)) T p bytes.2 in
       let lt : p < q = omega (arith, more, next_newline_low T (p + 1)) in
       let w = before_there q p q (omega arith) low lt near bytes.1 in
       (rw (same_newline p low near) w.0, w.1)
 
   pub same_comment : (o o2 : ℕ) → ((p q : ℕ) → a ≤ p → a ≤ q → span o2 (to p) (to q) ≡ span o p q) → (p : ℕ) → G p →
-      (raw_stands T p 35 ≡ true → next_newline T p ≤ M) → comment_at U o2 (to p) ≡ comment_at T o p
+      (raw_stands T p number_sign ≡ true → next_newline T p ≤ M) → comment_at U o2 (to p) ≡ comment_at T o p
   unfolding comment_at
   same_comment o o2 spans p s near =
       let low = low_of s in
       ⊎_elim
-      (λ (e : raw_stands T p 35 ≡ true). let w = comment_end p s e (near e) in
-      rw (same_raw_stands p 35 low (high s), e, w.0)
+      (λ (e : raw_stands T p number_sign ≡ true). let w = comment_end p s e (near e) in
+      rw (same_raw_stands p number_sign low (high s), e, w.0)
       (ap Some (spans p (before_blanks T (next_newline T p)) low (omega (arith, low, w.1)))))
-      (λ (e : raw_stands T p 35 ≡ false). rw (same_raw_stands p 35 low (high s), e) refl)
-      (cases_Bool (raw_stands T p 35))
+      (λ (e : raw_stands T p number_sign ≡ false). rw (same_raw_stands p number_sign low (high s), e) refl)
+      (cases_Bool (raw_stands T p number_sign))
 
   -- ---- all moves
 

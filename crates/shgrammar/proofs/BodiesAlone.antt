@@ -4,6 +4,7 @@ use Rattle.std.proofs.Common.{◌≡◌, ℕ, zero, suc, ◌+◌, ◌-◌, ◌==
 use Rattle.std.specs.Prelude.{◌&&◌, min, Result}
 use Rattle.std.proofs.lemmas.List.{length-append, length-drop, drop-drop, take-append-le, drop-append-le}
 use Rattle.shgrammar.specs.Standing.{at_end, is_none, count_front, raw_past}
+use Rattle.shgrammar.specs.Characters.{newline_char}
 use Rattle.shast.specs.declared.tree.Span.{Span}
 use Rattle.shgrammar.specs.declared.fault.Fault.{Fault}
 use Rattle.shgrammar.specs.Comments.{span}
@@ -15,7 +16,7 @@ use Rattle.shgrammar.proofs.Delimiters.{between, bodies_go, past_line_high}
 use Rattle.shgrammar.specs.declared.edition.Edition.{Edition}
 
 abbrev pub is_text : ℕ → Bool
-is_text b = not (b == 10)
+is_text b = not (b == newline_char)
 
 -- the bytes of the first line, and where the next one begins
 abbrev pub width : List ℕ → ℕ
@@ -31,7 +32,7 @@ past_front X = min (width X + 1) (length X)
 
 unfoldable pub closed : List ℕ → Bool
 closed [] = true
-closed (b ∷ []) = b == 10
+closed (b ∷ []) = b == newline_char
 closed (b ∷ c ∷ bs) = closed (c ∷ bs)
 
 pub closed_drop : (n : ℕ) (L : List ℕ) → closed L ≡ true → closed (drop n L) ≡ true
@@ -45,7 +46,8 @@ closed_drop (suc n) (b ∷ c ∷ bs) so = closed_drop n (c ∷ bs) so
 abbrev pub Ends : List ℕ → List ℕ → Type 0
 Ends L Y = (width (L ++ Y) ≡ width L) × (width L < length L)
 
-ends_by : (b : ℕ) (L Y : List ℕ) → ((b == 10) ≡ false → Ends L Y) → (t : Bool) → (b == 10) ≡ t → Ends (b ∷ L) Y
+ends_by : (b : ℕ) (L Y : List ℕ) → ((b == newline_char) ≡ false → Ends L Y) → (t : Bool) →
+    (b == newline_char) ≡ t → Ends (b ∷ L) Y
 unfolding count_front
 ends_by b L Y more true is = (rw is refl, rw is (omega arith))
 ends_by b L Y more false is =
@@ -54,8 +56,8 @@ ends_by b L Y more false is =
 
 pub ends : (b : ℕ) (bs Y : List ℕ) → closed (b ∷ bs) ≡ true → Ends (b ∷ bs) Y
 unfolding closed
-ends b [] Y so = ends_by b [] Y (λ other. absurd (cc)) (b == 10) refl
-ends b (c ∷ bs) Y so = ends_by b (c ∷ bs) Y (λ other. ends c bs Y so) (b == 10) refl
+ends b [] Y so = ends_by b [] Y (λ other. absurd (cc)) (b == newline_char) refl
+ends b (c ∷ bs) Y so = ends_by b (c ∷ bs) Y (λ other. ends c bs Y so) (b == newline_char) refl
 
 module _ (w : Waiting) where
   -- the first line, or what is found after it

@@ -11,6 +11,7 @@ use Rattle.shgrammar.specs.declared.mode.Mode.{Mode}
 use Rattle.shgrammar.specs.Classes.{is_letter, is_digit, is_name, is_special}
 use Rattle.shgrammar.specs.Standing.{is_byte, is_none, at_end, raw_stands}
 use Rattle.shgrammar.specs.Bytes.{past, past_continuations, byte_at, past_byte, stands_in}
+use Rattle.shgrammar.specs.Characters.{backslash, number_sign, percent_sign, apostrophe}
 use Rattle.shgrammar.specs.Pieces.{past_taken, next_quote, is_last_backslash, past_parameter, rest_mode, closes_by, next_escaped}
 use Rattle.shgrammar.specs.Sights.{Given, given, State}
 use Rattle.shgrammar.specs.Form.{Read, Form, Step, again, done, step_if, loop, many, leads_on, turns, does}
@@ -27,17 +28,17 @@ use Rattle.shgrammar.proofs.NoFurther.{less_same}
 use Rattle.shgrammar.proofs.OneOutcome.{is}
 use Rattle.shgrammar.specs.declared.edition.Edition.{Edition}
 
-taken_one : (T : List ℕ) (q : ℕ) → raw_stands T q 92 ≡ false → past_taken T q ≡ q + 1
+taken_one : (T : List ℕ) (q : ℕ) → raw_stands T q backslash ≡ false → past_taken T q ≡ q + 1
 unfolding past_taken
 taken_one T q e = rw e refl
 
-pub taken_two : (T : List ℕ) (q : ℕ) → raw_stands T q 92 ≡ true → past_taken T q ≡ q + 2
+pub taken_two : (T : List ℕ) (q : ℕ) → raw_stands T q backslash ≡ true → past_taken T q ≡ q + 2
 unfolding past_taken
 taken_two T q e = rw e refl
 
 taken_low : (T : List ℕ) (q : ℕ) → q < past_taken T q
 taken_low T q = ⊎_elim (λ e. omega (arith, taken_two T q e)) (λ e. omega (arith, taken_one T q e))
-    (cases_Bool (raw_stands T q 92))
+    (cases_Bool (raw_stands T q backslash))
 
 module _ {edition : Edition} {T U : List ℕ} {a L : ℕ} {to : ℕ → ℕ} (K : Kept edition T U a L to) where
   -- a byte before the limit is read at p
@@ -46,9 +47,9 @@ module _ {edition : Edition} {T U : List ℕ} {a L : ℕ} {to : ℕ → ℕ} (K 
 
   -- the byte that is read at p is no backslash
   abbrev pub Clear : ℕ → Type 0
-  Clear p = is_byte (byte_at T p) 92 ≡ false
+  Clear p = is_byte (byte_at T p) backslash ≡ false
 
-  raw_clear : (p : ℕ) → Clear p → raw_stands T (past_continuations T p) 92 ≡ true → ⊥
+  raw_clear : (p : ℕ) → Clear p → raw_stands T (past_continuations T p) backslash ≡ true → ⊥
   unfolding raw_stands
   raw_clear p e f = both_ways _ e f
 
@@ -70,9 +71,9 @@ module _ {edition : Edition} {T U : List ℕ} {a L : ℕ} {to : ℕ → ℕ} (K 
   pub same_taken : (q : ℕ) → a ≤ q → q < L → past_taken U (to q) ≡ to (past_taken T q)
   unfolding past_taken
   same_taken q from lt =
-      ⊎_elim (λ (e : raw_stands T q 92 ≡ true). rw (raw_same K q 92 from lt, e) (sym (K.on q 2 from)))
-      (λ (e : raw_stands T q 92 ≡ false). rw (raw_same K q 92 from lt, e) (sym (K.on q 1 from)))
-      (cases_Bool (raw_stands T q 92))
+      ⊎_elim (λ (e : raw_stands T q backslash ≡ true). rw (raw_same K q backslash from lt, e) (sym (K.on q 2 from)))
+      (λ (e : raw_stands T q backslash ≡ false). rw (raw_same K q backslash from lt, e) (sym (K.on q 1 from)))
+      (cases_Bool (raw_stands T q backslash))
 
   pub same_end : (q : ℕ) → a ≤ q → q < L → at_end U (to q) ≡ at_end T q
   unfolding at_end
@@ -81,11 +82,18 @@ module _ {edition : Edition} {T U : List ℕ} {a L : ℕ} {to : ℕ → ℕ} (K 
   same_last : (q : ℕ) → a ≤ q → past_taken T q ≤ L → is_last_backslash T q ≡ false → is_last_backslash U (to q) ≡ false
   same_last q from le e =
       ⊎_elim
-      (λ (f : raw_stands T q 92 ≡ true). let lt : q + 1 < L = omega (arith, le, taken_two T q f) in
-      rw (raw_same K q 92 from (omega (arith, lt)), f, sym (K.on q 1 from), same_end (q + 1) (omega (arith, from)) lt)
+      (λ (f : raw_stands T q backslash ≡ true). let lt : q + 1 < L = omega (arith, le, taken_two T q f) in
+      rw (
+        raw_same K q backslash from (omega (arith, lt)),
+        f,
+        sym (K.on q 1 from),
+        same_end (q + 1)
+            (omega (arith, from)) lt,
+      )
       (rw f at e))
-      (λ (f : raw_stands T q 92 ≡ false). rw (raw_same K q 92 from (omega (arith, le, taken_low T q)), f) refl)
-      (cases_Bool (raw_stands T q 92))
+      (λ (f : raw_stands T q backslash ≡ false). rw (raw_same K q backslash from (omega (arith, le, taken_low T q)), f)
+      refl)
+      (cases_Bool (raw_stands T q backslash))
 
   -- ---- parameters
 
@@ -138,7 +146,7 @@ module _ {edition : Edition} {T U : List ℕ} {a L : ℕ} {to : ℕ → ℕ} (K 
 
   pub rest_in : (mode : Mode) (p : ℕ) → In p → rest_mode U mode (to p) ≡ rest_mode T mode p
   unfolding rest_mode
-  rest_in mode p i = rw (here_stands K i 35, here_stands K i 37) refl
+  rest_in mode p i = rw (here_stands K i number_sign, here_stands K i percent_sign) refl
 
 module _ {edition : Edition} {T U : List ℕ} {a L : ℕ} {to : ℕ → ℕ} (K : Kept edition T U a L to) (o o2 : ℕ) where
   abbrev pub g : Given
@@ -267,11 +275,11 @@ module _ {edition : Edition} {T U : List ℕ} {a L : ℕ} {to : ℕ → ℕ} (K 
       found : at_end T q ≡ false → (past_taken T q ≤ L) → (In K) s.at
           × ((y : Unit {0}) × (does single Whole h (there s) ≡ Ok (y, there (at (past_taken T q) s))))
       found f le =
-          let onward = next_of_low 39 T (past_byte T s.at) in
+          let onward = next_of_low apostrophe T (past_byte T s.at) in
           let q_in : q < L = omega (arith, le, taken_low T q) in
           let i = clear K s.at from (omega (arith, onward, q_in, behind_is T s.at)) e in
           let low_q : a ≤ past_byte T s.at = omega (arith, from, after_low T s.at) in
-          let found = raw_there K (λ b. not (b == 39)) (past_byte T s.at) low_q q_in in (
+          let found = raw_there K (λ b. not (b == apostrophe)) (past_byte T s.at) low_q q_in in (
             i,
             (
               tt,
@@ -328,7 +336,7 @@ module _ {edition : Edition} {T U : List ℕ} {a L : ℕ} {to : ℕ → ℕ} (K 
                 step_if (not x) tt,
                 (
                   rw (
-                    raw_there K (λ b. not (b == closes_by how || b == 92)) s.at from lt,
+                    raw_there K (λ b. not (b == closes_by how || b == backslash)) s.at from lt,
                     same_end K q low_q lt,
                     e,
                     same_last K q low_q le f,

@@ -3,6 +3,7 @@
 use Rattle.std.proofs.Common.{◌≡◌, ℕ, ◌≤◌, Bool, true, false, ◌||◌, Ok, Err, List, List as Row, [], ◌∷◌, ◌++◌, drop, map, option_map, Option, Some, None, is_some, refl, sym, ap, subst, ◌∙◌, arith}
 use Rattle.std.proofs.lemmas.List.{map-append}
 use Rattle.shgrammar.specs.declared.keep.Keep.TheVariants.{Whole}
+use Rattle.shgrammar.specs.Characters.{number_sign}
 use Rattle.shgrammar.specs.declared.token.Next.{Next}
 use Rattle.shgrammar.specs.declared.token.Position.{Position}
 use Rattle.shgrammar.specs.declared.token.Position.TheVariants.{Command}
@@ -208,7 +209,8 @@ module _ {edition : Edition} {T U : List ℕ} {a M : ℕ} {to : ℕ → ℕ} {li
     FoundThere x t = Found E o o2 B B2 stands stands_there (SameRemark B B2) (a_comment n) s x t
 
     -- where no comment is told no `#` stands
-    no_comment : (b : Bool) → raw_stands T p 35 ≡ b → comment_at T o p ≡ None → raw_stands T p 35 ≡ false
+    no_comment : (b : Bool) → raw_stands T p number_sign ≡ b → comment_at T o p ≡ None →
+        raw_stands T p number_sign ≡ false
     unfolding comment_at
     no_comment true e is = absurd
         (let no : ◌≡◌ {A = Option Span} (Some (span o p (before_blanks T (next_newline T p)))) None = rw e at is in cc)
@@ -216,12 +218,12 @@ module _ {edition : Edition} {T U : List ℕ} {a M : ℕ} {to : ℕ → ℕ} {li
 
     none_there : comment_at T o p ≡ None → FoundThere (None, n) s
     unfolding a_comment comment_at
-    none_there is = λ e. let none = no_comment (raw_stands T p 35) refl is in
-        ((None, n), (rw (same_raw_stands E p 35 from (high E e), none) refl, (refl, refl)))
+    none_there is = λ e. let none = no_comment (raw_stands T p number_sign) refl is in
+        ((None, n), (rw (same_raw_stands E p number_sign from (high E e), none) refl, (refl, refl)))
 
     -- where one is told a `#` stands, and it goes to the end of the line but for blanks
-    hash_there : (b : Bool) → raw_stands T p 35 ≡ b → (c : Span) → comment_at T o p ≡ Some c →
-        (raw_stands T p 35 ≡ true) × (span o p (before_blanks T (next_newline T p)) ≡ c)
+    hash_there : (b : Bool) → raw_stands T p number_sign ≡ b → (c : Span) → comment_at T o p ≡ Some c →
+        (raw_stands T p number_sign ≡ true) × (span o p (before_blanks T (next_newline T p)) ≡ c)
     unfolding comment_at
     hash_there true e c is = (
       e,
@@ -231,12 +233,12 @@ module _ {edition : Edition} {T U : List ℕ} {a M : ℕ} {to : ℕ → ℕ} {li
     hash_there false e c is = absurd (let no : ◌≡◌ {A = Option Span} None (Some c) = rw e at is in cc)
 
     -- it ends where the line does
-    past_is : raw_stands T p 35 ≡ true → past_comment T p ≡ next_newline T p
+    past_is : raw_stands T p number_sign ≡ true → past_comment T p ≡ next_newline T p
     unfolding past_comment
     past_is e = rw e refl
 
     -- where a `#` stands there, a comment is told there
-    comment_is : raw_stands U (to p) 35 ≡ true →
+    comment_is : raw_stands U (to p) number_sign ≡ true →
         comment_at U o2 (to p) ≡ Some (span o2 (to p) (before_blanks U (next_newline U (to p))))
     unfolding comment_at
     comment_is e = rw e refl
@@ -246,8 +248,8 @@ module _ {edition : Edition} {T U : List ℕ} {a M : ℕ} {to : ℕ → ℕ} {li
       on = record { at = past_comment T p; waiting = s.waiting; bodies = s.bodies }
 
       -- so of this comment
-      hash : (raw_stands T p 35 ≡ true) × (span o p (before_blanks T (next_newline T p)) ≡ c)
-      hash = hash_there (raw_stands T p 35) refl c is
+      hash : (raw_stands T p number_sign ≡ true) × (span o p (before_blanks T (next_newline T p)) ≡ c)
+      hash = hash_there (raw_stands T p number_sign) refl c is
 
       -- and it has the same text there
       some_there : (x : Read (Option Span × Next)) → does (comment_by n (Some c)) Whole g s ≡ x →
@@ -263,7 +265,7 @@ module _ {edition : Edition} {T U : List ℕ} {a M : ℕ} {to : ℕ → ℕ} {li
           ∙ same_texts E o o2 B B2 stands stands_there p (before_blanks T (next_newline T p)) from
           (omega (arith, from, w.1)) (blanks_near (next_newline T p) near)
           ∙ ap (λ (q : ℕ). text_at B2 (span o2 (to p) q)) (sym w.0) in
-          let there = comment_is (same_raw_stands E p 35 from (high E here) ∙ hash.0) in
+          let there = comment_is (same_raw_stands E p number_sign from (high E here) ∙ hash.0) in
           let m = subst (Holds (Found E o o2 B B2 stands stands_there (SameRemark B B2) (comment_by n (Some d)) s)) at
           ((comment_after n c d text).go s from) e in (
             m.0,

@@ -12,6 +12,7 @@ use Rattle.shgrammar.specs.declared.mode.Piece.{Piece}
 use Rattle.shgrammar.specs.declared.mode.Piece.TheVariants as pieces
 use Rattle.shgrammar.specs.Standing.{is_byte, at_end, raw_stands}
 use Rattle.shgrammar.specs.Bytes.{ends, past_continuations, byte_at, past_byte, stands}
+use Rattle.shgrammar.specs.Characters.{backslash, grave_accent, dollar_sign, left_parenthesis, left_brace, apostrophe, number_sign, percent_sign, right_parenthesis, quotation_mark, right_brace}
 use Rattle.shgrammar.specs.Pieces.{dollar_by, dollar_at, bracket_by, byte_by, piece_by, piece_at, past_taken, past_closer, past_parameter, braces_in, rest_mode, piece_in, quotes_singly}
 use Rattle.shast.specs.Shape.{shape_of_subst}
 use Rattle.shast.specs.Tree.{ASubst}
@@ -110,7 +111,7 @@ module _ {edition : Edition} {T U : List ℕ} {a L : ℕ} {to : ℕ → ℕ} (K 
 
   -- by a byte that is no backslash, no backquote and no `$`
   abbrev Other : ℕ → Type 0
-  Other b = ((b == 92) ≡ false) × (((b == 96) ≡ false) × ((b == 36) ≡ false))
+  Other b = ((b == backslash) ≡ false) × (((b == grave_accent) ≡ false) × ((b == dollar_sign) ≡ false))
 
   other_piece : (mode : Mode) (n p b : ℕ) → byte_at T p ≡ Some b → Other b → Inside p →
       piece_in edition mode (piece_at U mode n (to p)) ≡ piece_in edition mode (byte_by U (to p) mode n b)
@@ -118,8 +119,9 @@ module _ {edition : Edition} {T U : List ℕ} {a L : ℕ} {to : ℕ → ℕ} (K 
   other_piece mode n p b is e i = rw (here_byte K i, is, e.0, e.1.0, e.1.1) refl
 
   -- by a `$`
-  dollar_piece : (mode : Mode) (n p b : ℕ) → byte_at T p ≡ Some b → (b == 92) ≡ false → (b == 96) ≡ false →
-      (b == 36) ≡ true → Inside p
+  dollar_piece : (mode : Mode) (n p b : ℕ) → byte_at T p ≡ Some b → (b == backslash) ≡ false →
+      (b == grave_accent) ≡ false →
+      (b == dollar_sign) ≡ true → Inside p
       → piece_in edition mode (piece_at U mode n (to p))
       ≡ piece_in edition mode (dollar_by U (to (past_byte T p)) (byte_at U (to (past_byte T p))))
   unfolding piece_at dollar_at
@@ -127,23 +129,25 @@ module _ {edition : Edition} {T U : List ℕ} {a L : ℕ} {to : ℕ → ℕ} (K 
 
   -- before the limit, where the next byte is no `(`, unless it is one in the first text
   module _ (ender : ends (byte_at U (to L)) ≡ true)
-      (no_open : is_byte (byte_at T L) 40 ≡ false → is_byte (byte_at U (to L)) 40 ≡ false) where
+      (no_open : is_byte (byte_at T L) left_parenthesis ≡ false →
+      is_byte (byte_at U (to L)) left_parenthesis ≡ false) where
     -- a `$` before the limit begins nothing
-    limit_dollar : (q : ℕ) (x : Option ℕ) → ends x ≡ true → is_byte x 40 ≡ false → dollar_by U q x ≡ pieces.Ordinary
+    limit_dollar : (q : ℕ) (x : Option ℕ) → ends x ≡ true → is_byte x left_parenthesis ≡ false →
+        dollar_by U q x ≡ pieces.Ordinary
     limit_dollar q None e f = refl
     limit_dollar q (Some b) e f =
-        let one : (b == 36) ≡ false = grind (arith, nat_tests) in
-        let two : (b == 123) ≡ false = grind (arith, nat_tests) in
-        let three : (b == 39) ≡ false = grind (arith, nat_tests) in
+        let one : (b == dollar_sign) ≡ false = grind (arith, nat_tests) in
+        let two : (b == left_brace) ≡ false = grind (arith, nat_tests) in
+        let three : (b == apostrophe) ≡ false = grind (arith, nat_tests) in
         rw (one, f, two, three) refl
 
     -- a word ends at the limit
     limit_piece : (x : Option ℕ) (n : ℕ) → ends x ≡ true → piece_by U (to L) Plain n x ≡ pieces.Closer
     limit_piece None n e = refl
     limit_piece (Some b) n e =
-        let one : (b == 92) ≡ false = grind (arith, nat_tests) in
-        let two : (b == 96) ≡ false = grind (arith, nat_tests) in
-        let three : (b == 36) ≡ false = grind (arith, nat_tests) in
+        let one : (b == backslash) ≡ false = grind (arith, nat_tests) in
+        let two : (b == grave_accent) ≡ false = grind (arith, nat_tests) in
+        let three : (b == dollar_sign) ≡ false = grind (arith, nat_tests) in
         rw (one, two, three, e) refl
 
     module _ (inner : Inner) (local : Local inner) (mode : Mode) (b b2 : ℕ) (c : WordSoFar) (s : State)
@@ -195,7 +199,7 @@ module _ {edition : Edition} {T U : List ℕ} {a L : ℕ} {to : ℕ → ℕ} (K 
       leads_byte lt = lt-ltb _ _ (omega (arith, lt, behind_is T p, place_low T p))
 
       -- one byte
-      one_byte_row : (is_byte (byte_at T p) 92 ≡ false) → past_continuations T p < length T →
+      one_byte_row : (is_byte (byte_at T p) backslash ≡ false) → past_continuations T p < length T →
           (w : WordSoFar → WordSoFar) → ((d : WordSoFar) → Agree c d → Agree (w c) (w d)) → (x : Piece) →
           (Inside p → From mode q → Told x)
           → ((d : WordSoFar) → does (piece_row inner mode b2 d x) Whole h (over s)
@@ -208,26 +212,26 @@ module _ {edition : Edition} {T U : List ℕ} {a L : ℕ} {to : ℕ → ℕ} (K 
                 (again (w d), (row d ∙ rw (here_after K i) refl, same d so)),
           )
 
-      ordinary : is_byte (byte_at T p) 92 ≡ false → past_continuations T p < length T →
+      ordinary : is_byte (byte_at T p) backslash ≡ false → past_continuations T p < length T →
           (Inside p → From mode q → Told pieces.Ordinary) → Again pieces.Ordinary
       ordinary e lt told = one_byte_row e lt (λ d. d) (λ d so. so) pieces.Ordinary told (λ d. refl)
 
-      opening : is_byte (byte_at T p) 92 ≡ false → past_continuations T p < length T →
+      opening : is_byte (byte_at T p) backslash ≡ false → past_continuations T p < length T →
           (Inside p → From mode q → Told pieces.Open) → Again pieces.Open
       opening e lt told = one_byte_row e lt (λ d. having (d.nested + 1) d.substs)
           (λ d so. (ap (λ m. m + 1) so.0, so.1)) pieces.Open told (λ d. refl)
 
-      closing : is_byte (byte_at T p) 92 ≡ false → past_continuations T p < length T →
+      closing : is_byte (byte_at T p) backslash ≡ false → past_continuations T p < length T →
           (Inside p → From mode q → Told pieces.Close) → Again pieces.Close
       closing e lt told = one_byte_row e lt (λ d. having (d.nested - 1) d.substs)
           (λ d so. (ap (λ m. m - 1) so.0, so.1)) pieces.Close told (λ d. refl)
 
       -- a backslash and what it takes
-      escape : (v : ℕ) → byte_at T p ≡ Some v → (v == 92) ≡ true → at_end T q ≡ false → Again pieces.Escape
+      escape : (v : ℕ) → byte_at T p ≡ Some v → (v == backslash) ≡ true → at_end T q ≡ false → Again pieces.Escape
       unfolding raw_stands piece_at
       escape v is e some goal =
-          let here_is : raw_stands T (past_continuations T p) 92 ≡ true =
-          raw_is_byte T (past_continuations T p) v 92 is e in
+          let here_is : raw_stands T (past_continuations T p) backslash ≡ true =
+          raw_is_byte T (past_continuations T p) v backslash is e in
           let le : past_continuations T p + 2 ≤ L =
           omega (arith, goal.0, taken_two T (past_continuations T p) here_is) in
           let i = here K p from (omega (arith, le)) (λ f. omega (arith, le)) in
@@ -242,7 +246,8 @@ module _ {edition : Edition} {T U : List ℕ} {a L : ℕ} {to : ℕ → ℕ} (K 
           raw_is_byte : (V : List ℕ) (r v x : ℕ) → slice_get V r ≡ Some v → (v == x) ≡ true → raw_stands V r x ≡ true
           raw_is_byte V r v x is e = rw (is, e) refl
 
-          escape_told : (v : ℕ) → byte_at T p ≡ Some v → (v == 92) ≡ true → Inside p → at_end T q ≡ false → q < L →
+          escape_told : (v : ℕ) → byte_at T p ≡ Some v → (v == backslash) ≡ true → Inside p → at_end T q ≡ false →
+              q < L →
               Told pieces.Escape
           escape_told v is e i some lt = rw (here_byte K i, is, e, here_after K i, same_end K q q_low lt, some) refl
 
@@ -259,13 +264,13 @@ module _ {edition : Edition} {T U : List ℕ} {a L : ℕ} {to : ℕ → ℕ} (K 
                 (again d, (row d ∙ rw w.1.1 refl, so)),
           ))
 
-      quoted : is_byte (byte_at T p) 92 ≡ false → (Inside p → Told pieces.Single) → Again pieces.Single
+      quoted : is_byte (byte_at T p) backslash ≡ false → (Inside p → Told pieces.Single) → Again pieces.Single
       quoted e told = text_row pieces.Single single (quote_in K o o2 s from e) told (λ d. refl)
 
-      backquote : is_byte (byte_at T p) 92 ≡ false → (Inside p → Told pieces.Backquote) → Again pieces.Backquote
+      backquote : is_byte (byte_at T p) backslash ≡ false → (Inside p → Told pieces.Backquote) → Again pieces.Backquote
       backquote e told = text_row pieces.Backquote backquoted_text (backquotes_in K o o2 s from e) told (λ d. refl)
 
-      dollar_quoted : is_byte (byte_at T p) 92 ≡ false → is_byte (byte_at T q) 92 ≡ false →
+      dollar_quoted : is_byte (byte_at T p) backslash ≡ false → is_byte (byte_at T q) backslash ≡ false →
           (Inside p → Inside q → Told pieces.DollarSingle) → Again pieces.DollarSingle
       dollar_quoted e e2 told =
           holds_then (Ends K o o2 dollar_single (λ r. Inside r × Inside (past_byte T r)) s) Turn
@@ -322,7 +327,8 @@ module _ {edition : Edition} {T U : List ℕ} {a L : ℕ} {to : ℕ → ℕ} (K 
 
       rest_closed : (r : ℕ) → Closed (rest_mode T mode r)
       unfolding rest_mode
-      rest_closed r = cond_both (stands T r 35 || stands T r 37) _ _ Closed (λ e. tt) (λ e. braces_closed mode)
+      rest_closed r = cond_both (stands T r number_sign || stands T r percent_sign) _ _ Closed (λ e. tt)
+          (λ e. braces_closed mode)
 
       parameter : (Inside p → Inside q → Told pieces.Param) → Again pieces.Param
       parameter told =
@@ -352,7 +358,7 @@ module _ {edition : Edition} {T U : List ℕ} {a L : ℕ} {to : ℕ → ℕ} (K 
                 (again (having d.nested v.0), (rw (here_after K j, here_after K k, v.1.0) refl, (so.0, v.1.1))),
           ))
 
-      twice : is_byte (byte_at T q) 92 ≡ false → (Inside p → Inside q → Told pieces.Pid) → Again pieces.Pid
+      twice : is_byte (byte_at T q) backslash ≡ false → (Inside p → Inside q → Told pieces.Pid) → Again pieces.Pid
       twice e told goal =
           let j = clear K q q_low (omega (arith, goal.0, behind_is T q)) e in
           let i = before K p from j in (
@@ -362,7 +368,7 @@ module _ {edition : Edition} {T U : List ℕ} {a L : ℕ} {to : ℕ → ℕ} (K 
           )
 
       -- what closes a construct
-      closer : ((V : List ℕ) (r : ℕ) → past_closer V mode r ≡ past_byte V r) → is_byte (byte_at T p) 92 ≡ false →
+      closer : ((V : List ℕ) (r : ℕ) → past_closer V mode r ≡ past_byte V r) → is_byte (byte_at T p) backslash ≡ false →
           (Inside p → Told pieces.Closer) → Again pieces.Closer
       closer one e told goal =
           let le = goal.0 in
@@ -373,7 +379,7 @@ module _ {edition : Edition} {T U : List ℕ} {a L : ℕ} {to : ℕ → ℕ} (K 
           )
 
       closer_two : ((V : List ℕ) (r : ℕ) → past_closer V mode r ≡ past_byte V (past_byte V r)) →
-          is_byte (byte_at T q) 92 ≡ false → (Inside p → Inside q → Told pieces.Closer) → Again pieces.Closer
+          is_byte (byte_at T q) backslash ≡ false → (Inside p → Inside q → Told pieces.Closer) → Again pieces.Closer
       closer_two two e told goal =
           let le = goal.0 in
           let j = clear K q q_low (omega (arith, le, two T p, behind_is T q)) e in
@@ -387,42 +393,43 @@ module _ {edition : Edition} {T U : List ℕ} {a L : ℕ} {to : ℕ → ℕ} (K 
       -- ---- by the byte
 
       -- a `$` that begins nothing
-      lone_dollar : is_byte (byte_at T q) 40 ≡ false → From mode q →
+      lone_dollar : is_byte (byte_at T q) left_parenthesis ≡ false → From mode q →
           (Inside q → piece_in edition mode (dollar_by U (to q) (byte_at U (to q))) ≡ pieces.Ordinary)
           → piece_in edition mode (dollar_by U (to q) (byte_at U (to q))) ≡ pieces.Ordinary
       lone_dollar none next inside =
           ⊎_elim inside
           (λ end. ap (piece_in edition mode)
           (limit_dollar (to q) (byte_at U (to q)) (subst (λ r. ends (byte_at U (to r)) ≡ true) (sym end.1) ender)
-          (subst (λ r. is_byte (byte_at U (to r)) 40 ≡ false) (sym end.1)
-          (no_open (subst (λ r. is_byte (byte_at T r) 40 ≡ false) end.1 none)))))
+          (subst (λ r. is_byte (byte_at U (to r)) left_parenthesis ≡ false) (sym end.1)
+          (no_open (subst (λ r. is_byte (byte_at T r) left_parenthesis ≡ false) end.1 none)))))
           next
 
       module _ (v : ℕ) (is : byte_at T p ≡ Some v) where
         lt : past_continuations T p < length T
         lt = slice_get_within T (past_continuations T p) v is
 
-        module _ (e : (v == 92) ≡ false) where
-          no_backslash : is_byte (byte_at T p) 92 ≡ false
+        module _ (e : (v == backslash) ≡ false) where
+          no_backslash : is_byte (byte_at T p) backslash ≡ false
           no_backslash = rw is e
 
-          dollar_row : (v == 96) ≡ false → (v == 36) ≡ true → (y : Option ℕ) → byte_at T q ≡ y → Known (dollar_by T q y)
+          dollar_row : (v == grave_accent) ≡ false → (v == dollar_sign) ≡ true → (y : Option ℕ) → byte_at T q ≡ y →
+              Known (dollar_by T q y)
           dollar_row f d None is2 = ordinary no_backslash lt
               (λ i next. dollar_piece mode n p v is e f d i
               ∙ lone_dollar (rw is2 refl) next (λ j. rw (here_byte K j, is2) refl))
           dollar_row f d (Some w) is2 =
-              cond_both (w == 36) _ _ Known
+              cond_both (w == dollar_sign) _ _ Known
               (λ m. twice (rw is2 (grind (arith, nat_tests)))
               (λ i j. dollar_piece mode n p v is e f d i ∙ rw (here_byte K j, is2, m) refl))
-              (λ m. cond_both (w == 40) _ _ Known
-              (λ k. cond_both (stands T (past_byte T q) 40) _ _ Known
+              (λ m. cond_both (w == left_parenthesis) _ _ Known
+              (λ k. cond_both (stands T (past_byte T q) left_parenthesis) _ _ Known
               (λ z. arithmetic (λ i j l. dollar_piece mode n p v is e f d i
-              ∙ rw (here_byte K j, is2, m, k, here_after K j, here_stands K l 40, z) refl))
+              ∙ rw (here_byte K j, is2, m, k, here_after K j, here_stands K l left_parenthesis, z) refl))
               (λ z. substitution (λ i j l. dollar_piece mode n p v is e f d i
-              ∙ rw (here_byte K j, is2, m, k, here_after K j, here_stands K l 40, z) refl)))
-              (λ k. cond_both (w == 123) _ _ Known
+              ∙ rw (here_byte K j, is2, m, k, here_after K j, here_stands K l left_parenthesis, z) refl)))
+              (λ k. cond_both (w == left_brace) _ _ Known
               (λ z. parameter (λ i j. dollar_piece mode n p v is e f d i ∙ rw (here_byte K j, is2, m, k, z) refl))
-              (λ z. cond_both (w == 39) _ _ Known
+              (λ z. cond_both (w == apostrophe) _ _ Known
               (λ x. cond_both (is_later edition && quotes_singly mode) _ _ Again
               (λ y. dollar_quoted no_backslash (rw is2 (grind (arith, nat_tests)))
               (λ i j. dollar_piece mode n p v is e f d i ∙ rw (here_byte K j, is2, m, k, z, x, y) refl))
@@ -433,16 +440,18 @@ module _ {edition : Edition} {T U : List ℕ} {a L : ℕ} {to : ℕ → ℕ} (K 
               (λ i next. dollar_piece mode n p v is e f d i
               ∙ lone_dollar (rw is2 k) next (λ j. rw (here_byte K j, is2, m, k, z, x) refl))))))
 
-          backquote_told : (v == 96) ≡ true → Inside p → Told pieces.Backquote
+          backquote_told : (v == grave_accent) ≡ true → Inside p → Told pieces.Backquote
           unfolding piece_at
           backquote_told f i = rw (here_byte K i, is, e, f) refl
 
         some_row : (Other v → Known (byte_by T p mode n v)) → Known (piece_by T p mode n (Some v))
         unfolding dollar_at
         some_row other =
-            cond_both (v == 92) _ _ Known (λ e. cond_both (at_end T q) _ _ Known (λ f. tt) (λ f. escape v is e f))
-            (λ e. cond_both (v == 96) _ _ Known (λ f. backquote (no_backslash e) (backquote_told e f))
-            (λ f. cond_both (v == 36) _ _ Known (λ d. dollar_row e f d (byte_at T q) refl) (λ d. other (e, (f, d)))))
+            cond_both (v == backslash) _ _ Known
+            (λ e. cond_both (at_end T q) _ _ Known (λ f. tt) (λ f. escape v is e f))
+            (λ e. cond_both (v == grave_accent) _ _ Known (λ f. backquote (no_backslash e) (backquote_told e f))
+            (λ f. cond_both (v == dollar_sign) _ _ Known (λ d. dollar_row e f d (byte_at T q) refl)
+            (λ d. other (e, (f, d)))))
 
     -- ---- by the mode
 
@@ -477,7 +486,7 @@ module _ {edition : Edition} {T U : List ℕ} {a L : ℕ} {to : ℕ → ℕ} (K 
         some : past_continuations T s.at < length T
         some = slice_get_within T (past_continuations T s.at) v is
 
-        clear_here : is_byte (byte_at T s.at) 92 ≡ false
+        clear_here : is_byte (byte_at T s.at) backslash ≡ false
         clear_here = rw is other.0
 
         told : (mode : Mode) → Inside s.at →
@@ -485,15 +494,16 @@ module _ {edition : Edition} {T U : List ℕ} {a L : ℕ} {to : ℕ → ℕ} (K 
             ≡ piece_in edition mode (byte_by U (to s.at) mode c.nested v)
         told mode i = other_piece mode c.nested s.at v is other i
 
-        bracket_clear : (r : ℕ) → stands T r 41 ≡ true → is_byte (byte_at T r) 92 ≡ false
+        bracket_clear : (r : ℕ) → stands T r right_parenthesis ≡ true → is_byte (byte_at T r) backslash ≡ false
         unfolding stands
-        bracket_clear r e = byte_other (byte_at T r) 41 92 refl e
+        bracket_clear r e = byte_other (byte_at T r) right_parenthesis backslash refl e
 
-        bracket_row : (m : ℕ) → c.nested ≡ m → (two : Bool) → stands T (past_byte T s.at) 41 ≡ two → (v == 41) ≡ true →
+        bracket_row : (m : ℕ) → c.nested ≡ m → (two : Bool) → stands T (past_byte T s.at) right_parenthesis ≡ two →
+            (v == right_parenthesis) ≡ true →
             KnownIn Arith (bracket_by m two)
         bracket_row zero none true follows e =
             closer_two inner local Arith b b2 c s from (λ V r. refl) (bracket_clear (past_byte T s.at) follows)
-            (λ i j. told Arith i ∙ rw (e, none, here_after K i, here_stands K j 41, follows) refl)
+            (λ i j. told Arith i ∙ rw (e, none, here_after K i, here_stands K j right_parenthesis, follows) refl)
         bracket_row zero none false follows e = tt
         bracket_row (suc m) some_open x follows e =
             closing inner local Arith b b2 c s from clear_here some (λ i next. told Arith i ∙ rw (e, some_open) refl)
@@ -501,37 +511,37 @@ module _ {edition : Edition} {T U : List ℕ} {a L : ℕ} {to : ℕ → ℕ} (K 
         by_mode : (mode : Mode) → KnownIn mode (byte_by T s.at mode c.nested v)
         by_mode Plain =
             cond_both (ends (Some v)) _ _ (KnownIn Plain) (λ e. word_end)
-            (λ e. cond_both (v == 39) _ _ (KnownIn Plain)
+            (λ e. cond_both (v == apostrophe) _ _ (KnownIn Plain)
             (λ f. quoted inner local Plain b b2 c s from clear_here (λ i. told Plain i ∙ rw (e, f) refl))
-            (λ f. cond_both (v == 34) _ _ (KnownIn Plain)
+            (λ f. cond_both (v == quotation_mark) _ _ (KnownIn Plain)
             (λ d. string inner local Plain b b2 c s from (λ i. told Plain i ∙ rw (e, f, d) refl))
             (λ d. ordinary inner local Plain b b2 c s from clear_here some
             (λ i next. told Plain i ∙ rw (e, f, d) refl))))
         by_mode Double =
-            cond_both (v == 34) _ _ (KnownIn Double)
+            cond_both (v == quotation_mark) _ _ (KnownIn Double)
             (λ e. closer inner local Double b b2 c s from (λ V r. refl) clear_here (λ i. told Double i ∙ rw e refl))
             (λ e. ordinary inner local Double b b2 c s from clear_here some (λ i next. told Double i ∙ rw e refl))
         by_mode Brace =
-            cond_both (v == 125) _ _ (KnownIn Brace)
+            cond_both (v == right_brace) _ _ (KnownIn Brace)
             (λ e. closer inner local Brace b b2 c s from (λ V r. refl) clear_here (λ i. told Brace i ∙ rw e refl))
-            (λ e. cond_both (v == 39) _ _ (KnownIn Brace)
+            (λ e. cond_both (v == apostrophe) _ _ (KnownIn Brace)
             (λ f. quoted inner local Brace b b2 c s from clear_here (λ i. told Brace i ∙ rw (e, f) refl))
-            (λ f. cond_both (v == 34) _ _ (KnownIn Brace)
+            (λ f. cond_both (v == quotation_mark) _ _ (KnownIn Brace)
             (λ d. string inner local Brace b b2 c s from (λ i. told Brace i ∙ rw (e, f, d) refl))
             (λ d. ordinary inner local Brace b b2 c s from clear_here some
             (λ i next. told Brace i ∙ rw (e, f, d) refl))))
         by_mode DoubleBrace =
-            cond_both (v == 125) _ _ (KnownIn DoubleBrace)
+            cond_both (v == right_brace) _ _ (KnownIn DoubleBrace)
             (λ e. closer inner local DoubleBrace b b2 c s from (λ V r. refl) clear_here
             (λ i. told DoubleBrace i ∙ rw e refl))
-            (λ e. cond_both (v == 34) _ _ (KnownIn DoubleBrace)
+            (λ e. cond_both (v == quotation_mark) _ _ (KnownIn DoubleBrace)
             (λ d. string inner local DoubleBrace b b2 c s from (λ i. told DoubleBrace i ∙ rw (e, d) refl))
             (λ d. ordinary inner local DoubleBrace b b2 c s from clear_here some
             (λ i next. told DoubleBrace i ∙ rw (e, d) refl)))
         by_mode Arith =
-            cond_both (v == 41) _ _ (KnownIn Arith)
-            (λ e. bracket_row c.nested refl (stands T (past_byte T s.at) 41) refl e)
-            (λ e. cond_both (v == 40) _ _ (KnownIn Arith)
+            cond_both (v == right_parenthesis) _ _ (KnownIn Arith)
+            (λ e. bracket_row c.nested refl (stands T (past_byte T s.at) right_parenthesis) refl e)
+            (λ e. cond_both (v == left_parenthesis) _ _ (KnownIn Arith)
             (λ f. opening inner local Arith b b2 c s from clear_here some (λ i next. told Arith i ∙ rw (e, f) refl))
             (λ f. ordinary inner local Arith b b2 c s from clear_here some (λ i next. told Arith i ∙ rw (e, f) refl)))
 

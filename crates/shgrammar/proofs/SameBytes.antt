@@ -4,6 +4,7 @@ use Rattle.std.proofs.lemmas.Bool.{and_parts, and_left, both_ways, cases_lt, cas
 use Rattle.std.proofs.lemmas.Bool.Decides.{nat_tests}
 use Rattle.shgrammar.specs.Standing.{is_byte, passes, raw_stands, raw_in, raw_past, continues}
 use Rattle.shgrammar.specs.Bytes.{ends, past_continuations, byte_at, past_byte, stands, stands_in}
+use Rattle.shgrammar.specs.Characters.{left_parenthesis, backslash, newline_char, number_sign}
 use Rattle.shgrammar.proofs.Stretches.{joined_more, joined_none, place_low, raw_is}
 use Rattle.shgrammar.proofs.Places.{must_fail, after_low, raw_past_low, raw_past_all, raw_past_stops}
 use Rattle.shgrammar.specs.declared.edition.Edition.{Edition}
@@ -18,11 +19,11 @@ pub record Kept (edition : Edition) (T T2 : List ℕ) (a L : ℕ) (to : ℕ → 
 pub record WordEnds (T T2 : List ℕ) (L : ℕ) (to : ℕ → ℕ) : Type 0 where
   pub here : ends (byte_at T L) ≡ true
   pub there : ends (byte_at T2 (to L)) ≡ true
-  pub closed : is_byte (byte_at T2 (to L)) 40 ≡ false
+  pub closed : is_byte (byte_at T2 (to L)) left_parenthesis ≡ false
 
 -- the bytes over which something that is looked for ahead may go on
 abbrev pub goes_on : ℕ → Bool
-goes_on b = not (b == 92 || b == 10 || b == 35)
+goes_on b = not (b == backslash || b == newline_char || b == number_sign)
 
 -- What is looked for ahead from p on is found, or not, before the limit, or at it.
 pub data Safe (T : List ℕ) (a L : ℕ) : ℕ → Type 0 where
@@ -44,24 +45,24 @@ pub record Here (T T2 : List ℕ) (a L : ℕ) (to : ℕ → ℕ) (p : ℕ) : Typ
   pub there : past_continuations T2 (to p) ≡ to (past_continuations T p)
 
 -- a byte that is no backslash begins no continuation
-pub no_backslash : (T : List ℕ) (p : ℕ) → raw_stands T p 92 ≡ false → continues T p ≡ false
+pub no_backslash : (T : List ℕ) (p : ℕ) → raw_stands T p backslash ≡ false → continues T p ≡ false
 unfolding continues
 no_backslash T p e = and_left _ _ e
 
 -- a byte over which it goes on is no backslash
-on_no_backslash_by : (b : Option ℕ) → passes goes_on b ≡ true → is_byte b 92 ≡ false
+on_no_backslash_by : (b : Option ℕ) → passes goes_on b ≡ true → is_byte b backslash ≡ false
 on_no_backslash_by None e = refl
-on_no_backslash_by (Some b) e = must_fail (b == 92) (λ f. both_ways (goes_on b) (rw f refl) e)
+on_no_backslash_by (Some b) e = must_fail (b == backslash) (λ f. both_ways (goes_on b) (rw f refl) e)
 
-pub on_no_backslash : (T : List ℕ) (p : ℕ) → raw_in goes_on T p ≡ true → raw_stands T p 92 ≡ false
+pub on_no_backslash : (T : List ℕ) (p : ℕ) → raw_in goes_on T p ≡ true → raw_stands T p backslash ≡ false
 unfolding raw_in raw_stands
 on_no_backslash T p e = on_no_backslash_by (slice_get T p) e
 
-backslash_stops_by : (b : Option ℕ) → is_byte b 92 ≡ true → passes goes_on b ≡ false
+backslash_stops_by : (b : Option ℕ) → is_byte b backslash ≡ true → passes goes_on b ≡ false
 backslash_stops_by None e = refl
 backslash_stops_by (Some b) e = rw e refl
 
-backslash_stops : (T : List ℕ) (p : ℕ) → raw_stands T p 92 ≡ true → raw_in goes_on T p ≡ false
+backslash_stops : (T : List ℕ) (p : ℕ) → raw_stands T p backslash ≡ true → raw_in goes_on T p ≡ false
 unfolding raw_in raw_stands
 backslash_stops T p e = backslash_stops_by (slice_get T p) e
 
@@ -71,8 +72,8 @@ byte_other None c d e f = refl
 byte_other (Some b) c d e f = grind (arith, nat_tests)
 
 -- a continuation is two bytes
-pub continued : (T : List ℕ) (p : ℕ) → continues T p ≡ true → (raw_stands T p 92 ≡ true)
-    × (raw_stands T (p + 1) 10 ≡ true)
+pub continued : (T : List ℕ) (p : ℕ) → continues T p ≡ true → (raw_stands T p backslash ≡ true)
+    × (raw_stands T (p + 1) newline_char ≡ true)
 unfolding continues
 continued T p e = and_parts _ _ e
 
@@ -86,14 +87,14 @@ module _ {edition : Edition} {T T2 : List ℕ} {a L : ℕ} {to : ℕ → ℕ} (K
   safe_high (two_bytes low c rest) = omega (arith, safe_high rest)
 
   -- after a byte that is no backslash
-  pub safe_byte : (p : ℕ) → a ≤ p → raw_stands T p 92 ≡ false → Safe T a L (p + 1) → Safe T a L p
+  pub safe_byte : (p : ℕ) → a ≤ p → raw_stands T p backslash ≡ false → Safe T a L (p + 1) → Safe T a L p
   safe_byte p low e rest =
       ⊎_elim (λ on. one_byte low on rest)
       (λ off. halts low (omega (arith, safe_high rest)) (no_backslash T p e) off)
       (cases_Bool (raw_in goes_on T p))
 
   -- a backslash that begins no continuation
-  pub safe_escape : (p : ℕ) → a ≤ p → continues T p ≡ false → raw_stands T p 92 ≡ true → p + 2 ≤ L → Safe T a L p
+  pub safe_escape : (p : ℕ) → a ≤ p → continues T p ≡ false → raw_stands T p backslash ≡ true → p + 2 ≤ L → Safe T a L p
   safe_escape p low none e lt = halts low (omega (arith, lt)) none (backslash_stops T p e)
 
   -- before continuations
@@ -112,7 +113,8 @@ module _ {edition : Edition} {T T2 : List ℕ} {a L : ℕ} {to : ℕ → ℕ} (K
   safe_place p low rest = safe_place_below (suc (L - p)) p (omega arith) low (safe_high rest) rest
 
   -- over any bytes of which the last is no backslash
-  safe_over_below : (n p e : ℕ) → e + 1 - p ≤ n → a ≤ p → p ≤ e + 1 → raw_stands T e 92 ≡ false → Safe T a L (e + 1) →
+  safe_over_below : (n p e : ℕ) → e + 1 - p ≤ n → a ≤ p → p ≤ e + 1 → raw_stands T e backslash ≡ false →
+      Safe T a L (e + 1) →
       Safe T a L p
   safe_over_below zero p e few low le end rest = let is : e + 1 ≡ p = omega (arith, le, few) in
       subst (Safe T a L) is rest
@@ -120,23 +122,25 @@ module _ {edition : Edition} {T T2 : List ℕ} {a L : ℕ} {to : ℕ → ℕ} (K
       (λ lt. ⊎_elim
       (λ c. let other : p < e = ⊎_elim (λ l. l)
       (λ g. let is : p ≡ e = omega (arith, lt, g) in
-      absurd (both_ways (raw_stands T e 92) end (subst (λ x. raw_stands T x 92 ≡ true) is (continued T p c).0)))
+      absurd (both_ways (raw_stands T e backslash) end
+      (subst (λ x. raw_stands T x backslash ≡ true) is (continued T p c).0)))
       (cases_lt p e) in
       two_bytes low c (safe_over_below n (p + 2) e (omega (arith, few)) (omega (arith, low))
       (omega (arith, other)) end rest))
       (λ c. ⊎_elim
       (λ b. let other : p < e = ⊎_elim (λ l. l)
       (λ g. let is : p ≡ e = omega (arith, lt, g) in
-      absurd (both_ways (raw_stands T e 92) end (subst (λ x. raw_stands T x 92 ≡ true) is b))) (cases_lt p e) in
+      absurd (both_ways (raw_stands T e backslash) end (subst (λ x. raw_stands T x backslash ≡ true) is b)))
+      (cases_lt p e) in
       safe_escape p low c b (omega (arith, other, safe_high rest)))
       (λ b. safe_byte p low b (safe_over_below n (p + 1) e (omega (arith, few)) (omega (arith, low))
       (omega (arith, lt)) end rest))
-      (cases_Bool (raw_stands T p 92)))
+      (cases_Bool (raw_stands T p backslash)))
       (cases_Bool (continues T p)))
       (λ ge. let is : e + 1 ≡ p = omega (arith, le, ge) in subst (Safe T a L) is rest)
       (cases_lt p (e + 1))
 
-  pub safe_over : (p e : ℕ) → a ≤ p → p ≤ e + 1 → raw_stands T e 92 ≡ false → Safe T a L (e + 1) → Safe T a L p
+  pub safe_over : (p e : ℕ) → a ≤ p → p ≤ e + 1 → raw_stands T e backslash ≡ false → Safe T a L (e + 1) → Safe T a L p
   safe_over p e low le end rest = safe_over_below (suc (e + 1)) p e (omega arith) low le end rest
 
   -- ---- what is the same
@@ -153,19 +157,19 @@ module _ {edition : Edition} {T T2 : List ℕ} {a L : ℕ} {to : ℕ → ℕ} (K
   pub pair_same : (p : ℕ) → a ≤ p → p + 1 < L → continues T2 (to p) ≡ continues T p
   unfolding continues
   pair_same p low lt =
-      ap (λ x. x && raw_stands T2 (to p + 1) 10) (raw_same p 92 low (omega (arith, lt)))
-      ∙ ap (λ x. raw_stands T p 92 && x) (raw_same_next p 1 10 low lt)
+      ap (λ x. x && raw_stands T2 (to p + 1) newline_char) (raw_same p backslash low (omega (arith, lt)))
+      ∙ ap (λ x. raw_stands T p backslash && x) (raw_same_next p 1 newline_char low lt)
 
   -- no continuation before the limit
-  pub none_same : (p : ℕ) → a ≤ p → p < L → continues T p ≡ false → (raw_stands T p 92 ≡ true → p + 1 < L) →
+  pub none_same : (p : ℕ) → a ≤ p → p < L → continues T p ≡ false → (raw_stands T p backslash ≡ true → p + 1 < L) →
       continues T2 (to p) ≡ false
   none_same p low lt none next =
-      ⊎_elim (λ e. pair_same p low (next e) ∙ none) (λ e. no_backslash T2 (to p) (raw_same p 92 low lt ∙ e))
-      (cases_Bool (raw_stands T p 92))
+      ⊎_elim (λ e. pair_same p low (next e) ∙ none) (λ e. no_backslash T2 (to p) (raw_same p backslash low lt ∙ e))
+      (cases_Bool (raw_stands T p backslash))
 
   -- past continuations before the limit
   there_below : (n p : ℕ) → L - p < n → a ≤ p → past_continuations T p < L →
-      (raw_stands T (past_continuations T p) 92 ≡ true → past_continuations T p + 1 < L)
+      (raw_stands T (past_continuations T p) backslash ≡ true → past_continuations T p + 1 < L)
       → past_continuations T2 (to p) ≡ to (past_continuations T p)
   there_below zero p few low lt next = absurd (omega arith)
   there_below (suc n) p few low lt next =
@@ -182,7 +186,7 @@ module _ {edition : Edition} {T T2 : List ℕ} {a L : ℕ} {to : ℕ → ℕ} (K
       (cases_Bool (continues T p))
 
   pub here : (p : ℕ) → a ≤ p → past_continuations T p < L →
-      (raw_stands T (past_continuations T p) 92 ≡ true → past_continuations T p + 1 < L) → Here T T2 a L to p
+      (raw_stands T (past_continuations T p) backslash ≡ true → past_continuations T p + 1 < L) → Here T T2 a L to p
   here p low lt next = record { low = low; inside = lt; there = there_below (suc (L - p)) p (omega arith) low lt next }
 
   pub safe_low : {p : ℕ} → Safe T a L p → a ≤ p
@@ -217,7 +221,7 @@ module _ {edition : Edition} {T T2 : List ℕ} {a L : ℕ} {to : ℕ → ℕ} (K
       let is = joined_none T p (no_backslash T p e) in
       let lt : p < L = omega (arith, safe_high rest) in
       inside (omega (arith, is, lt))
-      (joined_none T2 (to p) (no_backslash T2 (to p) (raw_same p 92 low lt ∙ e)) ∙ ap to (sym is))
+      (joined_none T2 (to p) (no_backslash T2 (to p) (raw_same p backslash low lt ∙ e)) ∙ ap to (sym is))
   place end (two_bytes {p = p} low c rest) = two_bytes_place p low (safe_high rest) c (place end rest)
 
   -- ---- the byte that is read
@@ -248,7 +252,8 @@ module _ {edition : Edition} {T T2 : List ℕ} {a L : ℕ} {to : ℕ → ℕ} (K
     here_low = omega (arith, h.low, after_low T p)
 
   -- before a byte that is read and is no backslash
-  pub safe_after : (p : ℕ) → a ≤ p → raw_stands T (past_continuations T p) 92 ≡ false → Safe T a L (past_byte T p) →
+  pub safe_after : (p : ℕ) → a ≤ p → raw_stands T (past_continuations T p) backslash ≡ false →
+      Safe T a L (past_byte T p) →
       Safe T a L p
   unfolding past_byte
   safe_after p low e rest =

@@ -15,6 +15,7 @@ use Rattle.shast.specs.Shape.{shape_of, shape_of_subst, shape_of_substs, text_at
 use Rattle.shast.specs.Tree.{ASubst, AWord, Entries, entries_of, subst as a_subst, substs_of, word}
 use Rattle.shgrammar.specs.Standing.{is_byte}
 use Rattle.shgrammar.specs.Bytes.{ends, ends_word, byte_at, past_byte, past_blanks, past_continuations}
+use Rattle.shgrammar.specs.Characters.{left_parenthesis, right_parenthesis}
 use Rattle.shgrammar.specs.Comments.{span}
 use Rattle.shgrammar.specs.Tokens.{next_at, next_in}
 use Rattle.shgrammar.specs.Sights.{Given, given, State, one_byte}
@@ -53,7 +54,8 @@ substs_shape B (s ∷ ss) = rw (substs_shape B ss) refl
 pub record Everywhere (inner : Inner) : Type 0 where
   pub local : (edition : Edition) (T U : List ℕ) (a L : ℕ) (to : ℕ → ℕ) (K : Kept edition T U a L to) (o o2 : ℕ)
       (B B2 : List ℕ) → T ≡ drop o B → U ≡ drop o2 B2 → ends (byte_at U (to L)) ≡ true
-      → (is_byte (byte_at T L) 40 ≡ false → is_byte (byte_at U (to L)) 40 ≡ false) → Local K o o2 B B2 inner
+      → (is_byte (byte_at T L) left_parenthesis ≡ false → is_byte (byte_at U (to L)) left_parenthesis ≡ false) →
+      Local K o o2 B B2 inner
   pub compound : (edition : Edition) (T U : List ℕ) (a M : ℕ) (to : ℕ → ℕ) (limit : ℕ)
       (E : ListEnds edition T U a M to limit) (o o2 : ℕ) (B B2 : List ℕ) (stands : T ≡ drop o B)
       (stands_there : U ≡ drop o2 B2) (c : Opener)
@@ -95,8 +97,8 @@ module _ (room : ℕ) (all : Everywhere (level room)) where
         let byte : byte_at U (to t.at) ≡ byte_at T t.at = same_byte E e in
         let K = kept_to t.at (omega (arith, from, onward)) le in
         let ends_there = ap ends byte ∙ ender in
-        let open_there : is_byte (byte_at T t.at) 40 ≡ false →
-        is_byte (byte_at U (to t.at)) 40 ≡ false = λ f. ap (λ x. is_byte x 40) byte ∙ f in
+        let open_there : is_byte (byte_at T t.at) left_parenthesis ≡ false →
+        is_byte (byte_at U (to t.at)) left_parenthesis ≡ false = λ f. ap (λ x. is_byte x left_parenthesis) byte ∙ f in
         let local = all.local edition T U a t.at to K o o2 B B2 stands stands_there ends_there open_there in
         let w = subst (Holds (Ended K o o2 B B2 ends_there open_there inner local (o2 + to s.at) s)) is
         (word_in K o o2 B B2 ends_there open_there inner local (o + s.at) (o2 + to s.at) s from) refl in (
@@ -155,7 +157,8 @@ module _ (room : ℕ) (all : Everywhere (level room)) where
     h = given edition U o2
 
     -- its `)` is the limit of its list
-    limit_at : (M : ℕ) → a ≤ M → M + 1 ≤ L → slice_get T M ≡ Some 41 → ListEnds edition T U a M to 41
+    limit_at : (M : ℕ) → a ≤ M → M + 1 ≤ L → slice_get T M ≡ Some right_parenthesis →
+        ListEnds edition T U a M to right_parenthesis
     limit_at M from le is = record {
       kept = record { under = omega (arith, from); on = K.on; same = λ r low lt. K.same r low (omega (arith, lt, le)) };
       under = from;
@@ -202,14 +205,14 @@ module _ (room : ℕ) (all : Everywhere (level room)) where
         abbrev M : ℕ
         M = u.at
 
-        shown : (byte_at T M ≡ Some 41) × (past_continuations T M ≡ M)
+        shown : (byte_at T M ≡ Some right_parenthesis) × (past_continuations T M ≡ M)
         shown = paren_here g l.next u begins closed
 
-        byte : slice_get T M ≡ Some 41
+        byte : slice_get T M ≡ Some right_parenthesis
         byte = ap (slice_get T) (sym shown.1) ∙ shown.0
 
         module _ (le : M + 1 ≤ L) where
-          E : ListEnds edition T U a M to 41
+          E : ListEnds edition T U a M to right_parenthesis
           E = limit_at M (omega (arith, from, still, onward)) le byte
 
           abbrev over_there : State → State

@@ -13,6 +13,7 @@ use Rattle.shgrammar.specs.declared.token.Closing.TheVariants as closings
 use Rattle.shgrammar.specs.declared.token.Position.TheVariants.{Command}
 use Rattle.shgrammar.specs.Standing.{raw_stands, at_end}
 use Rattle.shgrammar.specs.Bytes.{ends, ends_word, past_continuations, byte_at, past_byte, stands}
+use Rattle.shgrammar.specs.Characters.{backslash, apostrophe, right_parenthesis, dollar_sign, left_parenthesis, left_brace, quotation_mark, right_brace, grave_accent}
 use Rattle.shgrammar.specs.Pieces.{dollar_by, dollar_at, bracket_by, byte_by, piece_by, piece_at, end_by, past_taken, past_closer, past_parameter, next_quote, is_last_backslash, rest_mode, closes_by, next_escaped, piece_in, quotes_singly}
 use Rattle.shast.specs.Tree.{ASubst, entries_of}
 use Rattle.shgrammar.specs.Sights.{Given, State, standing, one_byte}
@@ -34,14 +35,15 @@ use Rattle.shgrammar.proofs.OneOutcome.{is}
 use Rattle.shgrammar.specs.Tokens.{is_later}
 
 -- after a byte, or two
-taken_on : (T : List ℕ) (q : ℕ) → q < length T → (raw_stands T q 92 ≡ true → q + 1 < length T) → (q < past_taken T q)
+taken_on : (T : List ℕ) (q : ℕ) → q < length T → (raw_stands T q backslash ≡ true → q + 1 < length T) →
+    (q < past_taken T q)
     × (past_taken T q ≤ length T)
 unfolding past_taken
-taken_on T q lt next = cond_both (raw_stands T q 92) _ _ (λ n. (q < q + n) × (q + n ≤ length T))
+taken_on T q lt next = cond_both (raw_stands T q backslash) _ _ (λ n. (q < q + n) × (q + n ≤ length T))
     (λ e. (omega arith, omega (arith, next e))) (λ e. (omega arith, omega (arith, lt)))
 
 -- a backslash that is not the last byte
-not_last : (T : List ℕ) (q : ℕ) → is_last_backslash T q ≡ false → raw_stands T q 92 ≡ true → q + 1 < length T
+not_last : (T : List ℕ) (q : ℕ) → is_last_backslash T q ≡ false → raw_stands T q backslash ≡ true → q + 1 < length T
 not_last T q none e = not_end_low T (q + 1) (rw e at none)
 
 module _ (g : Given) where
@@ -94,7 +96,7 @@ module _ (g : Given) where
       (λ e. let lt = not_end_low T q e in
       let clear = quote_clear T (past_byte T s.at) in
       let w = taken_on T q lt (λ f. absurd (let no : true ≡ false = sym f ∙ clear in cc)) in
-      (omega (arith, w.0, after_low T s.at, next_of_low 39 T (past_byte T s.at)), w.1))
+      (omega (arith, w.0, after_low T s.at, next_of_low apostrophe T (past_byte T s.at)), w.1))
     where
       q : ℕ
       q = next_quote T (past_byte T s.at)
@@ -176,9 +178,10 @@ module _ (g : Given) where
   Needs mode p pieces.Ordinary = past_continuations T p < length T
 
   module _ (mode : Mode) (n p : ℕ) where
-    bracket_needs : (m : ℕ) (two : Bool) → stands T (past_byte T p) 41 ≡ two → past_continuations T p < length T →
+    bracket_needs : (m : ℕ) (two : Bool) → stands T (past_byte T p) right_parenthesis ≡ two →
+        past_continuations T p < length T →
         Needs Arith p (bracket_by m two)
-    bracket_needs zero true e lt = stands_low T (past_byte T p) 41 e
+    bracket_needs zero true e lt = stands_low T (past_byte T p) right_parenthesis e
     bracket_needs zero false e lt = tt
     bracket_needs (suc m) two e lt = lt
 
@@ -195,42 +198,43 @@ module _ (g : Given) where
     dollar_needs None is lt = lt
     dollar_needs (Some v) is lt =
         let next = slice_get_within T (past_continuations T (past_byte T p)) v is in
-        cond_both (v == 36) _ _ (Needs mode p) (λ e. next)
-        (λ e. cond_both (v == 40) _ _ (Needs mode p)
-        (λ f. cond_both (stands T (past_byte T (past_byte T p)) 40) _ _ (Needs mode p)
-        (λ d. stands_low T (past_byte T (past_byte T p)) 40 d) (λ d. tt))
-        (λ f. cond_both (v == 123) _ _ (Needs mode p) (λ d. next)
-        (λ d. cond_both (v == 39) _ _ (Needs mode p) (λ z. next) (λ z. lt))))
+        cond_both (v == dollar_sign) _ _ (Needs mode p) (λ e. next)
+        (λ e. cond_both (v == left_parenthesis) _ _ (Needs mode p)
+        (λ f. cond_both (stands T (past_byte T (past_byte T p)) left_parenthesis) _ _ (Needs mode p)
+        (λ d. stands_low T (past_byte T (past_byte T p)) left_parenthesis d) (λ d. tt))
+        (λ f. cond_both (v == left_brace) _ _ (Needs mode p) (λ d. next)
+        (λ d. cond_both (v == apostrophe) _ _ (Needs mode p) (λ z. next) (λ z. lt))))
 
     byte_needs : (mode : Mode) (v : ℕ) → byte_at T p ≡ Some v → past_continuations T p < length T →
         Needs mode p (byte_by T p mode n v)
     unfolding ends_word
     byte_needs Plain v is lt =
         cond_both (ends (Some v)) _ _ (Needs Plain p) (λ e. rw is e)
-        (λ e. cond_both (v == 39) _ _ (Needs Plain p) (λ f. lt)
-        (λ f. cond_both (v == 34) _ _ (Needs Plain p) (λ d. lt) (λ d. lt)))
-    byte_needs Double v is lt = cond_both (v == 34) _ _ (Needs Double p) (λ e. lt) (λ e. lt)
+        (λ e. cond_both (v == apostrophe) _ _ (Needs Plain p) (λ f. lt)
+        (λ f. cond_both (v == quotation_mark) _ _ (Needs Plain p) (λ d. lt) (λ d. lt)))
+    byte_needs Double v is lt = cond_both (v == quotation_mark) _ _ (Needs Double p) (λ e. lt) (λ e. lt)
     byte_needs Brace v is lt =
-        cond_both (v == 125) _ _ (Needs Brace p) (λ e. lt)
-        (λ e. cond_both (v == 39) _ _ (Needs Brace p) (λ f. lt)
-        (λ f. cond_both (v == 34) _ _ (Needs Brace p) (λ d. lt) (λ d. lt)))
+        cond_both (v == right_brace) _ _ (Needs Brace p) (λ e. lt)
+        (λ e. cond_both (v == apostrophe) _ _ (Needs Brace p) (λ f. lt)
+        (λ f. cond_both (v == quotation_mark) _ _ (Needs Brace p) (λ d. lt) (λ d. lt)))
     byte_needs DoubleBrace v is lt =
-        cond_both (v == 125) _ _ (Needs DoubleBrace p) (λ e. lt)
-        (λ e. cond_both (v == 34) _ _ (Needs DoubleBrace p) (λ f. lt) (λ f. lt))
+        cond_both (v == right_brace) _ _ (Needs DoubleBrace p) (λ e. lt)
+        (λ e. cond_both (v == quotation_mark) _ _ (Needs DoubleBrace p) (λ f. lt) (λ f. lt))
     byte_needs Arith v is lt =
-        cond_both (v == 41) _ _ (Needs Arith p) (λ e. bracket_needs n (stands T (past_byte T p) 41) refl lt)
-        (λ e. cond_both (v == 40) _ _ (Needs Arith p) (λ f. lt) (λ f. lt))
+        cond_both (v == right_parenthesis) _ _ (Needs Arith p)
+        (λ e. bracket_needs n (stands T (past_byte T p) right_parenthesis) refl lt)
+        (λ e. cond_both (v == left_parenthesis) _ _ (Needs Arith p) (λ f. lt) (λ f. lt))
 
     needs_by : (x : Option ℕ) → byte_at T p ≡ x → Needs mode p (piece_by T p mode n x)
     unfolding dollar_at
     needs_by None is = end_needs mode is
     needs_by (Some v) is =
         let lt = slice_get_within T (past_continuations T p) v is in
-        cond_both (v == 92) _ _ (Needs mode p)
+        cond_both (v == backslash) _ _ (Needs mode p)
         (λ e. cond_both (at_end T (past_byte T p)) _ _ (Needs mode p) (λ f. tt)
         (λ f. omega (arith, not_end_low T (past_byte T p) f, behind_is T p)))
-        (λ e. cond_both (v == 96) _ _ (Needs mode p) (λ f. lt)
-        (λ f. cond_both (v == 36) _ _ (Needs mode p) (λ d. dollar_needs (byte_at T (past_byte T p)) refl lt)
+        (λ e. cond_both (v == grave_accent) _ _ (Needs mode p) (λ f. lt)
+        (λ f. cond_both (v == dollar_sign) _ _ (Needs mode p) (λ d. dollar_needs (byte_at T (past_byte T p)) refl lt)
         (λ d. byte_needs mode v is lt)))
 
     needs : Needs mode p (piece_at T mode n p)
@@ -367,7 +371,7 @@ module _ (g : Given) where
             (unexpected inner l.next)) (λ x t. t.at ≤ length T) u
         closed_by true l u e so =
             let high = after_high T u.at
-            (slice_get_within T (past_continuations T u.at) 41 (paren_here g l.next u so e).0) in
+            (slice_get_within T (past_continuations T u.at) right_parenthesis (paren_here g l.next u so e).0) in
             tells_then Whole g (still u)
             (λ w t same. record { told = subst (λ (v : State). past_byte T v.at ≤ length T) (sym same) high })
         closed_by false l u e so = tells_after Whole g (λ w t. record { told = tt })
