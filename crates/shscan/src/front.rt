@@ -4,7 +4,7 @@ ghost use Rattle.std.specs.List.{prefix_len};
 ghost use Rattle.shscan.specs.Sets.{is_outside};
 
 use crate::few::few_outside;
-use crate::row::{ROW, outside_in_row};
+use crate::row::{LANES, outside_in_row};
 
 /// How many bytes stand before the first one of a set; all of them where none is of it.
 ///
@@ -15,12 +15,12 @@ pub fn front_outside(run: &[u8], low: [u8; 16], high: [u8; 16]) -> usize
     ensures { result ≡ prefix_len (is_outside low high) run.now }
 {
     let mut at = 0;
-    'rows: while run.len() - at >= ROW {
+    'rows: while run.len() - at >= LANES {
         let count = outside_in_row(run, at, low, high);
-        if count < ROW {
+        if count < LANES {
             return at + count;
         }
-        at += ROW;
+        at += LANES;
     }
     at + few_outside(&run[at..], low, high)
 }

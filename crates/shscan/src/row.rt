@@ -6,8 +6,8 @@ ghost use Rattle.shscan.specs.Sets.{is_outside, row_of};
 
 use std::simd::prelude::*;
 
-/// The bytes of a row.
-pub(crate) const ROW: usize = 16;
+/// The bytes of a row, a lane each.
+pub(crate) const LANES: usize = 16;
 
 /// How many bytes of the row at an offset stand before its first one of the set; all
 /// of them where none is of it.
@@ -21,7 +21,7 @@ pub(crate) fn outside_in_row(run: &[u8], at: usize, low: [u8; 16], high: [u8; 16
     let by_high = u8x16::from_array(high).swizzle_dyn(bytes >> u8x16::splat(4));
     let members = (by_low & by_high).simd_ne(u8x16::splat(0)).to_bitmask();
     if members == 0 {
-        return ROW;
+        return LANES;
     }
     members.trailing_zeros() as usize
 }

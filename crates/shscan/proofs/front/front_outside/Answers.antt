@@ -3,8 +3,8 @@ use Rattle.shscan.specs.Sets.{is_outside}
 use Rattle.shscan.proofs.Rows.{found, goes_on, within}
 use Rattle.shscan.proofs.front.front_outside.Goals as goal
 
-pub returns-then-count-lt-ROW : goal.returns-then-count-lt-ROW
-returns-then-count-lt-ROW c = found
+pub returns-then-count-lt-LANES : goal.returns-then-count-lt-LANES
+returns-then-count-lt-LANES c = found
     (is_outside c.args.low c.args.high) c.args.run.now c.rows.at c.outside_in_row-count.result
     (omega arith) c.rows.invariant.1 c.outside_in_row-count.ensures (omega arith)
 
