@@ -11,9 +11,9 @@ use Rattle.shgrammar.specs.HereDocuments.{ADelimiter, Quoting, not_quoted, in_si
 use Rattle.shgrammar.specs.Plain.{is_plain}
 
 abbrev pub view_quoting : the_quoting.Quoting → Quoting
-view_quoting quotings.Outside = not_quoted
-view_quoting quotings.Single = in_single
-view_quoting quotings.Double = in_double
+view_quoting quotings.NotQuoted = not_quoted
+view_quoting quotings.InSingle = in_single
+view_quoting quotings.InDouble = in_double
 
 abbrev pub view_delimiter : the_delimiter.Delimiter → ADelimiter
 view_delimiter d = record { text = d.text.items; literal = d.literal }

@@ -22,9 +22,9 @@ pub struct Delimiter {
 /// How a byte of a word is quoted.
 #[derive(Clone, Copy, PartialEq, Eq)]
 enum Quoting {
-    Outside,
-    Single,
-    Double,
+    NotQuoted,
+    InSingle,
+    InDouble,
 }
 
 impl Quoting {
@@ -33,25 +33,25 @@ impl Quoting {
         ensures { result ≡ is_quote (view_quoting self) byte }
     {
         match self {
-            Quoting::Outside => byte == b'\'' || byte == b'"',
-            Quoting::Single => byte == b'\'',
-            Quoting::Double => byte == b'"',
+            Quoting::NotQuoted => byte == b'\'' || byte == b'"',
+            Quoting::InSingle => byte == b'\'',
+            Quoting::InDouble => byte == b'"',
         }
     }
 
     /// How the bytes after this quote are quoted.
-    fn behind(self, quote: u8) -> Quoting
+    fn after_quote(self, quote: u8) -> Quoting
         ensures { view_quoting result ≡ after_quote (view_quoting self) quote }
     {
         match self {
-            Quoting::Outside => {
+            Quoting::NotQuoted => {
                 if quote == b'\'' {
-                    Quoting::Single
+                    Quoting::InSingle
                 } else {
-                    Quoting::Double
+                    Quoting::InDouble
                 }
             }
-            Quoting::Single | Quoting::Double => Quoting::Outside,
+            Quoting::InSingle | Quoting::InDouble => Quoting::NotQuoted,
         }
     }
 
@@ -59,14 +59,14 @@ impl Quoting {
     fn stays_before(self, byte: u8) -> bool
         ensures { result ≡ stays_before (view_quoting self) byte }
     {
-        self == Quoting::Double && !matches!(byte, b'$' | b'`' | b'"' | b'\\')
+        self == Quoting::InDouble && !matches!(byte, b'$' | b'`' | b'"' | b'\\')
     }
 
     /// Whether this byte is that special one, where it is special.
     fn is_live(self, special: u8, byte: u8) -> bool
         ensures { result ≡ is_live (view_quoting self) special byte }
     {
-        self != Quoting::Single && byte == special
+        self != Quoting::InSingle && byte == special
     }
 }
 
@@ -193,7 +193,7 @@ impl Unquoting {
     {
         let byte = word[at];
         if self.quoting.is_quote(byte) {
-            self.quoting = self.quoting.behind(byte);
+            self.quoting = self.quoting.after_quote(byte);
             self.second = false;
             return Ok(Some(at + 1));
         }
@@ -241,7 +241,7 @@ fn unquoted(alloc: Global, word: &[u8]) -> Result<Option<Vec<u8>>, AllocError>
 {
     let mut so_far = Unquoting {
         text: Vec::new(alloc),
-        quoting: Quoting::Outside,
+        quoting: Quoting::NotQuoted,
         second: false,
     };
     let mut at = 0;
@@ -301,7 +301,7 @@ fn is_wrapped(word: &[u8]) -> bool
         return false;
     }
     let quote = word[0];
-    Quoting::Outside.is_quote(quote) && word[word.len() - 1] == quote
+    Quoting::NotQuoted.is_quote(quote) && word[word.len() - 1] == quote
 }
 
 /// Whether a backslash stands before other bytes of a word.
@@ -344,7 +344,7 @@ pub fn plain_part(word: &[u8]) -> Option<&[u8]>
 fn has_dollar_single(word: &[u8]) -> bool
     ensures { result ≡ has_dollar_single not_quoted false word.now }
 {
-    let mut quoting = Quoting::Outside;
+    let mut quoting = Quoting::NotQuoted;
     let mut second = false;
     let mut at = 0;
     'bytes: while at + 1 < word.len() {
@@ -354,7 +354,7 @@ fn has_dollar_single(word: &[u8]) -> bool
             continue;
         }
         if quoting.is_quote(byte) {
-            quoting = quoting.behind(byte);
+            quoting = quoting.after_quote(byte);
             second = false;
         } else if quoting.is_live(b'$', byte) {
             let next = byte_at(word, at + 1);
