@@ -10,8 +10,8 @@ edited_length bytes a b new order within =
     let all = length-append (take a bytes) (new ++ drop b bytes) in
     let rest = length-append new (drop b bytes) in
     let before = length-take a bytes in
-    let behind = length-drop b bytes in
-    grind (arith, all, rest, before, behind, order, within)
+    let after = length-drop b bytes in
+    grind (arith, all, rest, before, after, order, within)
 
 pub undone : (bytes new : List ℕ) (a b : ℕ) → a ≤ b → b ≤ length bytes
     → spliced (spliced bytes a b new) a (a + length new) (take (b - a) (drop a bytes)) ≡ bytes

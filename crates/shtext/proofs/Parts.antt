@@ -29,25 +29,25 @@ part_more B from at n low =
     ∙ ap (λ m. take m (drop from B)) far
 
 -- bytes that stand at an offset: their front does, and so does the rest
-pub stand_more : (B rest front behind : List ℕ) (at : ℕ) → rest ≡ front ++ behind →
+pub stand_more : (B rest front after : List ℕ) (at : ℕ) → rest ≡ front ++ after →
     take (length front) (drop at B) ≡ front
-    → (take (length behind) (drop (at + length front) B) ≡ behind) ↔ (take (length rest) (drop at B) ≡ rest)
-stand_more B rest front behind at is here =
-    let all : take (length rest) (drop at B) ≡ front ++ take (length behind) (drop (at + length front) B)
-    = ap (λ l. take (length l) (drop at B)) is ∙ ap (λ m. take m (drop at B)) (length-append front behind)
-    ∙ take-add (length front) (length behind) (drop at B)
-    ∙ ap (λ l. l ++ take (length behind) (drop (length front) (drop at B))) here
-    ∙ ap (λ l. front ++ take (length behind) l) (drop-drop (length front) at B) in (
+    → (take (length after) (drop (at + length front) B) ≡ after) ↔ (take (length rest) (drop at B) ≡ rest)
+stand_more B rest front after at is here =
+    let all : take (length rest) (drop at B) ≡ front ++ take (length after) (drop (at + length front) B)
+    = ap (λ l. take (length l) (drop at B)) is ∙ ap (λ m. take m (drop at B)) (length-append front after)
+    ∙ take-add (length front) (length after) (drop at B)
+    ∙ ap (λ l. l ++ take (length after) (drop (length front) (drop at B))) here
+    ∙ ap (λ l. front ++ take (length after) l) (drop-drop (length front) at B) in (
       (λ more. all ∙ ap (λ l. front ++ l) more ∙ sym is),
       (λ whole. append_cancel_left front _ _ (sym all ∙ whole ∙ is)),
     )
 
 -- where others stand in the place of their front, they do not
-pub stand_not : (B rest front behind : List ℕ) (at : ℕ) → rest ≡ front ++ behind →
+pub stand_not : (B rest front after : List ℕ) (at : ℕ) → rest ≡ front ++ after →
     (take (length front) (drop at B) ≡ front → ⊥) → take (length rest) (drop at B) ≡ rest → ⊥
-stand_not B rest front behind at is other whole =
-    let long = ap length is ∙ length-append front behind in
+stand_not B rest front after at is other whole =
+    let long = ap length is ∙ length-append front after in
     other (
     sym (take-take (length front) (length rest) (drop at B) (omega (arith, long)))
-    ∙ ap (take (length front)) (whole ∙ is) ∙ take_at front behind (length front) refl
+    ∙ ap (take (length front)) (whole ∙ is) ∙ take_at front after (length front) refl
     )

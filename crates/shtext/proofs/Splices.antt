@@ -78,23 +78,23 @@ edited_with bytes from (s ∷ ss) low range rising =
     ∙ append_assoc (take from bytes) (take (s.a - from) (drop from bytes)) _
 
 -- what stands after the last of them stays
-pub with_after : (from : ℕ) (bytes behind : List ℕ) (ss : Row ASplice) → AreInRange (from + length bytes) ss →
+pub with_after : (from : ℕ) (bytes after : List ℕ) (ss : Row ASplice) → AreInRange (from + length bytes) ss →
     RiseFrom from ss
-    → with_splices from (bytes ++ behind) ss ≡ with_splices from bytes ss ++ behind
-with_after from bytes behind [] range rising = refl
-with_after from bytes behind (s ∷ ss) range rising =
+    → with_splices from (bytes ++ after) ss ≡ with_splices from bytes ss ++ after
+with_after from bytes after [] range rising = refl
+with_after from bytes after (s ∷ ss) range rising =
     let short : s.b - from ≤ length bytes = omega (arith, range.1) in
     let count = length-drop (s.b - from) bytes in
     let same : s.b + length (drop (s.b - from) bytes) ≡ from + length bytes =
     omega (arith, count, range.0, range.1, rising.0) in
-    let front = take-append-le (s.a - from) bytes behind (omega (arith, short, range.0)) in
-    let back = drop-append-le (s.b - from) bytes behind short in
-    let on = with_after s.b (drop (s.b - from) bytes) behind ss
+    let front = take-append-le (s.a - from) bytes after (omega (arith, short, range.0)) in
+    let back = drop-append-le (s.b - from) bytes after short in
+    let on = with_after s.b (drop (s.b - from) bytes) after ss
     (subst (λ n. AreInRange n ss) (sym same) range.2) rising.1 in
-    ap (λ l. l ++ (s.bytes ++ with_splices s.b (drop (s.b - from) (bytes ++ behind)) ss)) front
+    ap (λ l. l ++ (s.bytes ++ with_splices s.b (drop (s.b - from) (bytes ++ after)) ss)) front
     ∙ ap (λ l. take (s.a - from) bytes ++ (s.bytes ++ l)) (ap (λ l. with_splices s.b l ss) back ∙ on)
-    ∙ ap (λ l. take (s.a - from) bytes ++ l) (sym (append_assoc s.bytes _ behind))
-    ∙ sym (append_assoc (take (s.a - from) bytes) _ behind)
+    ∙ ap (λ l. take (s.a - from) bytes ++ l) (sym (append_assoc s.bytes _ after))
+    ∙ sym (append_assoc (take (s.a - from) bytes) _ after)
 
 -- how many bytes that are
 pub with_length : (from : ℕ) (bytes : List ℕ) (ss : Row ASplice) → AreInRange (from + length bytes) ss →
@@ -162,10 +162,10 @@ module _ (bytes : List ℕ) (ss : Row ASplice) (some : 0 < length ss) (range : A
       let last : ℕ = last_end ss in
       let old : List ℕ = held_between bytes ss in
       let far : first + (last - first) ≡ last = omega (arith, ends_rise) in
-      let behind : drop (last - first) (drop first bytes) ≡ drop last bytes = drop-drop (last - first) first bytes
+      let after : drop (last - first) (drop first bytes) ≡ drop last bytes = drop-drop (last - first) first bytes
       ∙ ap (λ m. drop m bytes) far in
       let split : drop first bytes ≡ old ++ drop last bytes = sym (take-append-drop (last - first) (drop first bytes))
-      ∙ ap (λ l. old ++ l) behind in
+      ∙ ap (λ l. old ++ l) after in
       sym
       (edited_with bytes first ss (omega (arith, ends_rise, ends_within)) range rise_first
       ∙ ap (λ l. take first bytes ++ with_splices first l ss) split

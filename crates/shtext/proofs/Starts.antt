@@ -6,7 +6,7 @@ use Rattle.std.proofs.Math.Seq.{take-append-add}
 use Rattle.shtext.specs.Text.{IsLineStart, column_of, is_newline, line_of, since_newline}
 use Rattle.shtext.proofs.Counting.{still}
 use Rattle.shtext.proofs.Newlines.{no_pass, ends, stays, grows}
-use Rattle.shtext.proofs.Summing.{lines_append}
+use Rattle.shtext.proofs.Summing.{newlines_append}
 
 -- the newlines before an offset of a chunk
 pub lines_before : (B X k Y : List ℕ) (o : ℕ) → B ≡ X ++ (k ++ Y) → o ≤ length k →
@@ -14,7 +14,7 @@ pub lines_before : (B X k Y : List ℕ) (o : ℕ) → B ≡ X ++ (k ++ Y) → o 
 lines_before B X k Y o is within =
     let front : take (length X + o) B ≡ X ++ take o k = ap (take (length X + o)) is ∙ take-append-add X (k ++ Y) o
     ∙ ap (λ l. X ++ l) (take-append-le o k Y within) in
-    ap (λ l. 1 + count_by is_newline l) front ∙ ap (λ m. 1 + m) (lines_append X (take o k))
+    ap (λ l. 1 + count_by is_newline l) front ∙ ap (λ m. 1 + m) (newlines_append X (take o k))
 
 -- a line begins after a newline of a chunk
 pub start_after : (B X k Y : List ℕ) (o n : ℕ) → B ≡ X ++ (k ++ Y) → 0 < o → o ≤ length k →
@@ -42,11 +42,11 @@ between B p at k low high within same newline =
     let before : line_of B p ≤ line_of B (p + (k - p)) = grows B p (k - p) (omega (arith, low, high, within)) in
     let here : line_of B (p + (k - p)) ≡ line_of B k = let there : p + (k - p) ≡ k = omega (arith, low) in
     ap (line_of B) there in
-    let behind : line_of B (k + 1) ≤ line_of B (k + 1 + (at - (k + 1))) =
+    let after : line_of B (k + 1) ≤ line_of B (k + 1 + (at - (k + 1))) =
     grows B (k + 1) (at - (k + 1)) (omega (arith, high, within)) in
     let end : line_of B (k + 1 + (at - (k + 1))) ≡ line_of B at = let there : k + 1 + (at - (k + 1)) ≡ at =
     omega (arith, high) in ap (line_of B) there in
-    omega (arith, next, before, here, behind, end, same)
+    omega (arith, next, before, here, after, end, same)
 
 -- the byte before the begin of a line is a newline
 begun_after : (B : List ℕ) (k : ℕ) → k < length B → column_of B (k + 1) ≡ 1 → (x : Bool) →

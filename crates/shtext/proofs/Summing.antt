@@ -41,8 +41,9 @@ pub sums_none : (measure : List ℕ → ℕ) → measure [] ≡ 0 → (ks : Row 
 sums_none measure none ks sums zero low = sym (ap measure joined_nil ∙ none)
 sums_none measure none ks sums (suc m) low = absurd (omega (arith, low))
 
-pub lines_append : (xs ys : List ℕ) → count_by is_newline (xs ++ ys) ≡ count_by is_newline xs + count_by is_newline ys
-lines_append xs ys = sum_by-append _ xs ys
+pub newlines_append : (xs ys : List ℕ) →
+    count_by is_newline (xs ++ ys) ≡ count_by is_newline xs + count_by is_newline ys
+newlines_append xs ys = sum_by-append _ xs ys
 
 pub sums_empty : (measure : List ℕ → ℕ) → measure [] ≡ 0 → (ks : Row (List ℕ)) (sums : List ℕ) → ks ≡ [] →
     HasSums measure ks (length ks) sums

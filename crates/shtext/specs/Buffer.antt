@@ -27,7 +27,7 @@ pub record Makes (bytes : List ℕ) (ss : Row ASplice) (change : Change) : Type 
 pub record HasChunks (buffer : Buffer) (more : ℕ) : Type 0 where
   pub chunks : length buffer.chunks.items + more ≤ vec_capacity buffer.chunks
   pub ends : length buffer.chunks.items + more ≤ vec_capacity buffer.ends
-  pub lines : length buffer.chunks.items + more ≤ vec_capacity buffer.lines
+  pub newlines : length buffer.chunks.items + more ≤ vec_capacity buffer.newlines
   pub spare : more ≤ length buffer.spare.items
 
 -- and for what stands around an edit

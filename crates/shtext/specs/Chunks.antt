@@ -56,8 +56,8 @@ SumsOn measure ks base sums = (m : ℕ) → m < length ks → slice_index sums m
 abbrev pub ends_of : List ℕ → ℕ
 ends_of bytes = length bytes
 
-abbrev pub lines_of : List ℕ → ℕ
-lines_of bytes = count_by is_newline bytes
+abbrev pub newlines_of : List ℕ → ℕ
+newlines_of bytes = count_by is_newline bytes
 
 -- chunks hold the bytes from one offset up to another
 pub record HoldsPart (ks : Row (List ℕ)) (from to a b : ℕ) : Type 0 where

@@ -74,8 +74,8 @@ impl Tally {
         if !self.is_rising {
             return Err(TextError::Order);
         }
-        let behind = self.len.saturating_sub(self.last);
-        if self.made.saturating_add(behind) > LIMIT {
+        let after = self.len.saturating_sub(self.last);
+        if self.made.saturating_add(after) > LIMIT {
             return Err(TextError::TooLarge);
         }
         Ok(())

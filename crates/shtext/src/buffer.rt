@@ -1,6 +1,6 @@
 //! A text that is edited.
 ghost use Rattle.std.specs.Prelude.{◌≡◌, ◌+◌, ◌*◌, ◌<◌, ◌≤◌, [], IfErr, IfOk, IsOk, OnOk, length};
-ghost use Rattle.shtext.specs.Chunks.{AreFull, EachHas, HasSums, begin_of, ends_of, fewest, joined, lines_of, most};
+ghost use Rattle.shtext.specs.Chunks.{AreFull, EachHas, HasSums, begin_of, ends_of, fewest, joined, newlines_of, most};
 ghost use Rattle.shtext.specs.Edit.{AreAllowed, Refuses, limit, one_splice};
 ghost use Rattle.shtext.specs.Text.{IsRun};
 
@@ -25,7 +25,7 @@ pub struct Buffer {
     /// Where each chunk ends.
     pub(crate) ends: Vec<usize>,
     /// How many newlines there are up to the end of each.
-    pub(crate) lines: Vec<usize>,
+    pub(crate) newlines: Vec<usize>,
     /// Chunks for those that come.
     pub(crate) spare: Vec<Chunk>,
     /// Room for the bytes around an edit in the chunks that give way. It is empty between calls.
@@ -34,9 +34,9 @@ pub struct Buffer {
     ghost full: { AreFull chunks.items },
     ghost small: { length (joined chunks.items) ≤ limit },
     ghost end_count: { length ends.items ≡ length chunks.items },
-    ghost line_count: { length lines.items ≡ length chunks.items },
+    ghost newline_count: { length newlines.items ≡ length chunks.items },
     ghost all_ends: { HasSums ends_of chunks.items (length chunks.items) ends.items },
-    ghost all_lines: { HasSums lines_of chunks.items (length chunks.items) lines.items },
+    ghost all_newlines: { HasSums newlines_of chunks.items (length chunks.items) newlines.items },
     ghost no_seam: { length seam.items ≡ 0 },
 }
 
@@ -51,7 +51,7 @@ impl Buffer {
             alloc,
             chunks: Vec::new(alloc),
             ends: Vec::new(alloc),
-            lines: Vec::new(alloc),
+            newlines: Vec::new(alloc),
             spare: Vec::new(alloc),
             seam: Vec::new(alloc),
         }
@@ -71,14 +71,14 @@ impl Buffer {
         may_be_text(bytes)?;
         let chunks = cut(alloc, bytes)?;
         let mut ends = Vec::with_capacity(alloc, chunks.len())?;
-        let mut lines = Vec::with_capacity(alloc, chunks.len())?;
+        let mut newlines = Vec::with_capacity(alloc, chunks.len())?;
         let seam = Vec::with_capacity(alloc, SEAM)?;
-        add_up_anew(&chunks, 0, 0, chunks.len(), &mut ends, &mut lines);
+        add_up_anew(&chunks, 0, 0, chunks.len(), &mut ends, &mut newlines);
         Ok(Buffer {
             alloc,
             chunks,
             ends,
-            lines,
+            newlines,
             spare: Vec::new(alloc),
             seam,
         })
@@ -114,7 +114,7 @@ impl Buffer {
 
     /// The bytes of a chunk from an offset on.
     #[inline]
-    fn piece(&self, at: usize) -> &[u8]
+    fn stretch(&self, at: usize) -> &[u8]
         requires { at < length (buffer_bytes self.now) }
         ensures run { IsRun (buffer_bytes self.now) at result.now }
         ensures few { length result.now ≤ most }
@@ -146,7 +146,11 @@ impl Source for Buffer {
         ensures run { IsRun (buffer_bytes self.now) at result.now }
         ensures few { length result.now ≤ most }
     {
-        if at < self.len() { self.piece(at) } else { &[] }
+        if at < self.len() {
+            self.stretch(at)
+        } else {
+            &[]
+        }
     }
 }
 

@@ -3,9 +3,9 @@
 ghost use Rattle.std.specs.Prelude.{◌≡◌, ◌≤◌, count_by, length};
 ghost use Rattle.shtext.specs.Text.{is_newline};
 
-/// The bytes of a row: so few that a `u8` counts its newlines, and as many as fill the
+/// The bytes of a row, a lane each: so few that a `u8` counts its newlines, and as many as fill the
 /// registers of a processor some times.
-const ROW: usize = 192;
+const LANES: usize = 192;
 
 /// How many newlines a row has.
 fn newlines_in_row(row: &[u8]) -> u8
@@ -28,9 +28,9 @@ pub fn newlines_in(bytes: &[u8]) -> usize
     let mut newlines = 0;
     let mut rest = bytes;
     'rows: while !rest.is_empty() {
-        let (row, behind) = rest.split_at(rest.len().min(ROW));
+        let (row, after) = rest.split_at(rest.len().min(LANES));
         newlines += newlines_in_row(row) as usize;
-        rest = behind;
+        rest = after;
     }
     newlines
 }

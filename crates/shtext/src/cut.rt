@@ -39,10 +39,10 @@ pub(crate) fn cut(alloc: Global, bytes: &[u8]) -> Result<Vec<Chunk>, AllocError>
     let mut chunks = Vec::with_capacity(alloc, chunks_for(bytes.len()))?;
     let mut rest = bytes;
     'chunks: while !rest.is_empty() {
-        let (front, behind) = rest.split_at(rest.len().min(CHUNK));
+        let (front, after) = rest.split_at(rest.len().min(CHUNK));
         let chunk = Chunk::of(alloc, front)?;
         chunks.push(chunk)?;
-        rest = behind;
+        rest = after;
     }
     Ok(chunks)
 }

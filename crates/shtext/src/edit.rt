@@ -103,7 +103,7 @@ impl Buffer {
     {
         self.chunks.reserve(more)?;
         self.ends.reserve(more)?;
-        self.lines.reserve(more)?;
+        self.newlines.reserve(more)?;
         stock(self.alloc, &mut self.spare, more)?;
         self.seam.reserve(SEAM)
     }
@@ -115,7 +115,7 @@ impl Buffer {
         let wanted = self.chunks.len().saturating_add(more);
         wanted <= self.chunks.capacity()
             && wanted <= self.ends.capacity()
-            && wanted <= self.lines.capacity()
+            && wanted <= self.newlines.capacity()
             && more <= self.spare.len()
             && (self.chunks.is_empty() || SEAM <= self.seam.capacity())
     }
@@ -231,8 +231,8 @@ impl Buffer {
     {
         let (from, to) = (self.first_of(a), self.end_of(b));
         let before = a - self.begin(from);
-        let behind = self.begin(to) - b;
-        let len = before.saturating_add(count.saturating_add(behind));
+        let after = self.begin(to) - b;
+        let len = before.saturating_add(count.saturating_add(after));
         (from, self.end_taken(to, len))
     }
 
@@ -267,7 +267,7 @@ impl Buffer {
             to,
             count,
             &mut self.ends,
-            &mut self.lines,
+            &mut self.newlines,
         );
     }
 }
@@ -307,10 +307,10 @@ fn push_one<'a>(
         into.old.items ++ (take (splice.now.a - from) bytes.now ++ splice.now.bytes.now)) }
     ensures rest { IfOk result (λ rest. rest.now ≡ drop (splice.now.b - from) bytes.now) }
 {
-    let (before, behind) = (splice.a - from, splice.b - from);
+    let (before, after) = (splice.a - from, splice.b - from);
     into.extend_from_slice(&bytes[..before])?;
     into.extend_from_slice(splice.bytes)?;
-    Ok(&bytes[behind..])
+    Ok(&bytes[after..])
 }
 
 /// Where the first of some splices begins.

@@ -41,13 +41,13 @@ pub(crate) fn stand_at<S: Source>(source: &S, from: usize, bytes: &[u8]) -> bool
     let mut rest = bytes;
     'runs: while !rest.is_empty() {
         let run = source.run(at);
-        let (front, behind) = rest.split_at(run.len().min(rest.len()));
+        let (front, after) = rest.split_at(run.len().min(rest.len()));
         let is_same = run[..front.len()] == front[..];
         if !is_same {
             return false;
         }
         at += front.len();
-        rest = behind;
+        rest = after;
     }
     true
 }

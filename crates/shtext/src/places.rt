@@ -15,13 +15,13 @@ impl Buffer {
         ensures { result ≡ line_of (buffer_bytes self.now) at }
     {
         if at == self.len() {
-            return sum_before(&self.lines, self.chunks.len()) + 1;
+            return sum_before(&self.newlines, self.chunks.len()) + 1;
         }
         let index = self.find(at);
         let begin = self.begin(index);
         let chunk = &self.chunks[index];
         let before = newlines_in(chunk.bytes_to(at - begin));
-        sum_before(&self.lines, index) + before + 1
+        sum_before(&self.newlines, index) + before + 1
     }
 
     /// The offset at which a line begins. There is none for 0, nor after the last
@@ -33,14 +33,14 @@ impl Buffer {
             return if n == 0 { None } else { Some(0) };
         }
         let newline = n - 2;
-        if newline >= sum_before(&self.lines, self.chunks.len()) {
+        if newline >= sum_before(&self.newlines, self.chunks.len()) {
             return None;
         }
-        let index = place_of(&self.lines, newline);
+        let index = place_of(&self.newlines, newline);
         let chunk = &self.chunks[index];
         let bytes = chunk.bytes();
-        let behind = after_newline(bytes, newline - sum_before(&self.lines, index));
-        Some(self.begin(index) + behind)
+        let after = after_newline(bytes, newline - sum_before(&self.newlines, index));
+        Some(self.begin(index) + after)
     }
 
     /// The line and the column of an offset in bytes, which is at most the length.

@@ -2,7 +2,7 @@
 //! offset, or of a newline, is found in few steps.
 ghost use Rattle.std.specs.Prelude.{◌≡◌, ◌+◌, ◌-◌, ◌<◌, ◌≤◌, ℕ, drop, length, slice_index, take, vec_capacity, vec_len};
 ghost use Rattle.shtext.specs.Edit.{limit};
-ghost use Rattle.shtext.specs.Chunks.{HasSums, SumsOn, before, ends_of, joined, lines_of};
+ghost use Rattle.shtext.specs.Chunks.{HasSums, SumsOn, before, ends_of, joined, newlines_of};
 
 use crate::chunk::Chunk;
 use crate::items::take_out;
@@ -84,30 +84,30 @@ pub(crate) fn add_up_anew(
     to: usize,
     count: usize,
     ends: &mut Vec<usize>,
-    lines: &mut Vec<usize>,
+    newlines: &mut Vec<usize>,
 )
     requires order { from ≤ to }
     requires within { to ≤ vec_len ends.old }
     requires count { vec_len ends.old + count ≡ length chunks.now + (to - from) }
-    requires lines_count { vec_len lines.old ≡ vec_len ends.old }
+    requires newlines_count { vec_len newlines.old ≡ vec_len ends.old }
     requires small { length (joined chunks.now) ≤ limit }
     requires ends { HasSums ends_of chunks.now from ends.old.items }
-    requires lines { HasSums lines_of chunks.now from lines.old.items }
+    requires newlines { HasSums newlines_of chunks.now from newlines.old.items }
     requires ends_on { let on = SumsOn ends_of (drop (from + count) chunks.now) in
         on (before ends.old.items to) (drop to ends.old.items) }
-    requires lines_on { let on = SumsOn lines_of (drop (from + count) chunks.now) in
-        on (before lines.old.items to) (drop to lines.old.items) }
+    requires newlines_on { let on = SumsOn newlines_of (drop (from + count) chunks.now) in
+        on (before newlines.old.items to) (drop to newlines.old.items) }
     requires end_room { length chunks.now ≤ vec_capacity ends.old }
-    requires line_room { length chunks.now ≤ vec_capacity lines.old }
+    requires newline_room { length chunks.now ≤ vec_capacity newlines.old }
     ensures end_count { vec_len ends.new ≡ length chunks.now }
-    ensures line_count { vec_len lines.new ≡ length chunks.now }
+    ensures newline_count { vec_len newlines.new ≡ length chunks.now }
     ensures ends { HasSums ends_of chunks.now (length chunks.now) ends.new.items }
-    ensures lines { HasSums lines_of chunks.now (length chunks.now) lines.new.items }
+    ensures newlines { HasSums newlines_of chunks.now (length chunks.now) newlines.new.items }
 {
-    let went = (sum_before(ends, to), sum_before(lines, to));
+    let went = (sum_before(ends, to), sum_before(newlines, to));
     make_sums(ends, from, to, count);
-    make_sums(lines, from, to, count);
-    add_up_between(chunks, from, from + count, went, ends, lines);
+    make_sums(newlines, from, to, count);
+    add_up_between(chunks, from, from + count, went, ends, newlines);
 }
 
 /// Has so many sums stand in the place of those from `from` up to `to`. What they are is
@@ -150,53 +150,53 @@ fn add_up_between(
     to: usize,
     went: (usize, usize),
     ends: &mut [usize],
-    lines: &mut [usize],
+    newlines: &mut [usize],
 )
     requires order { from ≤ to }
     requires within { to ≤ length chunks.now }
     requires small { length (joined chunks.now) ≤ limit }
     requires end_count { length ends.old ≡ length chunks.now }
-    requires line_count { length lines.old ≡ length chunks.now }
+    requires newline_count { length newlines.old ≡ length chunks.now }
     requires ends { HasSums ends_of chunks.now from ends.old }
-    requires lines { HasSums lines_of chunks.now from lines.old }
+    requires newlines { HasSums newlines_of chunks.now from newlines.old }
     requires ends_on { SumsOn ends_of (drop to chunks.now) went.0 (drop to ends.old) }
-    requires lines_on { SumsOn lines_of (drop to chunks.now) went.1 (drop to lines.old) }
+    requires newlines_on { SumsOn newlines_of (drop to chunks.now) went.1 (drop to newlines.old) }
     ensures end_count { length ends.new ≡ length chunks.now }
-    ensures line_count { length lines.new ≡ length chunks.now }
+    ensures newline_count { length newlines.new ≡ length chunks.now }
     ensures ends { HasSums ends_of chunks.now (length chunks.now) ends.new }
-    ensures lines { HasSums lines_of chunks.now (length chunks.now) lines.new }
+    ensures newlines { HasSums newlines_of chunks.now (length chunks.now) newlines.new }
 {
-    sum_between(chunks, from, to, ends, lines);
-    let (end, line) = (sum_before(ends, to), sum_before(lines, to));
+    sum_between(chunks, from, to, ends, newlines);
+    let (end, line) = (sum_before(ends, to), sum_before(newlines, to));
     move_sums(&mut ends[to..], went.0, end);
-    move_sums(&mut lines[to..], went.1, line);
+    move_sums(&mut newlines[to..], went.1, line);
 }
 
 /// Adds the sums up of the chunks from `from` up to `to`.
-fn sum_between(chunks: &[Chunk], from: usize, to: usize, ends: &mut [usize], lines: &mut [usize])
+fn sum_between(chunks: &[Chunk], from: usize, to: usize, ends: &mut [usize], newlines: &mut [usize])
     requires order { from ≤ to }
     requires within { to ≤ length chunks.now }
     requires small { length (joined chunks.now) ≤ limit }
     requires end_count { length ends.old ≡ length chunks.now }
-    requires line_count { length lines.old ≡ length chunks.now }
+    requires newline_count { length newlines.old ≡ length chunks.now }
     requires ends { HasSums ends_of chunks.now from ends.old }
-    requires lines { HasSums lines_of chunks.now from lines.old }
+    requires newlines { HasSums newlines_of chunks.now from newlines.old }
     ensures end_count { length ends.new ≡ length ends.old }
-    ensures line_count { length lines.new ≡ length lines.old }
+    ensures newline_count { length newlines.new ≡ length newlines.old }
     ensures ends { HasSums ends_of chunks.now to ends.new }
-    ensures lines { HasSums lines_of chunks.now to lines.new }
+    ensures newlines { HasSums newlines_of chunks.now to newlines.new }
     ensures ends_after { drop to ends.new ≡ drop to ends.old }
-    ensures lines_after { drop to lines.new ≡ drop to lines.old }
+    ensures newlines_after { drop to newlines.new ≡ drop to newlines.old }
 {
     let mut end = sum_before(ends, from);
-    let mut line = sum_before(lines, from);
+    let mut line = sum_before(newlines, from);
     let mut index = from;
     'chunks: while index < to {
         let chunk = &chunks[index];
         end += chunk.len();
         line += chunk.newlines();
         ends[index] = end;
-        lines[index] = line;
+        newlines[index] = line;
         index += 1;
     }
 }

@@ -21,17 +21,17 @@ chunks-preserved c =
     let inv = c.chunks.invariant in
     let rest = c.chunks.rest.now in
     let front = c.split_at.result.0.now in
-    let behind = c.split_at.result.1.now in
+    let after = c.split_at.result.1.now in
     let ks = c.chunks.chunks.items in
     let made = ap joined c.in_ok-push.ensures.items ∙ joined_push ks c.in_ok-chunk.chunk
     ∙ ap (λ k. joined ks ++ k) c.in_ok-chunk.ensures in
-    let both : front ++ behind ≡ rest = ap (λ l. l ++ behind) c.split_at.ensures.front
+    let both : front ++ after ≡ rest = ap (λ l. l ++ after) c.split_at.ensures.front
     ∙ ap (λ l. take c.min.result rest ++ l) c.split_at.ensures.back ∙ take-append-drop c.min.result rest in
     let some : 1 ≤ length rest = grind (arith, c.is_empty.ensures, c.chunks-test.true) in
     let long = ap length c.in_ok-chunk.ensures in
     let all : Each NotSmall ks = inv.some some in
     record {
-      bytes = ap (λ l. l ++ behind) made ∙ append_assoc (joined ks) front behind ∙ ap (λ l. joined ks ++ l) both
+      bytes = ap (λ l. l ++ after) made ∙ append_assoc (joined ks) front after ∙ ap (λ l. joined ks ++ l) both
           ∙ inv.bytes;
       each = subst (EachHas 1) (sym c.in_ok-push.ensures.items)
           (each_push (λ (k : List ℕ). (1 ≤ length k) × (length k ≤ most)) ks c.in_ok-chunk.chunk inv.each (

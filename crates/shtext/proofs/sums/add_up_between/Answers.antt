@@ -3,11 +3,11 @@ use Rattle.std.proofs.lemmas.List.{get_or_append_left, take_rest}
 use borrow.Rule.Slice.PartMut.{post_of}
 use Rattle.std.proofs.lemmas.List.Sums.{count_by-le-length}
 use Rattle.shtext.specs.Text.{is_newline}
-use Rattle.shtext.specs.Chunks.{ends_of, joined, lines_of}
+use Rattle.shtext.specs.Chunks.{ends_of, joined, newlines_of}
 use Rattle.shtext.specs.Edit.{limit}
 use Rattle.shtext.proofs.Joined.{joined_low}
 use Rattle.shtext.proofs.Moving.{sum_low, sum_moved, sums_moved}
-use Rattle.shtext.proofs.Summing.{lines_append}
+use Rattle.shtext.proofs.Summing.{newlines_append}
 use Rattle.shtext.proofs.sums.add_up_between.Goals as goal
 
 pub move_sums-requires-clause-low : goal.move_sums-requires-clause-low
@@ -33,22 +33,24 @@ move_sums-requires-clause-high c =
 
 pub move_sums-requires-2-clause-low : goal.move_sums-requires-2-clause-low
 move_sums-requires-2-clause-low c =
-    let mid : List ℕ = c.sum_between.new.lines in
+    let mid : List ℕ = c.sum_between.new.newlines in
     subst (λ (l : List ℕ). (n : ℕ) → n < length l → c.args.went.1 ≤ get_or l n 0) (sym (take_rest mid c.args.to))
-    (sum_low lines_of c.args.chunks.now (drop c.args.to c.args.lines.now) mid c.args.to c.args.went.1 c.requires.within
-    (c.sum_between.ensures.line_count ∙ c.requires.line_count)
-    c.sum_between.ensures.lines_after c.requires.lines_on)
+    (sum_low newlines_of c.args.chunks.now
+    (drop c.args.to c.args.newlines.now) mid c.args.to c.args.went.1 c.requires.within
+    (c.sum_between.ensures.newline_count ∙ c.requires.newline_count)
+    c.sum_between.ensures.newlines_after c.requires.newlines_on)
 
 pub move_sums-requires-2-clause-high : goal.move_sums-requires-2-clause-high
 move_sums-requires-2-clause-high c =
     let ks : Row (List ℕ) = c.args.chunks.now in
-    let mid : List ℕ = c.sum_between.new.lines in
+    let mid : List ℕ = c.sum_between.new.newlines in
     let came : ℕ = c.sum_before-line.result in
     subst (λ (l : List ℕ). (n : ℕ) → n < length l → get_or l n 0 - c.args.went.1 + came ≤ limit)
     (sym (take_rest mid c.args.to)) (λ n low.
-    let moved = sum_moved lines_of ks (drop c.args.to c.args.lines.now) mid c.args.to c.args.went.1 c.requires.within
-    (c.sum_between.ensures.line_count ∙ c.requires.line_count)
-    c.sum_between.ensures.lines_after c.requires.lines_on lines_append c.sum_between.ensures.lines came
+    let moved = sum_moved newlines_of ks
+    (drop c.args.to c.args.newlines.now) mid c.args.to c.args.went.1 c.requires.within
+    (c.sum_between.ensures.newline_count ∙ c.requires.newline_count)
+    c.sum_between.ensures.newlines_after c.requires.newlines_on newlines_append c.sum_between.ensures.newlines came
     c.sum_before-line.ensures n low in
     let few = count_by-le-length is_newline (joined (take (c.args.to + (n + 1)) ks)) in
     omega (arith, moved, few, joined_low (c.args.to + (n + 1)) ks, c.requires.small))
@@ -71,19 +73,19 @@ returns-clause-ends c =
     get_or_append_left moved back 0 n (omega (arith, long, low, c.move_sums.ensures.count))
     ∙ c.move_sums.ensures.moved n (omega (arith, long, low)) ∙ ap (λ l. get_or l n 0 - c.args.went.0 + came) rest)
 
-pub returns-clause-lines : goal.returns-clause-lines
-returns-clause-lines c =
+pub returns-clause-newlines : goal.returns-clause-newlines
+returns-clause-newlines c =
     let ks : Row (List ℕ) = c.args.chunks.now in
     let to : ℕ = c.args.to in
-    let mid : List ℕ = c.sum_between.new.lines in
+    let mid : List ℕ = c.sum_between.new.newlines in
     let moved : List ℕ = c.move_sums-2.new.sums in
     let back : List ℕ = post_of to (length mid - to) mid in
     let came : ℕ = c.sum_before-line.result in
     let rest = take_rest mid to in
     let long = ap length rest in
-    sums_moved lines_of ks (drop to c.args.lines.now) mid to c.args.went.1 c.requires.within
-    (c.sum_between.ensures.line_count ∙ c.requires.line_count)
-    c.sum_between.ensures.lines_after c.requires.lines_on lines_append c.sum_between.ensures.lines came
+    sums_moved newlines_of ks (drop to c.args.newlines.now) mid to c.args.went.1 c.requires.within
+    (c.sum_between.ensures.newline_count ∙ c.requires.newline_count)
+    c.sum_between.ensures.newlines_after c.requires.newlines_on newlines_append c.sum_between.ensures.newlines came
     c.sum_before-line.ensures
     (take to mid ++ (moved ++ back)) (moved ++ back) refl (λ n low.
     get_or_append_left moved back 0 n (omega (arith, long, low, c.move_sums-2.ensures.count))

@@ -4,7 +4,7 @@ use Rattle.std.proofs.lemmas.List.Sums.{count_by-le-length}
 use Rattle.shtext.specs.Text.{is_newline}
 use Rattle.shtext.specs.Chunks.{joined}
 use Rattle.shtext.proofs.Joined.{joined_low, joined_more}
-use Rattle.shtext.proofs.Summing.{lines_append, sums_set}
+use Rattle.shtext.proofs.Summing.{newlines_append, sums_set}
 use Rattle.shtext.proofs.sums.sum_between.Goals as goal
 
 pub overflow_add-end : goal.overflow_add-end
@@ -24,7 +24,7 @@ overflow_add-line c =
     let k : List ℕ = c.index-chunks-index.result in
     let within : n < length ks = omega (arith, c.chunks-test.true, c.requires.within) in
     let more = ap (count_by is_newline) (joined_more n ks k within c.index-chunks-index.is) in
-    let long = lines_append (joined (take n ks)) k in
+    let long = newlines_append (joined (take n ks)) k in
     let few = count_by-le-length is_newline (joined (take (n + 1) ks)) in
     omega (
       arith,
@@ -46,13 +46,14 @@ chunks-preserved c =
     let within : n < length ks = omega (arith, c.chunks-test.true, c.requires.within) in
     let is = joined_more n ks k within c.index-chunks-index.is in
     let ends = ap length is ∙ length-append (joined (take n ks)) k in
-    let lines = ap (count_by is_newline) is ∙ lines_append (joined (take n ks)) k in
+    let newlines = ap (count_by is_newline) is ∙ newlines_append (joined (take n ks)) k in
     let now_end : c.chunks.«end» + c.len-end.result ≡ length (joined (take (n + 1) ks)) =
     omega (arith, ends, c.len-end.ensures.len, inv.«end») in
     let now_line : c.chunks.line + c.newlines-line.result ≡ count_by is_newline (joined (take (n + 1) ks)) =
-    omega (arith, lines, c.newlines-line.ensures, inv.line) in
+    omega (arith, newlines, c.newlines-line.ensures, inv.line) in
     let few_ends : n < length c.chunks.ends = omega (arith, within, c.chunks.auto.ends, c.requires.end_count) in
-    let few_lines : n < length c.chunks.lines = omega (arith, within, c.chunks.auto.lines, c.requires.line_count) in
+    let few_newlines : n < length c.chunks.newlines =
+    omega (arith, within, c.chunks.auto.newlines, c.requires.newline_count) in
     record {
       low = omega (arith, inv.low);
       high = omega (arith, c.chunks-test.true);
@@ -60,10 +61,11 @@ chunks-preserved c =
       line = now_line;
       ends = sums_set (λ m. length (joined (take m ks))) c.chunks.ends n
           (c.chunks.«end» + c.len-end.result) few_ends inv.ends now_end;
-      lines = sums_set (λ m. count_by is_newline (joined (take m ks))) c.chunks.lines n
-          (c.chunks.line + c.newlines-line.result) few_lines inv.lines now_line;
+      newlines = sums_set (λ m. count_by is_newline (joined (take m ks))) c.chunks.newlines n
+          (c.chunks.line + c.newlines-line.result) few_newlines inv.newlines now_line;
       ends_after = drop-set-lt c.args.to c.chunks.ends n (c.chunks.«end» + c.len-end.result) c.chunks-test.true
           ∙ inv.ends_after;
-      lines_after = drop-set-lt c.args.to c.chunks.lines n (c.chunks.line + c.newlines-line.result) c.chunks-test.true
-          ∙ inv.lines_after;
+      newlines_after = drop-set-lt c.args.to c.chunks.newlines n
+          (c.chunks.line + c.newlines-line.result) c.chunks-test.true
+          ∙ inv.newlines_after;
     }

@@ -1,5 +1,5 @@
 use Rattle.std.proofs.Common.{◌-◌, ◌≡◌, ◌≤◌, drop, take}
-use Rattle.shtext.specs.Chunks.{HasSums, ends_of, joined, lines_of}
+use Rattle.shtext.specs.Chunks.{HasSums, ends_of, joined, newlines_of}
 use Rattle.shtext.proofs.sums.sum_between.Given as goal
 
 abbrev pub invariant-chunks : goal.invariant-chunks
@@ -7,11 +7,11 @@ invariant-chunks l = record {
   low : l.from ≤ l.index;
   high : l.index ≤ l.to;
   «end» : l.end ≡ ends_of (joined (take l.index l.chunks));
-  line : l.line ≡ lines_of (joined (take l.index l.chunks));
+  line : l.line ≡ newlines_of (joined (take l.index l.chunks));
   ends : HasSums ends_of l.chunks l.index l.ends;
-  lines : HasSums lines_of l.chunks l.index l.lines;
+  newlines : HasSums newlines_of l.chunks l.index l.newlines;
   ends_after : drop l.to l.ends ≡ drop l.to l.initial.ends;
-  lines_after : drop l.to l.lines ≡ drop l.to l.initial.lines;
+  newlines_after : drop l.to l.newlines ≡ drop l.to l.initial.newlines;
 }
 
 abbrev pub decreases-chunks : goal.decreases-chunks

@@ -9,7 +9,7 @@ returns c = λ len ss bytes long told.
     let s : ASplice = record { a = c.args.a; b = c.args.b; bytes = bytes } in
     let inside = Decides-like c.is_inside.result (λ is. (is.0, omega (arith, is.1, told.text)))
     (λ is. (is.0, omega (arith, is.1, told.text))) c.is_inside.ensures in
-    let behind = Decides-like _ (λ is. omega (arith, is, told.last)) (λ is. omega (arith, is, told.last))
+    let after = Decides-like _ (λ is. omega (arith, is, told.last)) (λ is. omega (arith, is, told.last))
     (leb-true c.args.self.now.last c.args.a, le-leb c.args.self.now.last c.args.a) in
     record {
       text = told.text;
@@ -27,5 +27,5 @@ returns c = λ len ss bytes long told.
       in_range = Decides-like _ (in_range_more len ss s).0 (in_range_more len ss s).1
           (Decides-and c.args.self.now.is_in_range c.is_inside.result told.in_range inside);
       rising = Decides-like _ (rise_more 0 ss s).0 (rise_more 0 ss s).1
-          (Decides-and c.args.self.now.is_rising _ told.rising behind);
+          (Decides-and c.args.self.now.is_rising _ told.rising after);
     }

@@ -15,7 +15,7 @@ returns-then-saturating_add-gt-LIMIT-clause-err c bytes ss told =
         told.text,
         told.last,
         told.made,
-        c.saturating_sub-behind.ensures,
+        c.saturating_sub-after.ensures,
         c.saturating_add.ensures,
         c.if-saturating_add-gt-LIMIT.true,
       ),
@@ -35,7 +35,7 @@ returns-clause-ok c bytes ss told =
         told.text,
         told.last,
         told.made,
-        c.saturating_sub-behind.ensures,
+        c.saturating_sub-after.ensures,
         c.saturating_add.ensures,
         c.if-saturating_add-gt-LIMIT.false,
       );

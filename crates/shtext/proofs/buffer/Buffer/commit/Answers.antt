@@ -107,7 +107,7 @@ refill-requires-clause-room c =
     record {
       chunks = omega (arith, enough, room.chunks);
       ends = omega (arith, enough, room.ends);
-      lines = omega (arith, enough, room.lines);
+      newlines = omega (arith, enough, room.newlines);
       spare = omega (arith, enough, room.spare);
     }
 

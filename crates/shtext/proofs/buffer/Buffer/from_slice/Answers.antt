@@ -1,7 +1,7 @@
 use Rattle.std.proofs.Common.{◌≡◌, ◌≤◌, ◌+◌, ℕ, List, List as Row, [], ap, arith, length, refl, subst, ◌∙◌}
 use Rattle.std.proofs.lemmas.List.{append-nil}
 use Rattle.shtext.specs.Edit.{AreAllowed, limit, one_splice}
-use Rattle.shtext.specs.Chunks.{HasSums, joined, ends_of, lines_of}
+use Rattle.shtext.specs.Chunks.{HasSums, joined, ends_of, newlines_of}
 use Rattle.shtext.proofs.Moving.{sums_on_none}
 use Rattle.shtext.proofs.Summing.{sums_none}
 use Rattle.shtext.proofs.buffer.Buffer.from_slice.Goals as goal
@@ -16,17 +16,17 @@ add_up_anew-requires-clause-small c =
 pub add_up_anew-requires-clause-ends : goal.add_up_anew-requires-clause-ends
 add_up_anew-requires-clause-ends c = sums_none ends_of refl c.deref.result.now c.in_ok-ends.ends.items
 
-pub add_up_anew-requires-clause-lines : goal.add_up_anew-requires-clause-lines
-add_up_anew-requires-clause-lines c = sums_none lines_of refl c.deref.result.now c.in_ok-lines.lines.items
+pub add_up_anew-requires-clause-newlines : goal.add_up_anew-requires-clause-newlines
+add_up_anew-requires-clause-newlines c = sums_none newlines_of refl c.deref.result.now c.in_ok-newlines.newlines.items
 
 pub add_up_anew-requires-clause-ends_on : goal.add_up_anew-requires-clause-ends_on
 add_up_anew-requires-clause-ends_on c =
     sums_on_none ends_of c.deref.result.now 0 c.in_ok-ends.ends.items (0 + c.len-3.result)
     (omega (arith, c.len-3.ensures))
 
-pub add_up_anew-requires-clause-lines_on : goal.add_up_anew-requires-clause-lines_on
-add_up_anew-requires-clause-lines_on c =
-    sums_on_none lines_of c.deref.result.now 0 c.in_ok-lines.lines.items (0 + c.len-3.result)
+pub add_up_anew-requires-clause-newlines_on : goal.add_up_anew-requires-clause-newlines_on
+add_up_anew-requires-clause-newlines_on c =
+    sums_on_none newlines_of c.deref.result.now 0 c.in_ok-newlines.newlines.items (0 + c.len-3.result)
     (omega (arith, c.len-3.ensures))
 
 pub invariant_of-result : goal.invariant_of-result
@@ -40,10 +40,11 @@ invariant_of-result c =
       full = c.in_ok-chunks.ensures.full;
       small = omega (arith, small, ap length c.in_ok-chunks.ensures.bytes);
       end_count = omega (arith, count, c.add_up_anew.ensures.end_count);
-      line_count = omega (arith, count, c.add_up_anew.ensures.line_count);
+      newline_count = omega (arith, count, c.add_up_anew.ensures.newline_count);
       all_ends = subst (λ (ks : Row (List ℕ)). HasSums ends_of ks (length ks) c.add_up_anew.new.ends.items) value
           c.add_up_anew.ensures.ends;
       no_seam = ap length c.in_ok-seam.ensures.items;
-      all_lines = subst (λ (ks : Row (List ℕ)). HasSums lines_of ks (length ks) c.add_up_anew.new.lines.items) value
-          c.add_up_anew.ensures.lines;
+      all_newlines = subst (λ (ks : Row (List ℕ)). HasSums newlines_of ks (length ks) c.add_up_anew.new.newlines.items)
+          value
+          c.add_up_anew.ensures.newlines;
     }

@@ -31,5 +31,5 @@ returns c =
     let count = c.newlines_in-before.ensures ∙ ap (count_by is_newline) c.bytes_to.ensures in
     let sum : c.sum_before-2.result ≡ count_by is_newline X = c.sum_before-2.ensures
     ∙ ap (λ l. before l i) c.deref-2.ensures.value
-    ∙ c.args.self.now.all_lines i (omega (arith, c.find-index.ensures.within)) in
+    ∙ c.args.self.now.all_newlines i (omega (arith, c.find-index.ensures.within)) in
     omega (arith, line, here, count, sum)

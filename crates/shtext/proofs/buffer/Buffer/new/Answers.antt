@@ -1,5 +1,5 @@
 use Rattle.std.proofs.Common.{◌∙◌, arith, ap, length, refl}
-use Rattle.shtext.specs.Chunks.{ends_of, joined, lines_of}
+use Rattle.shtext.specs.Chunks.{ends_of, joined, newlines_of}
 use Rattle.shtext.proofs.Joined.{joined_nil}
 use Rattle.shtext.proofs.Summing.{sums_empty}
 use Rattle.shtext.proofs.buffer.Buffer.new.Goals as goal
@@ -10,14 +10,14 @@ invariant_of-result c =
     let text = ap (λ ks. length (joined ks)) none ∙ ap length joined_nil in
     let count = ap length none in
     let ends = ap length c.new-2.ensures.items in
-    let lines = ap length c.new-3.ensures.items in
+    let newlines = ap length c.new-3.ensures.items in
     record {
       each = λ n low. absurd (omega (arith, low, count));
       full = λ n low. absurd (omega (arith, low, count));
       small = omega (arith, text);
       end_count = omega (arith, count, ends);
-      line_count = omega (arith, count, lines);
+      newline_count = omega (arith, count, newlines);
       all_ends = sums_empty ends_of refl c.new.result.items c.new-2.result.items none;
       no_seam = ap length c.new-5.ensures.items;
-      all_lines = sums_empty lines_of refl c.new.result.items c.new-3.result.items none;
+      all_newlines = sums_empty newlines_of refl c.new.result.items c.new-3.result.items none;
     }

@@ -1,8 +1,8 @@
 use Rattle.std.proofs.Common.{◌≤◌, ℕ, List, List as Row, length, arith, ap, subst, ◌∙◌, length-append}
-use Rattle.shtext.specs.Chunks.{HasSums, ends_of, joined, lines_of, needed}
+use Rattle.shtext.specs.Chunks.{HasSums, ends_of, joined, newlines_of, needed}
 use Rattle.shtext.proofs.Filled.{refilled_bytes, refilled_each, refilled_full}
 use Rattle.shtext.proofs.Moving.{sums_stay}
-use Rattle.shtext.proofs.Summing.{lines_append}
+use Rattle.shtext.proofs.Summing.{newlines_append}
 use Rattle.shtext.proofs.buffer.Buffer.refill.Goals as goal
 
 pub add_up_anew-requires-clause-small : goal.add_up_anew-requires-clause-small
@@ -23,13 +23,13 @@ add_up_anew-requires-clause-ends_on g c =
     (omega (arith, c.requires.within, ok.0)) c.args.self.now.all_ends c.deref.ensures.value
     (c.chunks_for-count.ensures ∙ ap needed c.len.ensures)
 
-pub add_up_anew-requires-clause-lines_on : goal.add_up_anew-requires-clause-lines_on
-add_up_anew-requires-clause-lines_on g c =
+pub add_up_anew-requires-clause-newlines_on : goal.add_up_anew-requires-clause-newlines_on
+add_up_anew-requires-clause-newlines_on g c =
     let ok = c.args.self.now.chunks.ok in
-    sums_stay lines_of lines_append c.args.self.now.chunks.items c.fill_anew.new.chunks.items c.deref.result.now
+    sums_stay newlines_of newlines_append c.args.self.now.chunks.items c.fill_anew.new.chunks.items c.deref.result.now
     c.args.from c.args.to c.chunks_for-count.result (g.S.Source.bytes c.args.source.now)
-    c.args.self.now.lines.items c.fill_anew.ensures c.requires.order
-    (omega (arith, c.requires.within, ok.0)) c.args.self.now.all_lines c.deref.ensures.value
+    c.args.self.now.newlines.items c.fill_anew.ensures c.requires.order
+    (omega (arith, c.requires.within, ok.0)) c.args.self.now.all_newlines c.deref.ensures.value
     (c.chunks_for-count.ensures ∙ ap needed c.len.ensures)
 
 pub invariant_of-self : goal.invariant_of-self
@@ -43,19 +43,20 @@ invariant_of-self g c =
     let within : c.args.to ≤ length ks = omega (arith, c.requires.within) in
     let all = ap length (refilled_bytes ks js c.args.from c.args.to bytes is) in
     let ok_ends = c.add_up_anew.new.ends.ok in
-    let ok_lines = c.add_up_anew.new.lines.ok in
+    let ok_newlines = c.add_up_anew.new.newlines.ok in
     record {
       each = refilled_each ks js c.args.from c.args.to bytes is c.args.self.now.each;
       full = refilled_full ks js c.args.from c.args.to bytes is c.requires.order within c.requires.full
           c.args.self.now.full;
       small = omega (arith, all, c.requires.small);
       end_count = omega (arith, count, ok_ends.0, c.add_up_anew.ensures.end_count);
-      line_count = omega (arith, count, ok_lines.0, c.add_up_anew.ensures.line_count);
+      newline_count = omega (arith, count, ok_newlines.0, c.add_up_anew.ensures.newline_count);
       all_ends = subst (λ (l : Row (List ℕ)). HasSums ends_of l (length l) c.add_up_anew.new.ends.items) value
           c.add_up_anew.ensures.ends;
       no_seam = c.args.self.now.no_seam;
-      all_lines = subst (λ (l : Row (List ℕ)). HasSums lines_of l (length l) c.add_up_anew.new.lines.items) value
-          c.add_up_anew.ensures.lines;
+      all_newlines = subst (λ (l : Row (List ℕ)). HasSums newlines_of l (length l) c.add_up_anew.new.newlines.items)
+          value
+          c.add_up_anew.ensures.newlines;
     }
 
 pub returns : goal.returns

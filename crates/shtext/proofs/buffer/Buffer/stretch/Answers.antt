@@ -3,7 +3,7 @@ use Rattle.shtext.specs.Chunks.{joined}
 use Rattle.shtext.specs.Text.{IsRun}
 use Rattle.shtext.proofs.Joined.{joined_around, joined_more}
 use Rattle.shtext.proofs.Runs.{run_within}
-use Rattle.shtext.proofs.buffer.Buffer.piece.Goals as goal
+use Rattle.shtext.proofs.buffer.Buffer.stretch.Goals as goal
 
 pub bytes_from-requires : goal.bytes_from-requires
 bytes_from-requires c =
