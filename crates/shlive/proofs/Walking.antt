@@ -59,23 +59,23 @@ module _ (row left : Row (HeldLine AKind)) (begin : ℕ) (l : HeldLine AKind) (r
 
 -- ---- the line that holds a byte
 
-high_by : (edition : Edition) (B : List ℕ) (at : ℕ) (l : HeldLine AKind) (before behind : Row (HeldLine AKind)) →
-    IsRow (IsHeldLine edition) B (before ++ l ∷ behind) → at < length B →
-    ((behind ≡ [] → ⊥) → at < extent before + l.len) → at < extent before + l.len
+high_by : (edition : Edition) (B : List ℕ) (at : ℕ) (l : HeldLine AKind) (before after : Row (HeldLine AKind)) →
+    IsRow (IsHeldLine edition) B (before ++ l ∷ after) → at < length B →
+    ((after ≡ [] → ⊥) → at < extent before + l.len) → at < extent before + l.len
 high_by edition B at l before [] is lt past = let whole =
     last_at edition B before l (row_top edition B (before ++ l ∷ []) is) in omega (arith, whole, lt)
 high_by edition B at l before (k ∷ ks) is lt past = past (λ e. absurd cc)
 
 module _ (edition : Edition) (B : List ℕ) (row : Row (HeldLine AKind)) (at : ℕ) (l : HeldLine AKind) (begin : ℕ)
     (is : IsRow (IsHeldLine edition) B row) (so : HasLineAt row at l begin) where
-  pub line_there : IsRow (IsHeldLine edition) B (so.before ++ l ∷ so.behind)
+  pub line_there : IsRow (IsHeldLine edition) B (so.before ++ l ∷ so.after)
   line_there = subst (IsRow (IsHeldLine edition) B) so.row is
 
   pub line_low : extent so.before ≤ at
   line_low = subst (λ n. n ≤ at) so.begins so.low
 
   pub line_high : at < length B → at < extent so.before + l.len
-  line_high lt = high_by edition B at l so.before so.behind line_there lt
+  line_high lt = high_by edition B at l so.before so.after line_there lt
       (λ some. subst (λ n. at < n + l.len) so.begins (so.past some))
 
 -- ---- what a line has

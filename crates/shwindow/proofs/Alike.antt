@@ -1,7 +1,7 @@
 -- Two readers that have the same lines that ended: then they have the same boundaries and windows.
 use Rattle.std.proofs.Common.{◌≡◌, ℕ, true, List}
 use Rattle.shwindow.specs.declared.line.HeldLine.{HeldLine}
-use Rattle.shwindow.specs.Lines.{IsBoundary, at_start, behind}
+use Rattle.shwindow.specs.Lines.{IsBoundary, at_start, at_end_of}
 use Rattle.shwindow.specs.Window.{Begins, Ends, IsShared, IsWindow, meets, never}
 
 module _ {K : Type 0} where
@@ -11,8 +11,8 @@ module _ {K : Type 0} where
   pub same_boundary : (Is Js : List ℕ → HeldLine K → Type 0) → HasEnded Is Js → (B : List ℕ) (p : ℕ) → IsBoundary Is B p
       → IsBoundary Js B p
   same_boundary Is Js to B _ at_start = at_start
-  same_boundary Is Js to B _ (behind {p = p} {l = l} so is ended) =
-      behind (same_boundary Is Js to B p so) (to _ l is ended) ended
+  same_boundary Is Js to B _ (at_end_of {p = p} {l = l} so is ended) =
+      at_end_of (same_boundary Is Js to B p so) (to _ l is ended) ended
 
   module _ (Is Js : List ℕ → HeldLine K → Type 0) (to : HasEnded Is Js) (back : HasEnded Js Is) (B U : List ℕ) where
     same_begins : (a w : ℕ) → Begins Is B a w → Begins Js B a w

@@ -3,7 +3,7 @@ use Rattle.std.proofs.Common.{◌≡◌, ℕ, zero, suc, ◌+◌, ◌<◌, ◌�
 use Rattle.std.proofs.lemmas.Bool.{cases_order}
 use Rattle.std.proofs.lemmas.List.{length-drop, drop-take, take-take}
 use Rattle.shwindow.specs.declared.line.HeldLine.{HeldLine}
-use Rattle.shwindow.specs.Lines.{Reads, IsBoundary, at_start, behind}
+use Rattle.shwindow.specs.Lines.{Reads, IsBoundary, at_start, at_end_of}
 
 -- two texts with the same first a bytes have the same n bytes from p on
 pub same_part : (B U : List ℕ) (a p n : ℕ) → take a U ≡ take a B → p + n ≤ a → take n (drop p U) ≡ take n (drop p B)
@@ -19,14 +19,14 @@ module _ {K : Type 0} (Is : List ℕ → HeldLine K → Type 0) (laws : Reads Is
 
   pub boundary_within : (B : List ℕ) (s : ℕ) → IsBoundary Is B s → s ≤ length B
   boundary_within B _ at_start = omega arith
-  boundary_within B _ (behind {p = p} {l = l} at is e) = line_within B p l (boundary_within B p at) is e
+  boundary_within B _ (at_end_of {p = p} {l = l} at is e) = line_within B p l (boundary_within B p at) is e
 
   -- no boundary lies inside a line: the next one is after it, and only if it ended
   gap_by : (B : List ℕ) (n p s : ℕ) (l : HeldLine K) → p + s < n → IsBoundary Is B p → IsBoundary Is B s → p < s →
       Is (drop p B) l → (l.ended ≡ true) × (p + l.len ≤ s)
   gap_by B zero p s l low at_p at_s lt is = absurd (omega arith)
   gap_by B (suc n) p _ l low at_p at_start lt is = absurd (omega arith)
-  gap_by B (suc n) p _ l low at_p (behind {p = s} {l = m} at_s is_m e) lt is =
+  gap_by B (suc n) p _ l low at_p (at_end_of {p = s} {l = m} at_s is_m e) lt is =
       let onward = laws.onward (drop s B) m is_m e in
       ⊎_elim (λ (same : p ≡ s).
       let one : l ≡ m = laws.only (drop s B) l m (subst (λ x. Is (drop x B) l) same is) is_m in
@@ -50,5 +50,5 @@ module _ {K : Type 0} (Is : List ℕ → HeldLine K → Type 0) (laws : Reads Is
     -- a boundary not after a
     pub boundary_stays : (s : ℕ) → IsBoundary Is B s → s ≤ a → IsBoundary Is U s
     boundary_stays _ at_start low = at_start
-    boundary_stays _ (behind {p = p} {l = l} at is e) low =
-        behind (boundary_stays p at (omega arith)) (line_stays p l is e low) e
+    boundary_stays _ (at_end_of {p = p} {l = l} at is e) low =
+        at_end_of (boundary_stays p at (omega arith)) (line_stays p l is e low) e

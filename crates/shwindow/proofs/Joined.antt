@@ -229,10 +229,10 @@ pub cut_joined : {X : Type 0} (ks : Row (Row X)) (p : BlockPlace) (k l : Row X) 
     (in_one_row (take (p.block + 1) new) ≡ lines_before ks p)
     × (in_one_row (drop (p.block + 1) new) ≡ lines_from ks p)
 unfolding in_one_row
-cut_joined ks p k l low before behind new is =
+cut_joined ks p k l low before after new is =
     let parts = cut_parts ks p.block k l low new is in (
       ap in_one_row parts.0 ∙ joined_push (take p.block ks) k ∙ ap (λ x. in_one_row (take p.block ks) ++ x) before,
-      ap in_one_row parts.1 ∙ ap (λ x. x ++ in_one_row (drop (p.block + 1) ks)) behind,
+      ap in_one_row parts.1 ∙ ap (λ x. x ++ in_one_row (drop (p.block + 1) ks)) after,
     )
 
 -- no line changes

@@ -107,8 +107,8 @@ has_no_more Is B U a e b before meter (v, u, window, is) w t other =
 
 -- ---- the new row
 
-pub mended : {X : Type 0} (kept read behind : Row X) (last : X) →
-    kept ++ (read ++ (behind ++ last ∷ [])) ≡ (kept ++ (read ++ behind)) ++ last ∷ []
-mended kept read behind last =
-    ap (λ x. kept ++ x) (sym (append_assoc read behind (last ∷ [])))
-    ∙ sym (append_assoc kept (read ++ behind) (last ∷ []))
+pub mended : {X : Type 0} (kept read after : Row X) (last : X) →
+    kept ++ (read ++ (after ++ last ∷ [])) ≡ (kept ++ (read ++ after)) ++ last ∷ []
+mended kept read after last =
+    ap (λ x. kept ++ x) (sym (append_assoc read after (last ∷ [])))
+    ∙ sym (append_assoc kept (read ++ after) (last ∷ []))

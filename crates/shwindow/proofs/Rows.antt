@@ -2,7 +2,7 @@
 use Rattle.std.proofs.Common.{◌≡◌, ℕ, ◌+◌, ◌-◌, true, false, List, [], ◌∷◌, ◌++◌, List as Row, length, take, drop, get_or, ◌<◌, ◌≤◌, refl, sym, ap, subst, ◌∙◌, arith}
 use Rattle.std.proofs.lemmas.List.{length-append, length-drop, length-take-le, drop-drop, take-append-drop, take_more, take_all}
 use Rattle.shwindow.specs.declared.line.HeldLine.{HeldLine}
-use Rattle.shwindow.specs.Lines.{Reads, extent, IsRow, last_line, more_lines, IsBoundary, behind}
+use Rattle.shwindow.specs.Lines.{Reads, extent, IsRow, last_line, more_lines, IsBoundary, at_end_of}
 
 -- the bytes of lines, after others and with one more
 pub extent_append : {K : Type 0} (xs ys : Row (HeldLine K)) → extent (xs ++ ys) ≡ extent xs + extent ys
@@ -150,6 +150,6 @@ module _ {K : Type 0} (Is : List ℕ → HeldLine K → Type 0) (laws : Reads Is
       let ended = row_ended Is _ x xs y ys row in
       let behind_it = subst (λ T. IsRow Is T (xs ++ y ∷ ys)) (drop-drop x.len p B)
       (row_rest Is _ x (xs ++ y ∷ ys) row ended) in
-      let rest = row_at B (p + x.len) xs y ys (behind at is ended) behind_it in
+      let rest = row_at B (p + x.len) xs y ys (at_end_of at is ended) behind_it in
       let same : (p + x.len) + extent xs ≡ p + (x.len + extent xs) = omega arith in
       subst (λ z. IsBoundary Is B z × IsRow Is (drop z B) (y ∷ ys)) same rest

@@ -3,7 +3,7 @@ use Rattle.std.proofs.Common.{◌≡◌, ℕ, zero, suc, ◌+◌, ◌-◌, ◌<�
 use Rattle.std.proofs.lemmas.Bool.{both_ways, cases_eq, cases_lt}
 use Rattle.std.proofs.lemmas.List.{length-drop}
 use Rattle.shwindow.specs.declared.line.HeldLine.{HeldLine}
-use Rattle.shwindow.specs.Lines.{Reads, IsBoundary, at_start, behind}
+use Rattle.shwindow.specs.Lines.{Reads, IsBoundary, at_start, at_end_of}
 use Rattle.shwindow.specs.Window.{Begins, IsShared, Ends, meets, never, IsWindow}
 use Rattle.shwindow.proofs.Boundaries.{gap}
 
@@ -69,7 +69,7 @@ module _ {K : Type 0} (Is : List ℕ → HeldLine K → Type 0) (laws : Reads Is
                 (λ (on : p + l.len ≤ s). absurd (omega arith)) (next_after p s l at there is);
           },
         ))
-        (λ (on : p + l.len ≤ a). greatest_from a (p + l.len) rest (behind at is ended) on)
+        (λ (on : p + l.len ≤ a). greatest_from a (p + l.len) rest (at_end_of at is ended) on)
         (cases_lt a (p + l.len))
 
     module _ (whole : Walk B 0) where
@@ -122,7 +122,7 @@ module _ {K : Type 0} (Is : List ℕ → HeldLine K → Type 0) (laws : Reads Is
         (is_shared p at)
     ends_from p (goes l is ended rest) at least =
         ⊎_elim (λ (m : IsShared Is B U e b p). (p, meets m least))
-        (λ (none : IsShared Is B U e b p → ⊥). ends_from (p + l.len) rest (behind at is ended)
+        (λ (none : IsShared Is B U e b p → ⊥). ends_from (p + l.len) rest (at_end_of at is ended)
         (λ s m. (gap Is laws U p s l at m.here (each_after p s none m (least s m)) is).1))
         (is_shared p at)
 

@@ -3,7 +3,7 @@ use Rattle.std.proofs.Common.{◌≡◌, ℕ, ◌+◌, ◌-◌, ◌<◌, ◌≤�
 use Rattle.std.proofs.lemmas.Bool.{cases_lt, cases_order}
 use Rattle.std.proofs.lemmas.List.{drop-drop, length-drop}
 use Rattle.shwindow.specs.declared.line.HeldLine.{HeldLine}
-use Rattle.shwindow.specs.Lines.{Reads, extent, IsRow, last_line, more_lines, IsBoundary, at_start, behind}
+use Rattle.shwindow.specs.Lines.{Reads, extent, IsRow, last_line, more_lines, IsBoundary, at_start, at_end_of}
 use Rattle.shwindow.specs.Hand.{Passes, none_passed, one_passed}
 use Rattle.shwindow.specs.Window.{Apart, Begins, IsShared, Ends, meets, never}
 use Rattle.shwindow.proofs.Boundaries.{gap, boundary_stays, boundary_within}
@@ -70,7 +70,7 @@ module _ {K : Type 0} (Is : List ℕ → HeldLine K → Type 0) (laws : Reads Is
       ⊎_elim (λ (less : s < o). less)
       (λ (more : o ≤ s). let ended = (gap Is laws B p s h at at_s (omega arith) is).0 in absurd cc) (cases_lt s o))
   next_holds o p h hs lt at (more_lines is e row) least =
-      in_hand (behind at is e) (subst (λ T. IsRow Is T hs) (drop-drop h.len p B) row)
+      in_hand (at_end_of at is e) (subst (λ T. IsRow Is T hs) (drop-drop h.len p B) row)
       (λ s at_s more. (gap Is laws B p s h at at_s (omega arith) is).1)
 
   rest_holds : (o p : ℕ) (h : HeldLine K) (hs : Row (HeldLine K)) → p < o → Holds Is B o p (h ∷ hs) →
@@ -155,7 +155,7 @@ module _ {K : Type 0} (Is : List ℕ → HeldLine K → Type 0) (laws : Reads Is
   going_on w read q p hs l g past not_met is ended =
       let sum = g.sum in
       record {
-        boundary = behind g.boundary is ended;
+        boundary = at_end_of g.boundary is ended;
         low = g.low;
         sum = omega (arith, sum, extent_push read l);
         leads = λ ms rows. subst (IsRow Is (drop w U)) (sym (append_assoc read (l ∷ []) ms))

@@ -8,11 +8,11 @@ use Rattle.shwindow.specs.declared.line.HeldLine.{HeldLine}
 -- a line of these begins at an offset that is not after another, and ends after that if it ended
 pub record HasLineAt {K : Type 0} (hs : Row (HeldLine K)) (at : ℕ) (h : HeldLine K) (begin : ℕ) : Type 0 where
   pub before : Row (HeldLine K)
-  pub behind : Row (HeldLine K)
-  pub row : hs ≡ before ++ h ∷ behind
+  pub after : Row (HeldLine K)
+  pub row : hs ≡ before ++ h ∷ after
   pub begins : begin ≡ extent before
   pub low : begin ≤ at
-  pub past : (behind ≡ [] → ⊥) → at < begin + h.len
+  pub past : (after ≡ [] → ⊥) → at < begin + h.len
 
 -- These are the lines of a text, of which an edit makes U: the bytes before a stay,
 -- and those of U from e on are the old ones from b on.

@@ -31,4 +31,4 @@ module _ {K : Type 0} (Is : List ℕ → HeldLine K → Type 0) where
   -- The boundaries of a text: 0, and the end of each line that begins at a boundary and ended.
   pub data IsBoundary (B : List ℕ) : ℕ → Type 0 where
     at_start : IsBoundary B 0
-    behind : {p : ℕ} {l : HeldLine K} → IsBoundary B p → Is (drop p B) l → l.ended ≡ true → IsBoundary B (p + l.len)
+    at_end_of : {p : ℕ} {l : HeldLine K} → IsBoundary B p → Is (drop p B) l → l.ended ≡ true → IsBoundary B (p + l.len)

@@ -71,7 +71,7 @@ impl<K: Drop> Blocks<K> {
     }
 
     /// The place after a line.
-    pub(crate) fn behind(&self, place: BlockPlace) -> BlockPlace
+    pub(crate) fn after(&self, place: BlockPlace) -> BlockPlace
         requires place { IsPlace self.now.blocks.items place }
         requires within { place.block < vec_len self.now.blocks }
         ensures place { IsPlace self.now.blocks.items result }
@@ -178,8 +178,8 @@ impl<K: Drop> Blocks<K> {
         }
         self.blocks.reserve(1)?;
         let block = &mut self.blocks[place.block];
-        let behind = block.cut(place.line)?;
-        put_one(&mut self.blocks, place.block + 1, behind);
+        let after = block.cut(place.line)?;
+        put_one(&mut self.blocks, place.block + 1, after);
         Ok(place.block + 1)
     }
 

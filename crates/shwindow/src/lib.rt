@@ -34,7 +34,7 @@ pub use lines::Lines;
 pub fn held_lines<K>()
     ensures before { (line : List ℕ → HeldLine K) → Reads (IsLineOf line) →
         BeforeStays (IsLineOf line) }
-    ensures behind { (line : List ℕ → HeldLine K) → Reads (IsLineOf line) →
+    ensures after { (line : List ℕ → HeldLine K) → Reads (IsLineOf line) →
         AfterStays (IsLineOf line) }
     ensures front { (line : List ℕ → HeldLine K) → Reads (IsLineOf line) →
         FrontStays (IsLineOf line) }

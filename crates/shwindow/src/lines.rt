@@ -64,7 +64,7 @@ impl<'a, K: Drop> Lines<'a, K> {
         }
         match self.blocks.line(self.place) {
             Some(line) => {
-                self.place = self.blocks.behind(self.place);
+                self.place = self.blocks.after(self.place);
                 Some(line)
             }
             None => {

@@ -14,7 +14,7 @@ returns g c = record {
     boundary_stays (IsLineOf line) laws B U a apart.front s at low,
     λ l is ended high. line_stays (IsLineOf line) laws B U a apart.front s l is ended high,
   );
-  behind = λ line laws B U a e b q apart m. (
+  after = λ line laws B U a e b q apart m. (
     shared_text (IsLineOf line) laws B U a e b apart q m,
     λ hs row. shared_rows (IsLineOf line) laws B U a e b apart q hs m row,
   );

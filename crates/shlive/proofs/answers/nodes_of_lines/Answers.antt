@@ -14,8 +14,8 @@ add_nodes_at-requires c = λ xs kind_is.
     let row = line_there c.requires.0 c.requires.1.0 c.args.lines.now c.args.at l c.line_at-begin.result.1
     c.requires.1.1 so in
     subst (λ n. AreWithin (2 ^ 64 - 1 - n) xs) (sym so.begins)
-    (row_nodes_fit c.requires.0 c.requires.1.0 so.before l so.behind
-    (row_top c.requires.0 c.requires.1.0 (so.before ++ l ∷ so.behind) row) xs kind_is c.requires.1.2)
+    (row_nodes_fit c.requires.0 c.requires.1.0 so.before l so.after
+    (row_top c.requires.0 c.requires.1.0 (so.before ++ l ∷ so.after) row) xs kind_is c.requires.1.2)
 
 pub returns : goal.returns
 returns c = λ edition bytes row lt.
@@ -23,8 +23,8 @@ returns c = λ edition bytes row lt.
     let begin = c.line_at-begin.result.1 in
     let so = c.line_at-begin.ensures in
     let there = line_there edition bytes c.args.lines.now c.args.at l begin row so in
-    let has = row_has_nodes edition bytes so.before l so.behind
-    (row_top edition bytes (so.before ++ l ∷ so.behind) there) c.args.at
+    let has = row_has_nodes edition bytes so.before l so.after
+    (row_top edition bytes (so.before ++ l ∷ so.after) there) c.args.at
     (line_low edition bytes c.args.lines.now c.args.at l begin row so)
     (line_high edition bytes c.args.lines.now c.args.at l begin row so lt) in (
       has.0,

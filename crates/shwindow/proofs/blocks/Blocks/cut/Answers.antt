@@ -21,11 +21,11 @@ returns-clause-before g c =
     let read = block_read_of blocks n c.reserve.new.self.items c.index_mut-block.result.now room
     (omega (arith, ap length room, low)) c.index_mut-block.ensures.value in
     let k = c.cut.new.self in
-    let l = c.in_ok-behind.behind in
-    let before = c.in_ok-behind.ensures.kept ∙ ap (take place.line) read.1 in
-    let behind = c.in_ok-behind.ensures.ok ∙ ap (drop place.line) read.1 in
+    let l = c.in_ok-after.after in
+    let before = c.in_ok-after.ensures.kept ∙ ap (take place.line) read.1 in
+    let after = c.in_ok-after.ensures.ok ∙ ap (drop place.line) read.1 in
     let new = c.put_one.ensures ∙ ap (λ x. take (n + 1) (set x n k) ++ l ∷ drop (n + 1) (set x n k)) room in
-    (cut_joined blocks place k l low before behind c.put_one.new.into.items new).0
+    (cut_joined blocks place k l low before after c.put_one.new.into.items new).0
 
 pub returns-clause-from : goal.returns-clause-from
 returns-clause-from g c =
@@ -37,8 +37,8 @@ returns-clause-from g c =
     let read = block_read_of blocks n c.reserve.new.self.items c.index_mut-block.result.now room
     (omega (arith, ap length room, low)) c.index_mut-block.ensures.value in
     let k = c.cut.new.self in
-    let l = c.in_ok-behind.behind in
-    let before = c.in_ok-behind.ensures.kept ∙ ap (take place.line) read.1 in
-    let behind = c.in_ok-behind.ensures.ok ∙ ap (drop place.line) read.1 in
+    let l = c.in_ok-after.after in
+    let before = c.in_ok-after.ensures.kept ∙ ap (take place.line) read.1 in
+    let after = c.in_ok-after.ensures.ok ∙ ap (drop place.line) read.1 in
     let new = c.put_one.ensures ∙ ap (λ x. take (n + 1) (set x n k) ++ l ∷ drop (n + 1) (set x n k)) room in
-    (cut_joined blocks place k l low before behind c.put_one.new.into.items new).1
+    (cut_joined blocks place k l low before after c.put_one.new.into.items new).1

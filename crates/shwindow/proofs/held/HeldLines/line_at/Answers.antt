@@ -19,7 +19,7 @@ returns-in-Some g c =
     let from = first_some (lines_from blocks place) line c.in-Some.ensures in
     record {
       before = lines_before blocks place;
-      behind = from.0 ++ held.last ∷ [];
+      after = from.0 ++ held.last ∷ [];
       row = sym c.self.view_is ∙ by_line blocks place held.last line from.0 from.1;
       begins = c.find-begin.ensures.begin;
       low = c.find-begin.ensures.low;
@@ -33,7 +33,7 @@ returns-in-None g c =
     let place = c.find-begin.result.0 in
     record {
       before = lines_before blocks place;
-      behind = [];
+      after = [];
       row = sym c.self.view_is ∙ by_last blocks place held.last
           (first_none (lines_from blocks place) c.in-None.ensures);
       begins = c.find-begin.ensures.begin;

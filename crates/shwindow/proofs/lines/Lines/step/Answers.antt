@@ -2,8 +2,8 @@ use Rattle.std.proofs.Common.{arith}
 use Rattle.shwindow.proofs.Joined.{from_some}
 use Rattle.shwindow.proofs.lines.Lines.step.Goals as goal
 
-pub behind-self-requires-clause-within : goal.behind-self-requires-clause-within
-behind-self-requires-clause-within g c =
+pub after-self-requires-clause-within : goal.after-self-requires-clause-within
+after-self-requires-clause-within g c =
     let lines = c.args.self.now in
     let blocks = lines.blocks.now.blocks in
     let ok = blocks.ok in

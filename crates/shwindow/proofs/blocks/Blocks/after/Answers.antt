@@ -1,7 +1,7 @@
 use Rattle.std.proofs.Common.{◌∙◌, ◌+◌, ◌<◌, ◌≤◌, ap, arith, length}
 use Rattle.shwindow.specs.Blocks.{block_at}
 use Rattle.shwindow.proofs.Joined.{after_out, after_within, block_read, place_line}
-use Rattle.shwindow.proofs.blocks.Blocks.behind.Goals as goal
+use Rattle.shwindow.proofs.blocks.Blocks.after.Goals as goal
 
 pub returns-then-place-last-clause-rest : goal.returns-then-place-last-clause-rest
 returns-then-place-last-clause-rest g c =
