@@ -22,9 +22,9 @@ AreBlankAtFirst blank [] = Unit {0}
 AreBlankAtFirst blank (e ∷ es) = (is_blank_entry e ≡ blank) × AreBlankAtFirst false es
 
 -- after entries of one line more
-pub record HasMore (before behind : Listed) : Type 0 where
+pub record HasMore (before after : Listed) : Type 0 where
   pub entries : Row AnEntry
-  pub all : behind.entries ≡ before.entries ++ entries
+  pub all : after.entries ≡ before.entries ++ entries
   pub flags : AreBlankAtFirst (is_blank_next before) entries
-  pub begun : behind.begun ≡ (before.begun || not (is_empty entries))
-  pub blank : behind.blank ≡ before.blank
+  pub begun : after.begun ≡ (before.begun || not (is_empty entries))
+  pub blank : after.blank ≡ before.blank

@@ -1,5 +1,6 @@
 -- Where the body of a here-document ends (XCU 2.7.4), said of all of a text at once.
 use Rattle.std.specs.Prelude.{◌≡◌, ℕ, zero, suc, ◌+◌, ◌-◌, ◌<◌, ◌⊎◌, ◌&&◌, Bool, false, not, nat_le, List, length, Some, slice_get, if◌then◌else◌}
+use Rattle.shgrammar.specs.Characters.{backslash, newline_char}
 use Rattle.shgrammar.specs.HereDocuments.{rest_of_line, stripped}
 use Rattle.shgrammar.specs.Standing.{raw_stands}
 use Rattle.shgrammar.specs.States.{Waiting}
@@ -7,12 +8,12 @@ use Rattle.shgrammar.specs.States.{Waiting}
 -- A line begins at q, in a body that begins at p: it is where the body begins, or a newline of the body
 -- stands right before it.
 abbrev pub BeginsLine : List ℕ → ℕ → ℕ → Type 0
-BeginsLine T p q = (q ≡ p) ⊎ ((p < q) × (slice_get T (q - 1) ≡ Some 10))
+BeginsLine T p q = (q ≡ p) ⊎ ((p < q) × (slice_get T (q - 1) ≡ Some newline_char))
 
 -- how many backslashes of the body stand in a row right before q
 unfoldable pub backslashes_before : List ℕ → ℕ → ℕ → ℕ
 backslashes_before T p zero = 0
-backslashes_before T p (suc q) = if nat_le p q && raw_stands T q 92 then 1 + backslashes_before T p q else 0
+backslashes_before T p (suc q) = if nat_le p q && raw_stands T q backslash then 1 + backslashes_before T p q else 0
 
 unfoldable pub is_odd : ℕ → Bool
 is_odd zero = false
