@@ -13,6 +13,7 @@ use Rattle.shast.specs.declared.tree.Entry.{Entry}
 use Rattle.shast.specs.Nodes.{AreWithin}
 use Rattle.shast.specs.Tree.{AnEntry, entries_of}
 use Rattle.shast.specs.View.{view_entry}
+use Rattle.shgrammar.specs.Characters.{newline_char}
 use Rattle.shgrammar.specs.Commands.{is_empty}
 use Rattle.shgrammar.specs.Form.{Read, Spelled, may}
 use Rattle.shgrammar.specs.Scripts.{AScript, Lines, SoFar, is_blank_line, line_from, the_line, with_line}
@@ -88,8 +89,8 @@ module _ {S : Type 0} where
   SameScript old new = (new.source ≡ old.source) × (new.edition ≡ old.edition) × (new.alloc ≡ old.alloc)
 
   -- The reading goes to just past a line that was told, and what the lines gave has its entries too.
-  abbrev pub Behind : ScriptLines S → ParsedLine → ScriptLines S → Type 0
-  Behind old told new =
+  abbrev pub GoesPast : ScriptLines S → ParsedLine → ScriptLines S → Type 0
+  GoesPast old told new =
       SameScript old new × (new.at ≡ old.at + told.len)
       × ((so : SoFar) → Stands old so → Stands new (with_line so (map view_entry told.entries.items)))
 
@@ -97,7 +98,7 @@ module _ {S : Type 0} where
   -- fault nothing moves, nor where memory ran out.
   abbrev pub MovesOn : (S → List ℕ) → ScriptLines S → Result ParsedLine Stop → ScriptLines S → Type 0
   MovesOn bytes old (Ok told) new =
-      Behind old told new × Onward old.at new.at told.newline × (new.at ≤ length (bytes_of bytes old))
+      GoesPast old told new × Onward old.at new.at told.newline × (new.at ≤ length (bytes_of bytes old))
   MovesOn bytes old (Err e) new = new ≡ old
 
   -- A line with these entries, but for the trees in command substitutions, after lines that gave this, from
@@ -106,14 +107,15 @@ module _ {S : Type 0} where
   IsWholeLine B so old es new =
       (t : State) × (new.at ≡ old.at + t.at)
       × OuterReads old.edition B so old.at (Ok ((map view_entry es.items, true), t)) × (0 < t.at)
-      × (raw_stands (drop old.at B) (t.at - 1) 10 ≡ true) × Stands new (with_line so (map view_entry es.items))
+      × (raw_stands (drop old.at B) (t.at - 1) newline_char ≡ true)
+      × Stands new (with_line so (map view_entry es.items))
 
   -- It goes past such a line. Where there is none nothing moves, nor where memory ran out.
   abbrev pub PassesWhole : {E : Type 0} → (S → List ℕ) → ScriptLines S → Result (Option (Vec Entry Global)) E →
       ScriptLines S → Type 0
   PassesWhole bytes old (Ok (Some es)) new =
       SameScript old new × (old.at < new.at) × (new.at ≤ length (bytes_of bytes old))
-      × (slice_get (bytes_of bytes old) (new.at - 1) ≡ Some 10)
+      × (slice_get (bytes_of bytes old) (new.at - 1) ≡ Some newline_char)
       × ((so : SoFar) → Stands old so → IsWholeLine (bytes_of bytes old) so old es new)
   PassesWhole bytes old (Ok None) new = (new ≡ old) × StopsAt old.edition (bytes_of bytes old) old.at
   PassesWhole bytes old (Err e) new = new ≡ old

@@ -4,7 +4,7 @@ ghost use Rattle.std.specs.Prelude.{◌≡◌, ◌+◌, ◌^◌, ◌<◌, ◌≤
 ghost use Rattle.shgrammar.specs.Scripts.{line_from};
 ghost use Rattle.shline.specs.Clauses.{Gives, view_told};
 ghost use Rattle.shline.specs.Limits.{limits};
-ghost use Rattle.shpass.specs.LineByLine.{AtStart, Behind, LineReads, LineWithin, MovesOn, OuterReads, PassesWhole, ReadsLine};
+ghost use Rattle.shpass.specs.LineByLine.{AtStart, GoesPast, LineReads, LineWithin, MovesOn, OuterReads, PassesWhole, ReadsLine};
 ghost use Rattle.shpass.specs.LineByLine.{before_of, bytes_of, edition_of, is_blank_after, no_lines, place_of};
 
 use crate::newline::ends_in_newline;
@@ -94,7 +94,7 @@ impl<'a, S: Source> ScriptLines<'a, S> {
     /// Moves to just past a line that was told.
     fn pass(&mut self, told: &ParsedLine)
         requires { place_of self.old + told.now.len < 2 ^ 64 }
-        ensures { Behind self.old told.now self.new }
+        ensures { GoesPast self.old told.now self.new }
     {
         self.before.gap = told.entries.is_empty();
         if !self.before.gap {
