@@ -50,7 +50,7 @@ pub holds_none : (edition : Edition) (part : PartialScript) → part.edition ≡
 holds_none edition part by passed newlines text = record {
   held = held_none part passed newlines text;
   by = by;
-  behind = λ more f first.
+  after = λ more f first.
       subst (λ (p : ℕ). FirstFault edition more (option_map (moved_fault p) f)) (sym passed)
       (subst (FirstFault edition more) (stays f)
       (subst (λ (p : ℕ). FirstFault edition (drop p more) f) passed first));
@@ -85,14 +85,14 @@ pub holds_more : (edition : Edition) (read bytes : List ℕ) (old new : PartialS
 holds_more edition read bytes old new is held passed same_edition = record {
   held = held;
   by = same_edition ∙ is.by;
-  behind = λ more f first.
+  after = λ more f first.
       let same : read ++ bytes ++ more ≡ read ++ (bytes ++ more) = append_assoc read bytes more in
       let here : FirstFault edition (drop old.passed (read ++ (bytes ++ more))) f =
       subst (λ (xs : List ℕ). FirstFault edition (drop old.passed xs) f) same
       (subst (λ (p : ℕ). FirstFault edition (drop p (read ++ bytes ++ more)) f) passed first) in
       subst (λ (p : ℕ). FirstFault edition (read ++ bytes ++ more) (option_map (moved_fault p) f)) (sym passed)
       (subst (λ (xs : List ℕ). FirstFault edition xs (option_map (moved_fault old.passed) f)) (sym same)
-      (is.behind (bytes ++ more) f here));
+      (is.after (bytes ++ more) f here));
 }
 
 pub printed_more : (edition : Edition) (y : Layout) (read bytes : List ℕ) (old new : PrintedPart) →
@@ -146,7 +146,7 @@ pub holds_passed : (edition : Edition) (read : List ℕ) (old new : PartialScrip
 holds_passed edition read old new n is within can held passed same_edition = record {
   held = held;
   by = same_edition ∙ is.by;
-  behind = λ more f first.
+  after = λ more f first.
       let rest = drop old.passed (read ++ more) in
       let rest_is : rest ≡ old.text.items ++ more = drop-append-le old.passed read more is.held.low
       ∙ ap (λ (xs : List ℕ). xs ++ more) (sym is.held.text) in
@@ -155,7 +155,7 @@ holds_passed edition read old new n is within can held passed same_edition = rec
       let here : FirstFault edition (drop n rest) f =
       subst (λ (xs : List ℕ). FirstFault edition xs f)
       (ap (λ (p : ℕ). drop p (read ++ more)) passed ∙ sym (drop-drop n old.passed (read ++ more))) first in
-      let whole = is.behind more (option_map (moved_fault n) f) (can rest f same here) in
+      let whole = is.after more (option_map (moved_fault n) f) (can rest f same here) in
       subst (FirstFault edition (read ++ more))
       (twice old.passed n f ∙ sym (ap (λ (p : ℕ). option_map (moved_fault p) f) passed)) whole;
 }
@@ -185,7 +185,7 @@ first_is edition read part is f first =
     let whole : read ++ [] ≡ read = append-nil read in
     let here : FirstFault edition (drop part.passed (read ++ [])) f =
     subst (λ (xs : List ℕ). FirstFault edition xs f) (is.held.text ∙ sym (ap (drop part.passed) whole)) first in
-    subst (λ (xs : List ℕ). FirstFault edition xs (option_map (moved_fault part.passed) f)) whole (is.behind [] f here)
+    subst (λ (xs : List ℕ). FirstFault edition xs (option_map (moved_fault part.passed) f)) whole (is.after [] f here)
 
 module _ (read : List ℕ) (part : PartialScript) (is : Held read part) where
   front_at : (at : ℕ) → take (part.passed + at) read ≡ take part.passed read ++ take at part.text.items

@@ -2,6 +2,7 @@
 use Rattle.std.specs.Prelude.{◌≡◌, ℕ, ◌+◌, ◌-◌, ◌++◌, ◌<◌, ◌≤◌, List, Option, None, Some, count_by, drop, length, option_map, slice_get, take}
 use Rattle.shform.specs.declared.partial_script.LocatedFault.{LocatedFault}
 use Rattle.shform.specs.declared.partial_script.PartialScript.{PartialScript}
+use Rattle.shgrammar.specs.Characters.{newline_char}
 use Rattle.shgrammar.specs.declared.edition.Edition.{Edition}
 use Rattle.shgrammar.specs.declared.fault.Fault.{Fault}
 use Rattle.shgrammar.specs.Moved.{moved_fault}
@@ -28,7 +29,7 @@ pub record Held (read : List ℕ) (part : PartialScript) : Type 0 where
 pub record Holds (edition : Edition) (read : List ℕ) (part : PartialScript) : Type 0 where
   pub held : Held read part
   pub by : part.edition ≡ edition
-  pub behind : (more : List ℕ) (f : Option Fault) → FirstFault edition (drop part.passed (read ++ more)) f →
+  pub after : (more : List ℕ) (f : Option Fault) → FirstFault edition (drop part.passed (read ++ more)) f →
       FirstFault edition (read ++ more) (option_map (moved_fault part.passed) f)
 
 -- those passed are lines that are printed
@@ -39,7 +40,7 @@ pub record HoldsPrinted (edition : Edition) (y : Layout) (read : List ℕ) (prin
 -- so many bytes are at the front of those held, and a newline is the last of them
 pub record EndsLine (part : PartialScript) (count : ℕ) : Type 0 where
   pub within : count ≤ length part.text.items
-  pub newline : 0 < count → slice_get part.text.items (count - 1) ≡ Some 10
+  pub newline : 0 < count → slice_get part.text.items (count - 1) ≡ Some newline_char
 
 -- a fault with its line and its column in these bytes
 abbrev pub IsLocatedAt : List ℕ → Fault → LocatedFault → Type 0

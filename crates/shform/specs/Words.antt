@@ -7,6 +7,7 @@ use Rattle.clap.specs.Words.{App, HasKind, Row, Rule, Text, fault_of, first_of, 
 use Rattle.clap.specs.Walk.{byte_or_zero}
 use Rattle.clap.specs.declared.builder.action.ArgAction.TheVariants.{SetTrue}
 use Rattle.clap.specs.declared.builder.value_parser.ValueParser.TheVariants.{Names, Signed}
+use Rattle.shgrammar.specs.Characters.{hyphen}
 use Rattle.shgrammar.specs.declared.edition.Edition.{Edition}
 use Rattle.shgrammar.specs.declared.edition.Edition.TheVariants.{Y2017, Y2024}
 use Rattle.shprint.specs.declared.layout.Layout.{Layout}
@@ -22,10 +23,14 @@ use Rattle.shform.specs.declared.usage.Usage.TheVariants.{Words, Indent}
 abbrev pub file_rule : Rule
 file_rule = new_rule (codes "FILE")
 
+-- the i of -i
+abbrev pub letter_i : ℕ
+letter_i = 105
+
 -- -i N, --indent N: a number from 0 to 16
 abbrev pub indent_rule : Rule
 indent_rule = record (new_rule (codes "indent"))
-    { short = Some 105; long = Some (codes "indent"); value_names = 1; parser = Some (Signed (pos 0) (pos 16)) }
+    { short = Some letter_i; long = Some (codes "indent"); value_names = 1; parser = Some (Signed (pos 0) (pos 16)) }
 
 -- the names of the editions, as they lie in memory
 abbrev pub Years : Type 0
@@ -109,7 +114,7 @@ app_for years (word ∷ words) = app_named years word
 -- what begins with another byte than a hyphen is FILE wherever it may stand
 abbrev pub is_plain_file : Text → Bool
 is_plain_file [] = false
-is_plain_file (c ∷ cs) = not (c == 45)
+is_plain_file (c ∷ cs) = not (c == hyphen)
 
 -- the words are the name of check or of print, and FILE
 abbrev pub AreToolAndFile : List Text → Tool → Text → Type 0
