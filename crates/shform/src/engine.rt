@@ -119,6 +119,7 @@ pub fn check_engine<R: Read, O: Write, E: Write>(
         × IsAtEnd (left_of R.remaining input.new) }
     ensures silent { output.new ≡ output.old }
 {
+    // No byte is written on it: it is taken so that `silent` can say so.
     let _ = &*output;
     let part = match read_into(input, PartialScript::new(alloc, edition)) {
         Ok(part) => part,

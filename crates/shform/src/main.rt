@@ -3,8 +3,8 @@
 //!
 //! Start with `run`, which takes the words, and with `run_tool` in `tools`, which runs what the settings
 //! ask for over readers and writers. `check_engine` and `print_engine` in `engine` read the script piece by
-//! piece into a `sink`, which is a `part` of it, for a print with its text a `printed_part`; they have the
-//! first fault or the text from the reader and the printer, and tell the one by `report`, or write the
+//! piece into a `sink`, which is a `partial_script`, for a print with its text a `printed_part`; they have
+//! the first fault or the text from the reader and the printer, and tell the one by `report`, or write the
 //! other. `session_engine` reads FILE so, into a vector, and its session is that of `shlive`. `words` reads
 //! the command line: the `plain_words` of most runs by itself, all others by `clap`. The ends, which remember
 //! how their devices fared, are those of `shtext`, and before what is written stands a writer that is

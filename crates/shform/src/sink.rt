@@ -14,6 +14,7 @@ pub trait Sink: Drop {
 
     /// Takes some more bytes that were read. Where memory runs out nothing more may be taken.
     fn take(&mut self, bytes: &[u8]) -> Result<(), AllocError>
+        // So it was made, and this it took: there is room for more bytes after those.
         requires { (setup : Setup) × (read : List ℕ) × (holds setup read self.old)
             × (length read + length bytes.now ≤ limit) }
         ensures { IfOk result (λ done. (setup : Setup) (read : List ℕ) → holds setup read self.old →

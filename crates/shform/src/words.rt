@@ -328,6 +328,7 @@ fn clap_settings<'a>(alloc: Global, words: &'a [&'a str]) -> Result<Settings<'a>
 {
     let matches = matches_of(alloc, YEARS.as_slice(), words).map_err(Usage::Words)?;
     let Some((name, own)) = matches.subcommand() else {
+        // There is always one, by `some` of `matches_of`.
         unreachable!()
     };
     let tool = tool_of(name);
