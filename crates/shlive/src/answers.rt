@@ -1,14 +1,11 @@
 //! What the lines of a script answer, each where it stands.
-ghost use Rattle.std.specs.Prelude.{◌≡◌, ◌+◌, ◌-◌, ◌<◌, ◌≤◌, ◌++◌, ◌&&◌, ℕ, [], IfOk, List as Row, OnOk, length, nat_lt};
-ghost use Rattle.shast.specs.Nodes.{AreWithin};
+ghost use Rattle.std.specs.Prelude.{◌≡◌, ◌+◌, ◌<◌, ◌≤◌, ◌++◌, ◌&&◌, ℕ, [], IfOk, List as Row, OnOk, length, nat_lt};
 ghost use Rattle.shast.specs.Shape.{shape_of};
-ghost use Rattle.shast.specs.Tree.{Entries};
 ghost use Rattle.shgrammar.specs.declared.edition.Edition.{Edition};
-ghost use Rattle.shgrammar.specs.Lines.{entries_line};
 ghost use Rattle.shheld.specs.TopLines.{script_of};
 ghost use Rattle.shheld.specs.Walk.{line_nodes_at, line_outline};
 ghost use Rattle.shlive.specs.Answers.{HasNodesAt, HasOutline};
-ghost use Rattle.shlive.specs.HeldLines.{AreHeld, IsHeldLine};
+ghost use Rattle.shlive.specs.HeldLines.{AreHeld, FitsAt, IsHeldLine};
 ghost use Rattle.shlive.specs.Printing.{PrintsLine};
 ghost use Rattle.shprint.specs.Printed.{print_blank, printed};
 ghost use Rattle.shprint.specs.Written.{Prints};
@@ -51,8 +48,7 @@ fn add_outline(
     begin: usize,
     nodes: &mut Vec<NodeLine>,
 ) -> Result<(), AllocError>
-    requires { (list : Entries) → line.now.kind ≡ entries_line list →
-        AreWithin (usize.MAX - begin) list }
+    requires { FitsAt begin line.now.kind }
     ensures { OnOk result (nodes.new.items ≡ nodes.old.items ++ line_outline begin line.now.kind) }
 {
     match line.kind.list() {
@@ -86,8 +82,7 @@ fn add_nodes_at(
     at: usize,
     nodes: &mut Vec<NodeLine>,
 ) -> Result<(), AllocError>
-    requires { (list : Entries) → line.now.kind ≡ entries_line list →
-        AreWithin (usize.MAX - begin) list }
+    requires { FitsAt begin line.now.kind }
     ensures { OnOk result (nodes.new.items ≡ nodes.old.items
         ++ line_nodes_at begin at line.now.kind) }
 {
