@@ -2,6 +2,7 @@
 -- bytes of its script, how it reads and prints them, and its meter.
 use Rattle.std.specs.Prelude.{◌≡◌, ◌⊎◌, ℕ, ◌<◌, ◌++◌, [], ◌∷◌, List, List as Row, flat_map, length, Option, None, Some, codes, decimal}
 use Rattle.shgrammar.specs.Scripts.{FirstFault}
+use Rattle.shgrammar.specs.declared.edition.Edition.{Edition}
 use Rattle.shgrammar.specs.declared.fault.Fault.{Fault}
 use Rattle.shgrammar.specs.declared.fault.FaultKind.{FaultKind}
 use Rattle.shgrammar.specs.declared.fault.FaultKind.TheVariants as faults
@@ -115,16 +116,23 @@ IsEditReply before ss reply after =
     × (reply ≡ ok_text (length after.bytes) status)))
     ⊎ ((error : LiveError) × IsNotMade before ss error after × (reply ≡ refusal_text error))
 
+-- the reply tells the outline
+abbrev pub TellsOutline : Edition → List ℕ → List ℕ → Type 0
+TellsOutline edition bytes reply =
+    (lines : List NodeLine) × HasOutline edition bytes lines × (reply ≡ nodes_text (codes "outline") bytes lines)
+
+-- the reply tells the nodes that hold the byte at an offset
+abbrev pub TellsNodesAt : Edition → List ℕ → ℕ → List ℕ → Type 0
+TellsNodesAt edition bytes p reply =
+    (lines : List NodeLine) × HasNodesAt edition bytes p lines × (reply ≡ nodes_text (codes "at") bytes lines)
+
 -- The reply to a request on the bytes of a script. Memory may run out where a tree or a text is made.
 abbrev pub IsReply : Manner → List ℕ → Request → List ℕ → Type 0
 IsReply how bytes (edit ss) reply = ⊥
 IsReply how bytes (flawed flaw) reply = reply ≡ flaw_text flaw
-IsReply how bytes outline reply =
-    ((lines : List NodeLine) × HasOutline how.edition bytes lines × (reply ≡ nodes_text (codes "outline") bytes lines))
-    ⊎ IsNoMemory reply
+IsReply how bytes outline reply = TellsOutline how.edition bytes reply ⊎ IsNoMemory reply
 IsReply how bytes (at p) reply =
-    ((lines : List NodeLine) × HasNodesAt how.edition bytes p lines × (reply ≡ nodes_text (codes "at") bytes lines)) ⊎
-    ((p < length bytes) × IsNoMemory reply)
+    TellsNodesAt how.edition bytes p reply ⊎ ((p < length bytes) × IsNoMemory reply)
 IsReply how bytes fault reply = (first : Option Fault) × FirstFault how.edition bytes first
     × (reply ≡ fault_text bytes first)
 IsReply how bytes print reply =

@@ -1,12 +1,10 @@
 //! The replies to requests whose payload, where they have one, was read.
-ghost use Rattle.std.specs.Prelude.{◌≡◌, ◌||◌, ◌<◌, ◌≤◌, IfErr, IfOk, List, List as Row, OnOk, Some, codes, is_ok, length, not};
+ghost use Rattle.std.specs.Prelude.{◌≡◌, ◌||◌, ◌<◌, ◌≤◌, IfErr, IfOk, List as Row, OnOk, Some, is_ok, length, not};
 ghost use Rattle.shtext.specs.Device.{Writes, held_of, output_failed};
 ghost use Rattle.shtext.specs.Edit.{ASplice, splices_of};
-ghost use Rattle.shast.specs.declared.node.NodeLine.{NodeLine};
-ghost use Rattle.shlive.specs.Answers.{HasNodesAt, HasOutline};
 ghost use Rattle.shlive.specs.Edits.{IsMade, IsNotMade};
 ghost use Rattle.shlive.specs.Parts.{AreSplices, Hold, request_by};
-ghost use Rattle.shlive.specs.Replies.{fault_text, flaw_text, nodes_text, number_of_kind, ok_text, printed_text, refusal_text};
+ghost use Rattle.shlive.specs.Replies.{TellsNodesAt, TellsOutline, fault_text, flaw_text, number_of_kind, ok_text, printed_text, refusal_text};
 ghost use Rattle.shlive.specs.Requests.{at as asks_at, edit, fault, outline, print};
 ghost use Rattle.shlive.specs.Turns.{RepliesTo};
 
@@ -146,9 +144,8 @@ pub(crate) fn reply_to_edit<W: Write>(
 
 /// What is said of an outline.
 fn outline_text(alloc: Global, session: &Session) -> Result<Vec<u8>, AllocError>
-    ensures { IfOk result (λ text. (nodes : List NodeLine)
-        × HasOutline session.now.how.edition session.now.bytes nodes
-        × (text.items ≡ nodes_text (codes "outline") session.now.bytes nodes)) }
+    ensures { IfOk result
+        (λ text. TellsOutline session.now.how.edition session.now.bytes text.items) }
 {
     let nodes = session.outline()?;
     nodes_text(alloc, b"outline", session.bytes(), &nodes)
@@ -172,9 +169,8 @@ pub(crate) fn reply_to_outline<W: Write>(
 
 /// What is said of the nodes at an offset.
 fn at_text(alloc: Global, session: &Session, at: usize) -> Result<Vec<u8>, AllocError>
-    ensures { IfOk result (λ text. (nodes : List NodeLine)
-        × HasNodesAt session.now.how.edition session.now.bytes at nodes
-        × (text.items ≡ nodes_text (codes "at") session.now.bytes nodes)) }
+    ensures { IfOk result
+        (λ text. TellsNodesAt session.now.how.edition session.now.bytes at text.items) }
 {
     let nodes = session.nodes_at(at)?;
     nodes_text(alloc, b"at", session.bytes(), &nodes)
