@@ -1,5 +1,6 @@
 -- The splices of an edit, as they come.
-use Rattle.std.specs.Prelude.{◌≡◌, ◌<◌, ℕ, Bool, false, List, List as Row, Option, None, Some, Result, Ok, Err, OnOk, length, map, option_map}
+use Rattle.std.specs.Prelude.{◌≡◌, ◌<◌, ℕ, Bool, false, List, List as Row, Option, None, Some, Result, Ok, Err, OnOk, Vec, length, map}
+use Rattle.std.specs.Global.{Global}
 use Rattle.shtext.specs.Edit.{ASplice, IsTally}
 use Rattle.shlive.specs.Ahead.{Ahead, StopsBy, TakesBytes}
 use Rattle.shlive.specs.Requests.{Request, Sense, asks, edit, flawed, unfinished}
@@ -14,14 +15,18 @@ abbrev pub splices_kept : Row KeptSplice → Row ASplice
 splices_kept row = map (λ (k : KeptSplice). record { a = k.a; b = k.b; bytes = k.bytes.items }) row
 
 -- these splices are kept, or none
-abbrev pub AreSplices : Option (Row KeptSplice) → Row ASplice → Type 0
+abbrev pub AreSplices : Option (Vec KeptSplice Global) → Row ASplice → Type 0
 AreSplices None ss = Unit {0}
-AreSplices (Some row) ss = splices_kept row ≡ ss
+AreSplices (Some kept) ss = splices_kept kept.items ≡ ss
 
 -- what lengths tell of splices of a text of so many bytes, and the splices, where they are kept
 pub record Hold (parts : Parts) (len : ℕ) (ss : Row ASplice) : Type 0 where
   pub told : IsTally parts.tally len ss
-  pub kept : AreSplices (option_map (λ v. v.items) parts.kept) ss
+  pub kept : AreSplices parts.kept ss
+
+-- and there is one: those of an edit
+abbrev pub HoldSome : Parts → ℕ → Row ASplice → Type 0
+HoldSome parts len ss = (0 < length ss) × Hold parts len ss
 
 -- the request that came
 abbrev pub request_by : Result (Unit {0}) Flaw → Row ASplice → Request

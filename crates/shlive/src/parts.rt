@@ -1,5 +1,5 @@
 //! The splices of an edit, as they come.
-ghost use Rattle.std.specs.Prelude.{◌≡◌, ◌<◌, ◌∷◌, ◌++◌, [], ℕ, IfErr, IfOk, List, List as Row, OnOk, length, option_map};
+ghost use Rattle.std.specs.Prelude.{◌≡◌, ◌<◌, ◌∷◌, ◌++◌, [], ℕ, IfErr, IfOk, List, List as Row, OnOk, length};
 ghost use Rattle.shtext.specs.Edit.{ASplice, IsTally};
 ghost use Rattle.shtext.specs.Device.{input_ended, input_failed};
 ghost use Rattle.shlive.specs.Ahead.{IsOpen, StopsBy, TakesBytes, ahead_of, too_many};
@@ -82,9 +82,8 @@ impl Parts {
     /// Keeps a splice whose bytes came, where they were kept, after the others, where those are.
     fn keep(&mut self, part: Part, payload: Option<Vec<u8>>)
         ensures kept { (ss : Row ASplice) (bytes : List ℕ) →
-            AreSplices (option_map (λ v. v.items) self.old.kept) ss →
-            AreKept (option_map (λ v. v.items) payload) bytes →
-            AreSplices (option_map (λ v. v.items) self.new.kept) (ss ++ splice_by part bytes ∷ []) }
+            AreSplices self.old.kept ss → AreKept payload bytes →
+            AreSplices self.new.kept (ss ++ splice_by part bytes ∷ []) }
         ensures tally { self.new.tally ≡ self.old.tally }
     {
         let kept = mem::replace(&mut self.kept, None);
@@ -98,10 +97,8 @@ fn with_one(
     part: Part,
     payload: Option<Vec<u8>>,
 ) -> Option<Vec<KeptSplice>>
-    ensures { (ss : Row ASplice) (bytes : List ℕ) →
-        AreSplices (option_map (λ v. v.items) kept) ss →
-        AreKept (option_map (λ v. v.items) payload) bytes →
-        AreSplices (option_map (λ v. v.items) result) (ss ++ splice_by part bytes ∷ []) }
+    ensures { (ss : Row ASplice) (bytes : List ℕ) → AreSplices kept ss → AreKept payload bytes →
+        AreSplices result (ss ++ splice_by part bytes ∷ []) }
 {
     let mut kept = kept?;
     let bytes = payload?;

@@ -1,5 +1,5 @@
 //! The bytes that an edit brings.
-ghost use Rattle.std.specs.Prelude.{◌≡◌, ◌<◌, ◌++◌, ℕ, IfErr, IfOk, List, OnOk, length, option_map};
+ghost use Rattle.std.specs.Prelude.{◌≡◌, ◌<◌, ◌++◌, ℕ, IfErr, IfOk, List, OnOk, length};
 ghost use Rattle.shtext.specs.Device.{input_ended, input_failed};
 ghost use Rattle.shlive.specs.Ahead.{IsOpen, StopsBy, TakesBytes, ahead_of, too_many};
 ghost use Rattle.shlive.specs.Payload.{AreKept};
@@ -14,8 +14,7 @@ type Kept = Option<Vec<u8>>;
 
 /// Keeps a piece after what is kept.
 fn keep_more(kept: Kept, piece: &[u8]) -> Kept
-    ensures { (bytes : List ℕ) → AreKept (option_map (λ v. v.items) kept) bytes →
-        AreKept (option_map (λ v. v.items) result) (bytes ++ piece.now) }
+    ensures { (bytes : List ℕ) → AreKept kept bytes → AreKept result (bytes ++ piece.now) }
 {
     let mut bytes = kept?;
     match bytes.extend_from_slice(piece) {
@@ -37,8 +36,7 @@ pub(crate) fn take_payload<R: Read>(
     ensures open { OnOk result (IsOpen input.new) }
     ensures few { OnOk result (incoming.new.count < too_many) }
     ensures payload { IfOk result
-        (λ kept. (bytes : List ℕ) × (length bytes ≡ count)
-        × AreKept (option_map (λ v. v.items) kept) bytes
+        (λ kept. (bytes : List ℕ) × (length bytes ≡ count) × AreKept kept bytes
         × TakesBytes (ahead_of R.remaining input.old incoming.old)
         (ahead_of R.remaining input.new incoming.new) bytes) }
     ensures cut { IfErr result (λ stop. (bytes : List ℕ) × (length bytes < count)

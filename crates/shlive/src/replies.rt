@@ -3,7 +3,7 @@ ghost use Rattle.std.specs.Prelude.{◌≡◌, ◌||◌, ◌<◌, ◌≤◌, IfE
 ghost use Rattle.shtext.specs.Device.{Writes, held_of, output_failed};
 ghost use Rattle.shtext.specs.Edit.{ASplice, splices_of};
 ghost use Rattle.shlive.specs.Edits.{IsMade, IsNotMade};
-ghost use Rattle.shlive.specs.Parts.{AreSplices, Hold, request_by};
+ghost use Rattle.shlive.specs.Parts.{Hold, HoldSome, request_by, splices_kept};
 ghost use Rattle.shlive.specs.Replies.{TellsNodesAt, TellsOutline, fault_text, flaw_text, number_of_kind, ok_text, printed_text, refusal_text};
 ghost use Rattle.shlive.specs.Requests.{at as asks_at, edit, fault, outline, print};
 ghost use Rattle.shlive.specs.Turns.{RepliesTo};
@@ -51,8 +51,7 @@ fn flaw_text(flaw: Flaw) -> &'static [u8]
 
 /// The splices that were kept.
 fn splices_kept(alloc: Global, kept: &[KeptSplice]) -> Result<Vec<Splice<'_>>, AllocError>
-    ensures { IfOk result (λ splices. (ss : Row ASplice) →
-        AreSplices (Some kept.now) ss → splices_of splices.items ≡ ss) }
+    ensures { IfOk result (λ splices. splices_of splices.items ≡ splices_kept kept.now) }
 {
     let mut splices = Vec::with_capacity(alloc, kept.len())?;
     'kept: for splice in kept {
@@ -67,10 +66,11 @@ fn splices_kept(alloc: Global, kept: &[KeptSplice]) -> Result<Vec<Splice<'_>>, A
 
 /// Makes an edit whose splices came, where they were kept.
 fn edit_kept(alloc: Global, session: &mut Session, parts: &Parts) -> Result<(), LiveError>
-    ensures made { OnOk result ((ss : Row ASplice) → 0 < length ss →
-        Hold parts.now (length session.old.bytes) ss → IsMade session.old ss session.new) }
-    ensures refused { IfErr result (λ e. (ss : Row ASplice) → 0 < length ss →
-        Hold parts.now (length session.old.bytes) ss → IsNotMade session.old ss e session.new) }
+    ensures made { OnOk result ((ss : Row ASplice) →
+        HoldSome parts.now (length session.old.bytes) ss → IsMade session.old ss session.new) }
+    ensures refused { IfErr result (λ e. (ss : Row ASplice) →
+        HoldSome parts.now (length session.old.bytes) ss →
+        IsNotMade session.old ss e session.new) }
 {
     parts.tally.answer()?;
     let Some(kept) = &parts.kept else {
@@ -110,8 +110,7 @@ fn reply_to_splices<W: Write>(
     output: &mut Output<W>,
     parts: &Parts,
 ) -> Result<(), Failed>
-    ensures tells { (ss : Row ASplice) → 0 < length ss →
-        Hold parts.now (length session.old.bytes) ss →
+    ensures tells { (ss : Row ASplice) → HoldSome parts.now (length session.old.bytes) ss →
         RepliesTo session.old (edit ss) session.new
         (held_of W.contents output.old) (held_of W.contents output.new) (not (is_ok result)) }
     ensures failed { output_failed output.new ≡ (output_failed output.old || not (is_ok result)) }

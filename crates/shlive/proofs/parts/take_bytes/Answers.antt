@@ -1,4 +1,4 @@
-use Rattle.std.proofs.Common.{◌≡◌, ◌++◌, [], ◌∷◌, ◌∙◌, List, ℕ, option_map, refl, subst, sym}
+use Rattle.std.proofs.Common.{◌≡◌, ◌++◌, [], ◌∷◌, ◌∙◌, List, ℕ, refl, subst, sym}
 use Rattle.std.proofs.lemmas.Result.{err_from_is_err_and}
 use Rattle.shtext.specs.Edit.{ASplice, IsTally}
 use Rattle.shtext.specs.Device.{input_ended, input_failed}
@@ -48,7 +48,7 @@ returns-then-is_empty-clause-came g c =
         told = subst (λ t. IsTally t len (ss ++ splice_by part p.0 ∷ [])) (sym c.keep.ensures.tally)
             (c.expect-wanted.ensures.told len ss p.0 p.1 held.told);
         kept = c.keep.ensures.kept ss p.0
-            (subst (λ k. AreSplices (option_map (λ v. v.items) k) ss) (sym c.expect-wanted.ensures.kept) held.kept) p.2;
+            (subst (λ k. AreSplices k ss) (sym c.expect-wanted.ensures.kept) held.kept) p.2;
       }),
     )
 
@@ -72,6 +72,6 @@ returns-else-is_empty-clause-came g c =
         told = subst (λ t. IsTally t len (ss ++ splice_by part p.0 ∷ [])) (sym c.keep.ensures.tally)
             (c.expect-wanted.ensures.told len ss p.0 p.1 held.told);
         kept = c.keep.ensures.kept ss p.0
-            (subst (λ k. AreSplices (option_map (λ v. v.items) k) ss) (sym c.expect-wanted.ensures.kept) held.kept) p.2;
+            (subst (λ k. AreSplices k ss) (sym c.expect-wanted.ensures.kept) held.kept) p.2;
       }),
     )

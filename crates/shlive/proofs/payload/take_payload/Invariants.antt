@@ -1,4 +1,4 @@
-use Rattle.std.proofs.Common.{◌≡◌, ◌<◌, ◌+◌, List, ℕ, length, option_map}
+use Rattle.std.proofs.Common.{◌≡◌, ◌<◌, ◌+◌, List, ℕ, length}
 use Rattle.shlive.specs.Ahead.{IsOpen, TakesBytes, ahead_of, too_many}
 use Rattle.shlive.specs.Payload.{AreKept}
 use Rattle.shlive.proofs.payload.take_payload.Given as goal
@@ -6,7 +6,7 @@ use Rattle.shlive.proofs.payload.take_payload.Given as goal
 abbrev pub invariant-pieces : goal.invariant-pieces
 invariant-pieces g l =
     IsOpen l.input × (l.incoming.count < too_many)
-    × ((bytes : List ℕ) × (length bytes + l.left ≡ l.count) × AreKept (option_map (λ v. v.items) l.kept) bytes
+    × ((bytes : List ℕ) × (length bytes + l.left ≡ l.count) × AreKept l.kept bytes
     × TakesBytes (ahead_of g.R.Read.remaining l.fn.input l.fn.incoming)
     (ahead_of g.R.Read.remaining l.input l.incoming) bytes)
 
