@@ -1,10 +1,10 @@
 -- What is said of a session, and the status that is answered.
-use Rattle.std.specs.Prelude.{◌≡◌, ◌⊎◌, ℕ, ◌≤◌, [], Bool, true, false, List, length}
+use Rattle.std.specs.Prelude.{◌≡◌, ◌⊎◌, ℕ, ◌≤◌, [], true, false, List, length}
 use Rattle.std.specs.Prelude.{Option, None, Some, Err}
 use Rattle.std.specs.Io.KnownBytes.{Consumes, IsAtEnd}
 use Rattle.shgrammar.specs.declared.edition.Edition.{Edition}
 use Rattle.shlive.specs.Held.{Held, Manner}
-use Rattle.shlive.specs.Runs.{IsSessionRun}
+use Rattle.shlive.specs.Runs.{IsSessionRun, run_state}
 use Rattle.shprint.specs.declared.layout.Layout.{Layout}
 use Rattle.shtext.specs.Device.{held_of, input_ended, input_failed, left_of, output_failed}
 use Rattle.shtext.specs.Edit.{limit}
@@ -22,13 +22,6 @@ how_of edition layout = record { edition = edition; layout = layout }
 -- what a session holds that was opened on these bytes, with a reader of this meter
 abbrev pub opened_on : Manner → ℕ → List ℕ → Held
 opened_on how meter bytes = record { bytes = bytes; how = how; meter = raised meter (length bytes) }
-
--- A session that held this has run: the bytes that its reader had and has left, whether a read failed or
--- met the end; the bytes that its writer held and holds, whether a write failed; and the answer.
-abbrev pub HasRun : Held → Option (List ℕ) → Option (List ℕ) → Bool → Bool
-    → Option (List ℕ) → Option (List ℕ) → Bool → ℕ → Type 0
-HasRun before had has failed ended held holds broken answer =
-    (after : Held) × IsSessionRun before after had has failed ended held holds broken answer
 
 -- ---- FILE
 
@@ -57,11 +50,11 @@ pub record Serves {F I O E : Type 0} (devices : Devices F I O E) (how : Manner) 
     (old new : ProgramEnds F I O E) (status : ℕ) : Type 0 where
   pub read : List ℕ
   pub file : IsReadWhole devices.file old.file new.file read
-  pub run : HasRun (opened_on how meter read)
-      (left_of devices.input old.input) (left_of devices.input new.input)
-      (input_failed new.input) (input_ended new.input)
-      (held_of devices.output old.output) (held_of devices.output new.output) (output_failed new.output)
-      status
+  -- what the session holds in the end
+  pub after : Held
+  pub run : IsSessionRun
+      (run_state devices.input devices.output (opened_on how meter read) old.input old.output)
+      (run_state devices.input devices.output after new.input new.output) status
   pub silent : new.errors ≡ old.errors
 
 -- FILE was given up, or there was no memory for its session, and that was told; no request was read, and

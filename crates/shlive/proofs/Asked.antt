@@ -1,14 +1,14 @@
 -- What the bytes of a request spell.
-use Rattle.std.proofs.Common.{◌≡◌, ℕ, zero, suc, ◌+◌, ◌-◌, ◌<◌, Bool, false, true, List, [], ◌∷◌, ◌++◌, List as Row, Option, None, Some, length, take, drop, refl, sym, ap, ◌∙◌, arith, append_assoc, append-nil, length-append, subst, Result, Ok, Err, OnOk, IfErr}
+use Rattle.std.proofs.Common.{◌≡◌, ℕ, zero, suc, ◌+◌, ◌-◌, ◌<◌, Bool, false, true, List, [], ◌∷◌, ◌++◌, List as Row, Option, None, Some, length, take, drop, refl, sym, ap, ◌∙◌, arith, append_assoc, append-nil, length-append, subst, Result, Ok, Err}
 use Rattle.std.proofs.lemmas.List.{drop_all}
 use Rattle.std.proofs.Math.Seq.{drop-append_seam, take-append_seam}
 use Rattle.std.specs.Io.KnownBytes.{Appends}
-use Rattle.shlive.specs.Held.{Held}
 use Rattle.shlive.specs.Ahead.{Ahead, StopsBy, TakesBytes}
 use Rattle.shlive.specs.Lines.{IsInLine}
+use Rattle.shtext.specs.Device.{Writes}
 use Rattle.shtext.specs.Edit.{ASplice}
 use Rattle.shlive.specs.Requests.{EndsBy, Request, Sense, asks, behind_bytes, clean, cut, edit, edit_alone, first_line, flawed, more_parts, next_by_form, next_by_line, next_by_order, next_request_of, nothing, order_of_line, part_by_line, splice_by, unfinished, with_bytes}
-use Rattle.shlive.specs.Turns.{ChangesNothing, EndsAs, NoFurther, Replied, RepliesTo, Spells, end_between, end_inside}
+use Rattle.shlive.specs.Turns.{ChangesNothing, EndsAs, IsTurn, NoFurther, Replied, RepliesTo, Spells, TurnState, end_between, end_inside}
 use Rattle.shlive.specs.declared.incoming.InputEnd.{InputEnd}
 use Rattle.shlive.specs.declared.incoming.InputEnd.TheVariants as stops
 use Rattle.shlive.specs.declared.order.EditForm.{EditForm}
@@ -102,22 +102,13 @@ some_taken old new taken t some none =
     let empty = ap length none in
     omega (arith, before, behind, same, empty, some)
 
-pub ok_through : {A E P Q : Type 0} (r : Result A E) → (P → Q) → OnOk r P → OnOk r Q
-ok_through (Ok x) f p = f p
-ok_through (Err e) f p = p
-
-pub err_through : {A E : Type 0} (P Q : E → Type 0) (r : Result A E) → ((e : E) → P e → Q e) → IfErr r P → IfErr r Q
-err_through P Q (Ok x) f p = p
-err_through P Q (Err e) f p = f e p
-
 -- ---- a run that ends where no more bytes come
 
-module _ (sense : Sense) (before after : Held) (old new : Ahead) (failed ended : Bool) (held holds : Option (List ℕ))
-    (broken : Bool)
-    (same : after ≡ before) (silent : holds ≡ held) (sound : broken ≡ false) where
-  pub stops_inside : (stop : InputEnd) (taken : List ℕ) → TakesBytes old new taken →
-      (new.waiting.bytes ≡ [] → sense taken ≡ unfinished) → StopsBy stop failed ended new
-      → EndsAs sense (end_inside stop) before after old new failed ended held holds broken
+module _ (sense : Sense) (old new : TurnState) (same : new.session ≡ old.session)
+    (silent : new.written ≡ old.written) (sound : new.broken ≡ false) where
+  pub stops_inside : (stop : InputEnd) (taken : List ℕ) → TakesBytes old.ahead new.ahead taken →
+      (new.ahead.waiting.bytes ≡ [] → sense taken ≡ unfinished) → StopsBy new.ahead stop
+      → EndsAs sense old new (end_inside stop)
   stops_inside stops.Met taken takes whole s =
       record { taken = taken; takes = takes; none = (whole s.2, s); same = same; silent = silent; sound = sound }
   stops_inside stops.Unreadable taken takes whole s =
@@ -132,8 +123,8 @@ module _ (sense : Sense) (before after : Held) (old new : Ahead) (failed ended :
   stops_inside stops.TooLong taken takes whole s =
       record { taken = taken; takes = takes; none = s; same = same; silent = silent; sound = sound }
 
-  pub stops_between : (stop : InputEnd) → TakesBytes old new [] → sense [] ≡ nothing → StopsBy stop failed ended new
-      → EndsAs sense (end_between stop) before after old new failed ended held holds broken
+  pub stops_between : (stop : InputEnd) → TakesBytes old.ahead new.ahead [] → sense [] ≡ nothing
+      → StopsBy new.ahead stop → EndsAs sense old new (end_between stop)
   stops_between stops.Met takes none s =
       record { taken = []; takes = takes; none = (refl, none, s); same = same; silent = silent; sound = sound }
   stops_between stops.Unreadable takes none s =
@@ -152,53 +143,57 @@ module _ (sense : Sense) (before after : Held) (old new : Ahead) (failed ended :
 
 module _ (text : List ℕ) (sense : Sense)
     (front : (rest : List ℕ) → next_request_of ((text ++ 10 ∷ []) ++ rest) ≡ sense rest)
-    (before after : Held) (old mid new : Ahead) (held holds : Option (List ℕ))
-    (first : TakesBytes old mid (text ++ 10 ∷ [])) where
+    (begun : sense [] ≡ nothing → ⊥)
+    (old new : TurnState) (mid : Ahead) (first : TakesBytes old.ahead mid (text ++ 10 ∷ [])) where
+  abbrev after_line : TurnState
+  after_line = record { session = old.session; ahead = mid; written = old.written; broken = old.broken }
+
   through : (taken rest : List ℕ) → next_request_of (((text ++ 10 ∷ []) ++ taken) ++ rest) ≡ sense (taken ++ rest)
   through taken rest = ap next_request_of (append_assoc (text ++ 10 ∷ []) taken rest) ∙ front (taken ++ rest)
 
   through_all : (taken : List ℕ) → next_request_of ((text ++ 10 ∷ []) ++ taken) ≡ sense taken
   through_all taken = front taken
 
-  pub replied_through : (failed : Bool) → Replied sense before after mid new held holds failed →
-      Replied next_request_of before after old new held holds failed
+  replied_through : (failed : Bool) → Replied sense after_line new failed → Replied next_request_of old new failed
   replied_through failed r = record {
     taken = (text ++ 10 ∷ []) ++ r.taken;
     request = r.request;
-    takes = takes_both old mid new (text ++ 10 ∷ []) r.taken _ first r.takes refl;
+    takes = takes_both old.ahead mid new.ahead (text ++ 10 ∷ []) r.taken _ first r.takes refl;
     spelled = λ rest. through r.taken rest ∙ r.spelled rest;
     tells = r.tells;
   }
 
-  module _ (failed ended broken : Bool) (begun : sense [] ≡ nothing → ⊥) where
-    none_through : («end» : End) (taken : List ℕ) → NoFurther sense «end» taken failed ended new →
-        NoFurther next_request_of «end» ((text ++ 10 ∷ []) ++ taken) failed ended new
-    none_through Clean taken n = absurd (begun n.1)
-    none_through Quit taken n = ((λ rest. through taken rest ∙ n.0 rest), n.1)
-    none_through Cut taken n = (through_all taken ∙ n.0, n.1)
-    none_through Unreadable taken n = ((n.0.0, subst (λ x. EndsBy x n.0.0) (sym (through_all taken)) n.0.1), n.1)
-    none_through TooLong taken n = n
-    none_through Unwritable taken n = n
+  none_through : («end» : End) (taken : List ℕ) → NoFurther sense «end» taken new.ahead →
+      NoFurther next_request_of «end» ((text ++ 10 ∷ []) ++ taken) new.ahead
+  none_through Clean taken n = absurd (begun n.1)
+  none_through Quit taken n = ((λ rest. through taken rest ∙ n.0 rest), n.1)
+  none_through Cut taken n = (through_all taken ∙ n.0, n.1)
+  none_through Unreadable taken n = ((n.0.0, subst (λ x. EndsBy x n.0.0) (sym (through_all taken)) n.0.1), n.1)
+  none_through TooLong taken n = n
+  none_through Unwritable taken n = n
 
-    stays_through : («end» : End) → ChangesNothing sense «end» before after mid new failed ended held holds broken →
-        ChangesNothing next_request_of «end» before after old new failed ended held holds broken
-    stays_through why s = record {
-      taken = (text ++ 10 ∷ []) ++ s.taken;
-      takes = takes_both old mid new (text ++ 10 ∷ []) s.taken _ first s.takes refl;
-      none = none_through why s.taken s.none;
-      same = s.same;
-      silent = s.silent;
-      sound = s.sound;
-    }
+  stays_through : («end» : End) → ChangesNothing sense «end» after_line new →
+      ChangesNothing next_request_of «end» old new
+  stays_through why s = record {
+    taken = (text ++ 10 ∷ []) ++ s.taken;
+    takes = takes_both old.ahead mid new.ahead (text ++ 10 ∷ []) s.taken _ first s.takes refl;
+    none = none_through why s.taken s.none;
+    same = s.same;
+    silent = s.silent;
+    sound = s.sound;
+  }
 
-    pub ends_through : («end» : End) → EndsAs sense «end» before after mid new failed ended held holds broken
-        → EndsAs next_request_of «end» before after old new failed ended held holds broken
-    ends_through Clean s = stays_through Clean s
-    ends_through Quit s = stays_through Quit s
-    ends_through Cut s = stays_through Cut s
-    ends_through Unreadable s = stays_through Unreadable s
-    ends_through TooLong s = stays_through TooLong s
-    ends_through Unwritable s = (replied_through true s.0, s.1, s.2)
+  ends_through : («end» : End) → EndsAs sense after_line new «end» → EndsAs next_request_of old new «end»
+  ends_through Clean s = stays_through Clean s
+  ends_through Quit s = stays_through Quit s
+  ends_through Cut s = stays_through Cut s
+  ends_through Unreadable s = stays_through Unreadable s
+  ends_through TooLong s = stays_through TooLong s
+  ends_through Unwritable s = (replied_through true s.0, s.1, s.2)
+
+  pub turn_through : (r : Result (Unit {0}) End) → IsTurn sense after_line new r → IsTurn next_request_of old new r
+  turn_through (Ok replied) turn = replied_through false turn
+  turn_through (Err why) turn = ends_through why turn
 
 -- ---- a request that is a line alone
 
@@ -206,12 +201,12 @@ module _ (text : List ℕ) (inline : IsInLine text) (order : Option Order) (is :
   pub line_is : (rest : List ℕ) → next_request_of ((text ++ 10 ∷ []) ++ rest) ≡ next_by_order order rest
   line_is rest = line_first text rest inline ∙ ap (λ o. next_by_order o rest) (sym is)
 
-  pub plain_replied : (before after : Held) (old new : Ahead) (held holds : Option (List ℕ)) (failed : Bool)
-      (request : Request)
-      → TakesBytes old new (text ++ 10 ∷ []) → ((rest : List ℕ) → next_by_order order rest ≡ asks request rest) →
-      RepliesTo before request after held holds failed
-      → Replied next_request_of before after old new held holds failed
-  plain_replied before after old new held holds failed request takes next tells =
+  pub plain_replied : (old new : TurnState) (failed : Bool) (request : Request)
+      → TakesBytes old.ahead new.ahead (text ++ 10 ∷ [])
+      → ((rest : List ℕ) → next_by_order order rest ≡ asks request rest)
+      → RepliesTo old.session request new.session (Writes old.written new.written failed)
+      → Replied next_request_of old new failed
+  plain_replied old new failed request takes next tells =
       record {
         taken = text ++ 10 ∷ [];
         request = request;

@@ -1,8 +1,8 @@
 -- What came of an edit.
-use Rattle.std.proofs.Common.{◌≡◌, ◌-◌, ◌<◌, ◌++◌, [], ◌∷◌, Bool, false, true, true≢false, List, List as Row, ℕ, None, Some, Result, Ok, Err, IfErr, IfOk, OnOk, ap, append_assoc, arith, is_err, length, refl, sym, subst, ◌∙◌}
+use Rattle.std.proofs.Common.{◌≡◌, ◌-◌, ◌<◌, ◌++◌, [], ◌∷◌, false, true, true≢false, List, List as Row, ℕ, None, Some, Result, Ok, Err, IfErr, IfOk, OnOk, ap, append_assoc, arith, is_err, length, refl, sym, subst, ◌∙◌}
 use Rattle.shtext.specs.Edit.{ASplice}
-use Rattle.shlive.specs.Ahead.{Ahead, StopsBy, TakesBytes}
-use Rattle.shlive.specs.Parts.{Comes, Hold, after_bytes, request_by}
+use Rattle.shlive.specs.Ahead.{Ahead, StopsAfter, StopsBy, TakesBytes}
+use Rattle.shlive.specs.Parts.{Comes, Hold, IsInSplice, TakesSplice, after_bytes, request_by}
 use Rattle.shlive.specs.Requests.{Sense, asks, edit, edit_alone, first_line, flawed, more_parts, next_by_part, part_by_line, part_of_line, splice_by, unfinished, with_bytes}
 use Rattle.shlive.specs.Lines.{IsInLine}
 use Rattle.shlive.specs.Turns.{Spells}
@@ -24,28 +24,23 @@ pub some_if : (came : Result (Unit {0}) Flaw) (P : Type 0) → P → OnOk came P
 some_if (Ok whole) P p = p
 some_if (Err flaw) P p = tt
 
-module _ (part : Part) (old new : Ahead) (failed ended : Bool) (before after : Parts) (len : ℕ)
-    (none : Hold before len []) where
+module _ (part : Part) (old new : Ahead) (before after : Parts) (len : ℕ) (none : Hold before len []) where
   -- one splice
-  pub comes_alone : (r : Result (Result (Unit {0}) Flaw) InputEnd) → OnOk r ((failed ≡ false) × (ended ≡ false))
-      → IfOk r (λ came. (taken bytes : List ℕ) × TakesBytes old new taken
-      × ((next : ASplice → Sense) →
-      Spells (with_bytes part next) taken (after_bytes came (next (splice_by part bytes))))
-      × ((n : ℕ) (ss : Row ASplice) → Hold before n ss → Hold after n (ss ++ splice_by part bytes ∷ [])))
-      → IfErr r (λ stop. (taken : List ℕ) × TakesBytes old new taken
-      × ((next : ASplice → Sense) → with_bytes part next taken ≡ unfinished) × StopsBy stop failed ended new)
-      → Comes (with_bytes part edit_alone) old new failed ended after len r
+  pub comes_alone : (r : Result (Result (Unit {0}) Flaw) InputEnd) → OnOk r (new.failed ≡ false)
+      → IfOk r (TakesSplice part before after old new) → IfErr r (StopsAfter (IsInSplice part) old new)
+      → Comes (with_bytes part edit_alone) old new after len r
   comes_alone (Ok came) sound is cut =
-      let ss : Row ASplice = splice_by part is.1 ∷ [] in (
-        is.0,
-        ss,
-        some_if came (0 < length ss) (omega arith),
-        is.2,
-        (λ rest. is.3 edit_alone rest ∙ after_is came ss rest),
-        is.4 len [] none,
-        sound.0,
-      )
-  comes_alone (Err stop) sound is cut = (cut.0, cut.1, cut.2 edit_alone, cut.3)
+      let ss : Row ASplice = splice_by part is.bytes ∷ [] in
+      record {
+        taken = is.taken;
+        splices = ss;
+        some = some_if came (0 < length ss) (omega arith);
+        takes = is.takes;
+        spelled = λ rest. is.spelled edit_alone rest ∙ after_is came ss rest;
+        held = is.held len [] none;
+        sound = sound;
+      }
+  comes_alone (Err stop) sound is cut = (cut.0, cut.1 edit_alone, cut.2, cut.3)
 
 -- a flaw ends an edit, and none goes on with it
 pub after_flaw : (came : Result (Unit {0}) Flaw) (ss : Row ASplice) (next : Sense) (rest : List ℕ) → is_err came ≡ true
@@ -63,13 +58,12 @@ after_whole (Ok whole) next rest is = refl
 after_whole (Err flaw) next rest is = absurd (true≢false is)
 
 -- the input ended in an edit
-pub comes_cut : (sense : Sense) (old new : Ahead) (failed ended : Bool) (parts : Parts) (len : ℕ)
+pub comes_cut : (sense : Sense) (old new : Ahead) (parts : Parts) (len : ℕ)
     (r : Result (Result (Unit {0}) Flaw) InputEnd) (e stop : InputEnd) → r ≡ Err e → e ≡ stop
-    → (taken : List ℕ) → TakesBytes old new taken → sense taken ≡ unfinished → StopsBy stop failed ended new →
-    Comes sense old new failed ended parts len r
-comes_cut sense old new failed ended parts len r e stop is same taken takes cut stops =
-    subst (Comes sense old new failed ended parts len) (sym is)
-    (taken, takes, cut, subst (λ s. StopsBy s failed ended new) (sym same) stops)
+    → (taken : List ℕ) → TakesBytes old new taken → sense taken ≡ unfinished → StopsBy new stop →
+    Comes sense old new parts len r
+comes_cut sense old new parts len r e stop is same taken takes cut stops =
+    subst (Comes sense old new parts len) (sym is) (taken, cut, takes, subst (StopsBy new) (sym same) stops)
 
 -- ---- one part more
 

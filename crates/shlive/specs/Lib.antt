@@ -13,6 +13,7 @@ pub mod Lines
 pub mod Payload
 pub mod Edits
 pub mod Replies
+pub mod Outputs
 pub mod Turns
 pub mod Parts
 pub mod Runs

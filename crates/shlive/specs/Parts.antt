@@ -1,11 +1,12 @@
 -- The splices of an edit, as they come.
-use Rattle.std.specs.Prelude.{◌≡◌, ◌<◌, ℕ, Bool, false, List, List as Row, Option, None, Some, Result, Ok, Err, OnOk, Vec, length, map}
+use Rattle.std.specs.Prelude.{◌≡◌, ◌<◌, ◌++◌, ◌∷◌, [], ℕ, false, List, List as Row, Option, None, Some, Result, Ok, Err, OnOk, Vec, length, map}
 use Rattle.std.specs.Global.{Global}
 use Rattle.shtext.specs.Edit.{ASplice, IsTally}
-use Rattle.shlive.specs.Ahead.{Ahead, StopsBy, TakesBytes}
-use Rattle.shlive.specs.Requests.{Request, Sense, asks, edit, flawed, unfinished}
+use Rattle.shlive.specs.Ahead.{Ahead, StopsAfter, TakesBytes}
+use Rattle.shlive.specs.Requests.{Request, Sense, asks, edit, flawed, splice_by, unfinished, with_bytes}
 use Rattle.shlive.specs.Turns.{Spells}
 use Rattle.shlive.specs.declared.incoming.InputEnd.{InputEnd}
+use Rattle.shlive.specs.declared.order.Part.{Part}
 use Rattle.shlive.specs.declared.parts.Flaw.{Flaw}
 use Rattle.shlive.specs.declared.parts.KeptSplice.{KeptSplice}
 use Rattle.shlive.specs.declared.parts.Parts.{Parts}
@@ -38,12 +39,33 @@ abbrev pub after_bytes : Result (Unit {0}) Flaw → Sense → Sense
 after_bytes (Ok whole) next = next
 after_bytes (Err flaw) next = asks (flawed flaw)
 
+-- The bytes of a splice were taken, with what ends their last line. Whatever splices the parts held before,
+-- they hold this one after those.
+pub record TakesSplice (part : Part) (before after : Parts) (old new : Ahead) (came : Result (Unit {0}) Flaw)
+    : Type 0 where
+  pub taken : List ℕ
+  pub bytes : List ℕ
+  pub takes : TakesBytes old new taken
+  pub spelled : (next : ASplice → Sense)
+      → Spells (with_bytes part next) taken (after_bytes came (next (splice_by part bytes)))
+  pub held : (len : ℕ) (ss : Row ASplice) → Hold before len ss → Hold after len (ss ++ splice_by part bytes ∷ [])
+
+-- where no more follows, the request is cut off in a splice's bytes or before the newline after them
+abbrev pub IsInSplice : Part → List ℕ → Type 0
+IsInSplice part taken = (next : ASplice → Sense) → with_bytes part next taken ≡ unfinished
+
+-- an edit that is understood so was taken whole or up to a flaw
+pub record TakesEdit (sense : Sense) (old new : Ahead) (parts : Parts) (len : ℕ) (came : Result (Unit {0}) Flaw)
+    : Type 0 where
+  pub taken : List ℕ
+  pub splices : Row ASplice
+  pub some : OnOk came (0 < length splices)
+  pub takes : TakesBytes old new taken
+  pub spelled : Spells sense taken (asks (request_by came splices))
+  pub held : Hold parts len splices
+  pub sound : new.failed ≡ false
+
 -- What came of an edit that is understood so: it was taken whole or up to a flaw, or the input ended in it.
-abbrev pub Comes : Sense → Ahead → Ahead → Bool → Bool → Parts → ℕ
-    → Result (Result (Unit {0}) Flaw) InputEnd → Type 0
-Comes sense old new failed ended parts len (Ok came) =
-    (taken : List ℕ) × (ss : Row ASplice) × OnOk came (0 < length ss) × TakesBytes old new taken
-    × Spells sense taken (asks (request_by came ss)) × Hold parts len ss × (failed ≡ false)
-Comes sense old new failed ended parts len (Err stop) =
-    (taken : List ℕ) × TakesBytes old new taken × (sense taken ≡ unfinished)
-    × StopsBy stop failed ended new
+abbrev pub Comes : Sense → Ahead → Ahead → Parts → ℕ → Result (Result (Unit {0}) Flaw) InputEnd → Type 0
+Comes sense old new parts len (Ok came) = TakesEdit sense old new parts len came
+Comes sense old new parts len (Err stop) = StopsAfter (λ taken. sense taken ≡ unfinished) old new stop

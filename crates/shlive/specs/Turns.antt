@@ -1,6 +1,7 @@
 -- One request and its reply.
-use Rattle.std.specs.Prelude.{◌≡◌, ℕ, ◌++◌, [], Bool, true, false, List, Option}
-use Rattle.shtext.specs.Device.{Writes}
+use Rattle.std.specs.Prelude.{◌≡◌, ℕ, ◌++◌, [], Bool, true, false, List, Option, Result, Ok, Err}
+use Rattle.shtext.specs.Device.{Writes, held_of, output_failed}
+use Rattle.shtext.specs.declared.device.Output.{Output}
 use Rattle.shlive.specs.Held.{Held}
 use Rattle.shlive.specs.Ahead.{Ahead, StopsBy, TakesBytes}
 use Rattle.shlive.specs.Replies.{ReplyStep}
@@ -10,54 +11,71 @@ use Rattle.shlive.specs.declared.incoming.InputEnd.TheVariants as stops
 use Rattle.shlive.specs.declared.serve.End.{End}
 use Rattle.shlive.specs.declared.serve.End.TheVariants.{Clean, Quit, Cut, Unreadable, TooLong, Unwritable}
 
--- the reply to a request was written, or where the device failed a beginning of it
-abbrev pub RepliesTo : Held → Request → Held → Option (List ℕ) → Option (List ℕ) → Bool → Type 0
-RepliesTo before request after held holds failed = (reply : List ℕ) × ReplyStep before request reply after
-    × Writes held holds failed reply
+-- a request has a reply, of which this is so
+abbrev pub RepliesTo : Held → Request → Held → (List ℕ → Type 0) → Type 0
+RepliesTo before request after Is = (reply : List ℕ) × ReplyStep before request reply after × Is reply
 
 -- whatever follows it, the text is understood so
 abbrev pub Spells : Sense → List ℕ → Sense → Type 0
 Spells sense text next = (rest : List ℕ) → sense (text ++ rest) ≡ next rest
 
+-- ---- turns
+
+-- Where a run stands before a turn or after it: what its session holds, what is ahead, and what its writer
+-- holds, where it tells, and whether a write failed.
+pub record TurnState : Type 0 where
+  pub session : Held
+  pub ahead : Ahead
+  pub written : Option (List ℕ)
+  pub broken : Bool
+
+abbrev pub turn_state : {W : Type 0} → (W → Option (List ℕ)) → Held → Ahead → Output W → TurnState
+turn_state contents session ahead output = record {
+  session = session;
+  ahead = ahead;
+  written = held_of contents output;
+  broken = output_failed output;
+}
+
 -- the rest of a request was taken, and the reply to it was written, or where the
 -- device failed a beginning of it
-pub record Replied (sense : Sense) (before after : Held) (old new : Ahead) (held holds : Option (List ℕ))
-    (failed : Bool) : Type 0 where
+pub record Replied (sense : Sense) (old new : TurnState) (failed : Bool) : Type 0 where
   pub taken : List ℕ
   pub request : Request
-  pub takes : TakesBytes old new taken
+  pub takes : TakesBytes old.ahead new.ahead taken
   pub spelled : Spells sense taken (asks request)
-  pub tells : RepliesTo before request after held holds failed
+  pub tells : RepliesTo old.session request new.session (Writes old.written new.written failed)
 
 -- why there is no further request, by what was taken meanwhile
-abbrev pub NoFurther : Sense → End → List ℕ → Bool → Bool → Ahead → Type 0
-NoFurther sense Clean taken failed ended ahead = (taken ≡ []) × (sense [] ≡ nothing)
-    × StopsBy stops.Met failed ended ahead
-NoFurther sense Quit taken failed ended ahead = Spells sense taken (λ rest. leaves) × (failed ≡ false)
-NoFurther sense Cut taken failed ended ahead = (sense taken ≡ unfinished) × StopsBy stops.Met failed ended ahead
-NoFurther sense Unreadable taken failed ended ahead = ((ending : Ending) × EndsBy (sense taken) ending)
-    × StopsBy stops.Unreadable failed ended ahead
-NoFurther sense TooLong taken failed ended ahead = StopsBy stops.TooLong failed ended ahead
-NoFurther sense Unwritable taken failed ended ahead = ⊥
+abbrev pub NoFurther : Sense → End → List ℕ → Ahead → Type 0
+NoFurther sense Clean taken ahead = (taken ≡ []) × (sense [] ≡ nothing) × StopsBy ahead stops.Met
+NoFurther sense Quit taken ahead = Spells sense taken (λ rest. leaves) × (ahead.failed ≡ false)
+NoFurther sense Cut taken ahead = (sense taken ≡ unfinished) × StopsBy ahead stops.Met
+NoFurther sense Unreadable taken ahead =
+    ((ending : Ending) × EndsBy (sense taken) ending) × StopsBy ahead stops.Unreadable
+NoFurther sense TooLong taken ahead = StopsBy ahead stops.TooLong
+NoFurther sense Unwritable taken ahead = ⊥
 
 -- nothing was replied and nothing changed
-pub record ChangesNothing (sense : Sense) («end» : End) (before after : Held) (old new : Ahead) (failed ended : Bool)
-    (held holds : Option (List ℕ)) (broken : Bool) : Type 0 where
+pub record ChangesNothing (sense : Sense) («end» : End) (old new : TurnState) : Type 0 where
   pub taken : List ℕ
-  pub takes : TakesBytes old new taken
-  pub none : NoFurther sense «end» taken failed ended new
-  pub same : after ≡ before
-  pub silent : holds ≡ held
-  pub sound : broken ≡ false
+  pub takes : TakesBytes old.ahead new.ahead taken
+  pub none : NoFurther sense «end» taken new.ahead
+  pub same : new.session ≡ old.session
+  pub silent : new.written ≡ old.written
+  pub sound : new.broken ≡ false
 
 -- How a run ends with this turn: the reply to its request could not be written, or
 -- there is no further request.
-abbrev pub EndsAs : Sense → End → Held → Held → Ahead → Ahead → Bool → Bool → Option (List ℕ) → Option (List ℕ) → Bool →
-    Type 0
-EndsAs sense Unwritable before after old new failed ended held holds broken =
-    Replied sense before after old new held holds true × (failed ≡ false) × (broken ≡ true)
-EndsAs sense why before after old new failed ended held holds broken =
-    ChangesNothing sense why before after old new failed ended held holds broken
+abbrev pub EndsAs : Sense → TurnState → TurnState → End → Type 0
+EndsAs sense old new Unwritable =
+    Replied sense old new true × (new.ahead.failed ≡ false) × (new.broken ≡ true)
+EndsAs sense old new why = ChangesNothing sense why old new
+
+-- a turn of a run: the request was replied to, or the run ends
+abbrev pub IsTurn : Sense → TurnState → TurnState → Result (Unit {0}) End → Type 0
+IsTurn sense old new (Ok replied) = Replied sense old new false
+IsTurn sense old new (Err why) = EndsAs sense old new why
 
 abbrev pub end_between : InputEnd → End
 end_between stops.Met = Clean

@@ -1,7 +1,6 @@
 //! The bytes that come from an input, read a piece at a time.
 ghost use Rattle.std.specs.Prelude.{◌≡◌, ◌+◌, ◌-◌, ◌<◌, ◌≤◌, ◌∷◌, [], IfErr, OnOk, drop, length, take};
-ghost use Rattle.shtext.specs.Device.{input_ended, input_failed};
-ghost use Rattle.shlive.specs.Ahead.{IsOpen, StopsBy, TakesBytes, ahead_of, too_many};
+ghost use Rattle.shlive.specs.Ahead.{IsReady, StopsBy, TakesBytes, ahead_of};
 
 use shtext::{Failed, Input};
 use std::io::Read;
@@ -61,16 +60,12 @@ impl Incoming {
 
     /// Sees to it that a byte waits: reads where none does.
     pub(crate) fn fill<R: Read>(&mut self, input: &mut Input<R>) -> Result<(), InputEnd>
-        requires open { IsOpen input.old }
-        requires few { self.old.count < too_many }
+        requires { IsReady input.old self.old }
         ensures some { OnOk result (0 < length self.new.bytes) }
-        ensures open { OnOk result (IsOpen input.new) }
-        ensures few { OnOk result (self.new.count < too_many) }
+        ensures ready { OnOk result (IsReady input.new self.new) }
         ensures takes { TakesBytes (ahead_of R.remaining input.old self.old)
             (ahead_of R.remaining input.new self.new) [] }
-        ensures stops { IfErr result
-            (λ stop. StopsBy stop (input_failed input.new) (input_ended input.new)
-            (ahead_of R.remaining input.new self.new)) }
+        ensures stops { IfErr result (StopsBy (ahead_of R.remaining input.new self.new)) }
     {
         if self.at < self.end {
             return Ok(());

@@ -1,8 +1,7 @@
 //! The lines of requests.
 ghost use Rattle.std.specs.Prelude.{◌≡◌, ◌<◌, ◌≤◌, ◌∷◌, ◌++◌, [], ℕ, IfErr, IfOk, List, MatchOption, OnOk, IsTrue, ◌↔◌, length};
-ghost use Rattle.shtext.specs.Device.{input_ended, input_failed};
-ghost use Rattle.shlive.specs.Ahead.{IsOpen, StopsBy, TakesBytes, ahead_of, too_many};
-ghost use Rattle.shlive.specs.Lines.{IsInLine, KeepsText};
+ghost use Rattle.shlive.specs.Ahead.{IsReady, StopsAfter, ahead_of};
+ghost use Rattle.shlive.specs.Lines.{IsInLine, KeepsText, TakesLine};
 ghost use Rattle.shlive.specs.Requests.{line_limit};
 
 use crate::incoming::{Incoming, InputEnd};
@@ -71,17 +70,11 @@ pub(crate) fn take_line<R: Read>(
     incoming: &mut Incoming,
     input: &mut Input<R>,
 ) -> Result<RequestLine, InputEnd>
-    requires open { IsOpen input.old }
-    requires few { incoming.old.count < too_many }
-    ensures open { OnOk result (IsOpen input.new) }
-    ensures few { OnOk result (incoming.new.count < too_many) }
-    ensures line { IfOk result (λ line. (text : List ℕ) × IsInLine text × KeepsText line text
-        × TakesBytes (ahead_of R.remaining input.old incoming.old)
-        (ahead_of R.remaining input.new incoming.new) (text ++ 10 ∷ [])) }
-    ensures cut { IfErr result (λ stop. (text : List ℕ) × IsInLine text
-        × TakesBytes (ahead_of R.remaining input.old incoming.old)
-        (ahead_of R.remaining input.new incoming.new) text
-        × StopsBy stop (input_failed input.new) (input_ended input.new)
+    requires { IsReady input.old incoming.old }
+    ensures ready { OnOk result (IsReady input.new incoming.new) }
+    ensures line { IfOk result (TakesLine (ahead_of R.remaining input.old incoming.old)
+        (ahead_of R.remaining input.new incoming.new)) }
+    ensures cut { IfErr result (StopsAfter IsInLine (ahead_of R.remaining input.old incoming.old)
         (ahead_of R.remaining input.new incoming.new)) }
 {
     let mut line = RequestLine::new();

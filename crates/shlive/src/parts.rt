@@ -1,14 +1,12 @@
 //! The splices of an edit, as they come.
 ghost use Rattle.std.specs.Prelude.{◌≡◌, ◌<◌, ◌∷◌, ◌++◌, [], ℕ, IfErr, IfOk, List, List as Row, OnOk, length};
 ghost use Rattle.shtext.specs.Edit.{ASplice, IsTally};
-ghost use Rattle.shtext.specs.Device.{input_ended, input_failed};
-ghost use Rattle.shlive.specs.Ahead.{IsOpen, StopsBy, TakesBytes, ahead_of, too_many};
+ghost use Rattle.shlive.specs.Ahead.{IsReady, StopsAfter, ahead_of};
 ghost use Rattle.shlive.specs.Lines.{KeepsText};
-ghost use Rattle.shlive.specs.Parts.{AreSplices, Comes, Hold, after_bytes};
+ghost use Rattle.shlive.specs.Parts.{AreSplices, Comes, Hold, IsInSplice, TakesSplice};
 ghost use Rattle.shlive.specs.Payload.{AreKept};
 ghost use Rattle.shlive.specs.Orders.{HasPart};
-ghost use Rattle.shlive.specs.Requests.{Sense, more_parts, next_by_form, part_of_line, splice_by, unfinished, with_bytes};
-ghost use Rattle.shlive.specs.Turns.{Spells};
+ghost use Rattle.shlive.specs.Requests.{more_parts, next_by_form, part_of_line, splice_by};
 
 use crate::incoming::{Incoming, InputEnd};
 use crate::lines::{RequestLine, take_line};
@@ -122,22 +120,13 @@ fn take_bytes<R: Read>(
     is_last: bool,
     parts: &mut Parts,
 ) -> Result<Result<(), Flaw>, InputEnd>
-    requires open { IsOpen input.old }
-    requires few { incoming.old.count < too_many }
-    ensures open { OnOk result (IsOpen input.new) }
-    ensures few { OnOk result (incoming.new.count < too_many) }
-    ensures came { IfOk result (λ came. (taken bytes : List ℕ) ×
-        TakesBytes (ahead_of R.remaining input.old incoming.old)
-        (ahead_of R.remaining input.new incoming.new) taken ×
-        ((next : ASplice → Sense) →
-        Spells (with_bytes part next) taken (after_bytes came (next (splice_by part bytes)))) ×
-        ((len : ℕ) (ss : Row ASplice) → Hold parts.old len ss →
-        Hold parts.new len (ss ++ splice_by part bytes ∷ []))) }
-    ensures cut { IfErr result (λ stop. (taken : List ℕ) ×
-        TakesBytes (ahead_of R.remaining input.old incoming.old)
-        (ahead_of R.remaining input.new incoming.new) taken ×
-        ((next : ASplice → Sense) → with_bytes part next taken ≡ unfinished) ×
-        StopsBy stop (input_failed input.new) (input_ended input.new)
+    requires { IsReady input.old incoming.old }
+    ensures ready { OnOk result (IsReady input.new incoming.new) }
+    ensures came { IfOk result (TakesSplice part parts.old parts.new
+        (ahead_of R.remaining input.old incoming.old)
+        (ahead_of R.remaining input.new incoming.new)) }
+    ensures cut { IfErr result (StopsAfter (IsInSplice part)
+        (ahead_of R.remaining input.old incoming.old)
         (ahead_of R.remaining input.new incoming.new)) }
 {
     let wanted = parts.expect(part, is_last);
@@ -160,14 +149,11 @@ fn take_parts<R: Read>(
     parts: &mut Parts,
 ) -> Result<Result<(), Flaw>, InputEnd>
     requires some { 0 < count }
-    requires open { IsOpen input.old }
-    requires few { incoming.old.count < too_many }
-    ensures open { OnOk result (IsOpen input.new) }
-    ensures few { OnOk result (incoming.new.count < too_many) }
+    requires ready { IsReady input.old incoming.old }
+    ensures ready { OnOk result (IsReady input.new incoming.new) }
     ensures comes { (len : ℕ) → Hold parts.old len [] →
-        Comes (more_parts count [])
-        (ahead_of R.remaining input.old incoming.old) (ahead_of R.remaining input.new incoming.new)
-        (input_failed input.new) (input_ended input.new) parts.new len result }
+        Comes (more_parts count []) (ahead_of R.remaining input.old incoming.old)
+        (ahead_of R.remaining input.new incoming.new) parts.new len result }
 {
     let mut left = count;
     'parts: while left > 0 {
@@ -203,14 +189,11 @@ pub(crate) fn take_splices<R: Read>(
     parts: &mut Parts,
 ) -> Result<Result<(), Flaw>, InputEnd>
     requires some { HasPart form }
-    requires open { IsOpen input.old }
-    requires few { incoming.old.count < too_many }
-    ensures open { OnOk result (IsOpen input.new) }
-    ensures few { OnOk result (incoming.new.count < too_many) }
+    requires ready { IsReady input.old incoming.old }
+    ensures ready { OnOk result (IsReady input.new incoming.new) }
     ensures comes { (len : ℕ) → Hold parts.old len [] →
-        Comes (next_by_form form)
-        (ahead_of R.remaining input.old incoming.old) (ahead_of R.remaining input.new incoming.new)
-        (input_failed input.new) (input_ended input.new) parts.new len result }
+        Comes (next_by_form form) (ahead_of R.remaining input.old incoming.old)
+        (ahead_of R.remaining input.new incoming.new) parts.new len result }
 {
     match form {
         EditForm::Alone(part) => take_bytes(alloc, incoming, input, part, true, parts),

@@ -1,8 +1,7 @@
 //! The bytes that an edit brings.
-ghost use Rattle.std.specs.Prelude.{◌≡◌, ◌<◌, ◌++◌, ℕ, IfErr, IfOk, List, OnOk, length};
-ghost use Rattle.shtext.specs.Device.{input_ended, input_failed};
-ghost use Rattle.shlive.specs.Ahead.{IsOpen, StopsBy, TakesBytes, ahead_of, too_many};
-ghost use Rattle.shlive.specs.Payload.{AreKept};
+ghost use Rattle.std.specs.Prelude.{◌<◌, ◌++◌, ℕ, IfErr, IfOk, List, OnOk, length};
+ghost use Rattle.shlive.specs.Ahead.{IsReady, StopsAfter, ahead_of};
+ghost use Rattle.shlive.specs.Payload.{AreKept, TakesPayload};
 
 use crate::incoming::{Incoming, InputEnd};
 use shtext::Input;
@@ -31,18 +30,13 @@ pub(crate) fn take_payload<R: Read>(
     count: usize,
     wanted: bool,
 ) -> Result<Kept, InputEnd>
-    requires open { IsOpen input.old }
-    requires few { incoming.old.count < too_many }
-    ensures open { OnOk result (IsOpen input.new) }
-    ensures few { OnOk result (incoming.new.count < too_many) }
-    ensures payload { IfOk result
-        (λ kept. (bytes : List ℕ) × (length bytes ≡ count) × AreKept kept bytes
-        × TakesBytes (ahead_of R.remaining input.old incoming.old)
-        (ahead_of R.remaining input.new incoming.new) bytes) }
-    ensures cut { IfErr result (λ stop. (bytes : List ℕ) × (length bytes < count)
-        × TakesBytes (ahead_of R.remaining input.old incoming.old)
-        (ahead_of R.remaining input.new incoming.new) bytes
-        × StopsBy stop (input_failed input.new) (input_ended input.new)
+    requires { IsReady input.old incoming.old }
+    ensures ready { OnOk result (IsReady input.new incoming.new) }
+    ensures payload { IfOk result (TakesPayload count
+        (ahead_of R.remaining input.old incoming.old)
+        (ahead_of R.remaining input.new incoming.new)) }
+    ensures cut { IfErr result (StopsAfter (λ bytes. length bytes < count)
+        (ahead_of R.remaining input.old incoming.old)
         (ahead_of R.remaining input.new incoming.new)) }
 {
     let mut kept = if wanted { Some(Vec::new(alloc)) } else { None };

@@ -1,8 +1,8 @@
 //! The replies to requests whose payload, where they have one, was read.
-ghost use Rattle.std.specs.Prelude.{◌≡◌, ◌||◌, ◌<◌, ◌≤◌, IfErr, IfOk, List as Row, OnOk, Some, is_ok, length, not};
-ghost use Rattle.shtext.specs.Device.{Writes, held_of, output_failed};
+ghost use Rattle.std.specs.Prelude.{◌≡◌, ◌<◌, ◌≤◌, IfErr, IfOk, List as Row, OnOk, Some, length};
 ghost use Rattle.shtext.specs.Edit.{ASplice, splices_of};
 ghost use Rattle.shlive.specs.Edits.{IsMade, IsNotMade};
+ghost use Rattle.shlive.specs.Outputs.{Remembers, WritesText};
 ghost use Rattle.shlive.specs.Parts.{Hold, HoldSome, request_by, splices_kept};
 ghost use Rattle.shlive.specs.Replies.{TellsNodesAt, TellsOutline, fault_text, flaw_text, number_of_kind, ok_text, printed_text, refusal_text};
 ghost use Rattle.shlive.specs.Requests.{at as asks_at, edit, fault, outline, print};
@@ -86,9 +86,9 @@ fn edit_kept(alloc: Global, session: &mut Session, parts: &Parts) -> Result<(), 
 
 /// Says that an edit was made: how many bytes the script has now, and its status.
 fn tell_ok<W: Write>(output: &mut Output<W>, len: usize, status: u8) -> Result<(), Failed>
-    ensures bytes { Writes (held_of W.contents output.old) (held_of W.contents output.new)
-        (not (is_ok result)) (ok_text len status) }
-    ensures failed { output_failed output.new ≡ (output_failed output.old || not (is_ok result)) }
+    ensures bytes { WritesText W.contents output.old output.new result
+        (ok_text len status) }
+    ensures failed { Remembers output.old output.new result }
 {
     let (mut len_text, mut status_text) = (itoa::Buffer::new(), itoa::Buffer::new());
     write_flushed(
@@ -112,8 +112,8 @@ fn reply_to_splices<W: Write>(
 ) -> Result<(), Failed>
     ensures tells { (ss : Row ASplice) → HoldSome parts.now (length session.old.bytes) ss →
         RepliesTo session.old (edit ss) session.new
-        (held_of W.contents output.old) (held_of W.contents output.new) (not (is_ok result)) }
-    ensures failed { output_failed output.new ≡ (output_failed output.old || not (is_ok result)) }
+        (WritesText W.contents output.old output.new result) }
+    ensures failed { Remembers output.old output.new result }
 {
     if let Err(error) = edit_kept(alloc, session, parts) {
         return write_flushed(output, &[refusal_text(error)]);
@@ -132,8 +132,8 @@ pub(crate) fn reply_to_edit<W: Write>(
     ensures tells { (ss : Row ASplice) → OnOk came (0 < length ss) →
         Hold parts.now (length session.old.bytes) ss →
         RepliesTo session.old (request_by came ss) session.new
-        (held_of W.contents output.old) (held_of W.contents output.new) (not (is_ok result)) }
-    ensures failed { output_failed output.new ≡ (output_failed output.old || not (is_ok result)) }
+        (WritesText W.contents output.old output.new result) }
+    ensures failed { Remembers output.old output.new result }
 {
     match came {
         Ok(()) => reply_to_splices(alloc, session, output, parts),
@@ -156,9 +156,9 @@ pub(crate) fn reply_to_outline<W: Write>(
     session: &Session,
     output: &mut Output<W>,
 ) -> Result<(), Failed>
-    ensures tells { RepliesTo session.now outline session.now (held_of W.contents output.old)
-        (held_of W.contents output.new) (not (is_ok result)) }
-    ensures failed { output_failed output.new ≡ (output_failed output.old || not (is_ok result)) }
+    ensures tells { RepliesTo session.now outline session.now
+        (WritesText W.contents output.old output.new result) }
+    ensures failed { Remembers output.old output.new result }
 {
     match outline_text(alloc, session) {
         Ok(text) => write_flushed(output, &[&text]),
@@ -182,9 +182,9 @@ pub(crate) fn reply_to_at<W: Write>(
     output: &mut Output<W>,
     at: usize,
 ) -> Result<(), Failed>
-    ensures tells { RepliesTo session.now (asks_at at) session.now (held_of W.contents output.old)
-        (held_of W.contents output.new) (not (is_ok result)) }
-    ensures failed { output_failed output.new ≡ (output_failed output.old || not (is_ok result)) }
+    ensures tells { RepliesTo session.now (asks_at at) session.now
+        (WritesText W.contents output.old output.new result) }
+    ensures failed { Remembers output.old output.new result }
 {
     if session.is_past(at) {
         return write_flushed(output, &[b"at 0\n"]);
@@ -202,9 +202,9 @@ fn tell_fault<W: Write>(
     fault: Fault,
 ) -> Result<(), Failed>
     requires { fault.at ≤ length session.now.bytes }
-    ensures bytes { Writes (held_of W.contents output.old) (held_of W.contents output.new)
-        (not (is_ok result)) (fault_text session.now.bytes (Some fault)) }
-    ensures failed { output_failed output.new ≡ (output_failed output.old || not (is_ok result)) }
+    ensures bytes { WritesText W.contents output.old output.new result
+        (fault_text session.now.bytes (Some fault)) }
+    ensures failed { Remembers output.old output.new result }
 {
     let (line, col) = session.bytes().line_col(fault.at);
     let (mut at_text, mut line_text) = (itoa::Buffer::new(), itoa::Buffer::new());
@@ -230,9 +230,9 @@ pub(crate) fn reply_to_fault<W: Write>(
     session: &Session,
     output: &mut Output<W>,
 ) -> Result<(), Failed>
-    ensures tells { RepliesTo session.now fault session.now (held_of W.contents output.old)
-        (held_of W.contents output.new) (not (is_ok result)) }
-    ensures failed { output_failed output.new ≡ (output_failed output.old || not (is_ok result)) }
+    ensures tells { RepliesTo session.now fault session.now
+        (WritesText W.contents output.old output.new result) }
+    ensures failed { Remembers output.old output.new result }
 {
     match session.fault() {
         Some(fault) => tell_fault(session, output, fault),
@@ -242,9 +242,9 @@ pub(crate) fn reply_to_fault<W: Write>(
 
 /// Replies to `print` where the script has a printed text.
 fn tell_text<W: Write>(output: &mut Output<W>, text: &[u8]) -> Result<(), Failed>
-    ensures bytes { Writes (held_of W.contents output.old) (held_of W.contents output.new)
-        (not (is_ok result)) (printed_text (Some text.now)) }
-    ensures failed { output_failed output.new ≡ (output_failed output.old || not (is_ok result)) }
+    ensures bytes { WritesText W.contents output.old output.new result
+        (printed_text (Some text.now)) }
+    ensures failed { Remembers output.old output.new result }
 {
     let mut len = itoa::Buffer::new();
     write_flushed(
@@ -264,9 +264,9 @@ pub(crate) fn reply_to_print<W: Write>(
     session: &Session,
     output: &mut Output<W>,
 ) -> Result<(), Failed>
-    ensures tells { RepliesTo session.now print session.now (held_of W.contents output.old)
-        (held_of W.contents output.new) (not (is_ok result)) }
-    ensures failed { output_failed output.new ≡ (output_failed output.old || not (is_ok result)) }
+    ensures tells { RepliesTo session.now print session.now
+        (WritesText W.contents output.old output.new result) }
+    ensures failed { Remembers output.old output.new result }
 {
     if session.fault().is_some() {
         return write_flushed(output, &[b"none\n"]);

@@ -1,6 +1,6 @@
 //! Writing replies.
-ghost use Rattle.std.specs.Prelude.{◌≡◌, ◌||◌, flat_map, is_ok, not};
-ghost use Rattle.shtext.specs.Device.{Writes, held_of, output_failed};
+ghost use Rattle.std.specs.Prelude.{flat_map};
+ghost use Rattle.shlive.specs.Outputs.{Remembers, WritesText};
 
 use shtext::{Failed, Output};
 use std::io::Write;
@@ -10,9 +10,9 @@ pub(crate) fn write_flushed<W: Write>(
     output: &mut Output<W>,
     pieces: &[&[u8]],
 ) -> Result<(), Failed>
-    ensures bytes { Writes (held_of W.contents output.old) (held_of W.contents output.new)
-        (not (is_ok result)) (flat_map (λ p. p.now) pieces.now) }
-    ensures failed { output_failed output.new ≡ (output_failed output.old || not (is_ok result)) }
+    ensures bytes { WritesText W.contents output.old output.new result
+        (flat_map (λ p. p.now) pieces.now) }
+    ensures failed { Remembers output.old output.new result }
 {
     for piece in pieces {
         if output.write_whole(piece).is_err() {

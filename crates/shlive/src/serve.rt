@@ -1,13 +1,14 @@
 //! A session over a reader and a writer.
-ghost use Rattle.std.specs.Prelude.{◌≡◌, ◌<◌, ◌||◌, Bool, IfErr, IfSome, IsOk, ℕ, List, OnOk, false, Some, is_ok, length, not};
-ghost use Rattle.shtext.specs.Device.{held_of, input_ended, input_failed, left_of, output_failed};
-ghost use Rattle.shlive.specs.Ahead.{Ahead, IsOpen, ahead_of, too_many};
+ghost use Rattle.std.specs.Prelude.{◌≡◌, IfSome, IsOk, ℕ, List, OnOk, false, length};
+ghost use Rattle.shtext.specs.Device.{output_failed};
+ghost use Rattle.shlive.specs.Ahead.{Ahead, IsOpen, IsReady, ahead_of};
 ghost use Rattle.shlive.specs.Lines.{KeepsText};
 ghost use Rattle.shlive.specs.Orders.{HasPart, HasParts};
+ghost use Rattle.shlive.specs.Outputs.{Remembers, WritesText};
 ghost use Rattle.shlive.specs.Parts.{Comes};
 ghost use Rattle.shlive.specs.Requests.{Sense, next_by_form, next_request_of, order_of_line, request_of};
-ghost use Rattle.shlive.specs.Runs.{HasAnswer, IsSessionRun};
-ghost use Rattle.shlive.specs.Turns.{EndsAs, Replied, RepliesTo, end_between, end_inside};
+ghost use Rattle.shlive.specs.Runs.{HasAnswer, IsSessionRun, run_state};
+ghost use Rattle.shlive.specs.Turns.{IsTurn, RepliesTo, end_between, end_inside, turn_state};
 
 use crate::incoming::{Incoming, InputEnd};
 use crate::lines::{RequestLine, take_line};
@@ -92,8 +93,8 @@ fn reply_to<W: Write>(
     question: Question,
 ) -> Result<(), Failed>
     ensures tells { RepliesTo session.now (request_of question) session.now
-        (held_of W.contents output.old) (held_of W.contents output.new) (not (is_ok result)) }
-    ensures failed { output_failed output.new ≡ (output_failed output.old || not (is_ok result)) }
+        (WritesText W.contents output.old output.new result) }
+    ensures failed { Remembers output.old output.new result }
 {
     match question {
         Question::Outline => reply_to_outline(alloc, session, output),
@@ -114,15 +115,10 @@ fn answer_came<W: Write>(
     requires unbroken { output_failed output.old ≡ false }
     ensures unbroken { OnOk result (output_failed output.new ≡ false) }
     ensures came { OnOk result (IsOk came) }
-    ensures ok { OnOk result ((sense : Sense) (old new : Ahead) (failed ended : Bool) →
-        Comes sense old new failed ended parts.now (length session.old.bytes) came →
-        Replied sense session.old session.new old new
-        (held_of W.contents output.old) (held_of W.contents output.new) false) }
-    ensures err { IfErr result (λ end. (sense : Sense) (old new : Ahead) (failed ended : Bool) →
-        Comes sense old new failed ended parts.now (length session.old.bytes) came →
-        EndsAs sense end session.old session.new old new failed ended
-        (held_of W.contents output.old) (held_of W.contents output.new)
-        (output_failed output.new)) }
+    ensures turn { (sense : Sense) (old new : Ahead) →
+        Comes sense old new parts.now (length session.old.bytes) came →
+        IsTurn sense (turn_state W.contents session.old old output.old)
+        (turn_state W.contents session.new new output.new) result }
 {
     let came = match came {
         Ok(came) => came,
@@ -144,21 +140,14 @@ fn answer_edit<R: Read, W: Write>(
     form: EditForm,
 ) -> Result<(), End>
     requires some { HasPart form }
-    requires open { IsOpen input.old }
-    requires few { incoming.old.count < too_many }
+    requires ready { IsReady input.old incoming.old }
     requires unbroken { output_failed output.old ≡ false }
-    ensures open { OnOk result (IsOpen input.new) }
-    ensures few { OnOk result (incoming.new.count < too_many) }
+    ensures ready { OnOk result (IsReady input.new incoming.new) }
     ensures unbroken { OnOk result (output_failed output.new ≡ false) }
-    ensures ok { OnOk result (Replied (next_by_form form) session.old session.new
-        (ahead_of R.remaining input.old incoming.old) (ahead_of R.remaining input.new incoming.new)
-        (held_of W.contents output.old) (held_of W.contents output.new) false) }
-    ensures err { IfErr result (λ end. EndsAs (next_by_form form) end
-        session.old session.new
-        (ahead_of R.remaining input.old incoming.old) (ahead_of R.remaining input.new incoming.new)
-        (input_failed input.new) (input_ended input.new)
-        (held_of W.contents output.old) (held_of W.contents output.new)
-        (output_failed output.new)) }
+    ensures turn { IsTurn (next_by_form form)
+        (turn_state W.contents session.old (ahead_of R.remaining input.old incoming.old) output.old)
+        (turn_state W.contents session.new (ahead_of R.remaining input.new incoming.new) output.new)
+        result }
 {
     let mut parts = Parts::new(alloc, session.tally());
     let came = take_splices(alloc, incoming, input, form, &mut parts);
@@ -173,20 +162,14 @@ fn answer_next<R: Read, W: Write>(
     input: &mut Input<R>,
     output: &mut Output<W>,
 ) -> Result<(), End>
-    requires open { IsOpen input.old }
-    requires few { incoming.old.count < too_many }
+    requires ready { IsReady input.old incoming.old }
     requires unbroken { output_failed output.old ≡ false }
-    ensures open { OnOk result (IsOpen input.new) }
-    ensures few { OnOk result (incoming.new.count < too_many) }
+    ensures ready { OnOk result (IsReady input.new incoming.new) }
     ensures unbroken { OnOk result (output_failed output.new ≡ false) }
-    ensures ok { OnOk result (Replied next_request_of session.old session.new
-        (ahead_of R.remaining input.old incoming.old) (ahead_of R.remaining input.new incoming.new)
-        (held_of W.contents output.old) (held_of W.contents output.new) false) }
-    ensures err { IfErr result (λ end. EndsAs next_request_of end session.old session.new
-        (ahead_of R.remaining input.old incoming.old) (ahead_of R.remaining input.new incoming.new)
-        (input_failed input.new) (input_ended input.new)
-        (held_of W.contents output.old) (held_of W.contents output.new)
-        (output_failed output.new)) }
+    ensures turn { IsTurn next_request_of
+        (turn_state W.contents session.old (ahead_of R.remaining input.old incoming.old) output.old)
+        (turn_state W.contents session.new (ahead_of R.remaining input.new incoming.new) output.new)
+        result }
 {
     if let Err(stop) = incoming.fill(input) {
         return Err(End::between(stop));
@@ -222,14 +205,11 @@ pub fn run<R: Read, W: Write>(
     input: &mut Input<R>,
     output: &mut Output<W>,
 ) -> u8
-    requires sound { input_failed input.old ≡ false }
-    requires open { input_ended input.old ≡ false }
+    requires open { IsOpen input.old }
     requires unbroken { output_failed output.old ≡ false }
-    ensures run { IsSessionRun session.old session.new (left_of R.remaining input.old)
-        (left_of R.remaining input.new)
-        (input_failed input.new) (input_ended input.new)
-        (held_of W.contents output.old) (held_of W.contents output.new)
-        (output_failed output.new) result }
+    ensures run { IsSessionRun
+        (run_state R.remaining W.contents session.old input.old output.old)
+        (run_state R.remaining W.contents session.new input.new output.new) result }
     ensures how { session.new.how ≡ session.old.how }
 {
     let mut incoming = Incoming::new();

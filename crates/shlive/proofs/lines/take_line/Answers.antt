@@ -7,7 +7,7 @@ use Rattle.shlive.proofs.lines.take_line.Goals as goal
 
 pub returns-in-Err-clause-cut : goal.returns-in-Err-clause-cut
 returns-in-Err-clause-cut g c =
-    let inv = c.bytes.invariant.2 in (
+    let inv = c.bytes.invariant.1 in (
       inv.0,
       inv.1,
       takes_both _ _ _ inv.0 [] inv.0 inv.3 c.fill.ensures.takes (append-nil inv.0),
@@ -16,7 +16,7 @@ returns-in-Err-clause-cut g c =
 
 pub returns-then-byte-eq10-clause-line : goal.returns-then-byte-eq10-clause-line
 returns-then-byte-eq10-clause-line g c =
-    let inv = c.bytes.invariant.2 in
+    let inv = c.bytes.invariant.1 in
     let ahead = ahead_of g.R.Read.remaining in
     let takes = takes_byte (ahead c.args.input.now c.args.incoming.now) (ahead c.bytes.input c.bytes.incoming)
     (ahead c.fill.new.input c.fill.new.self) (ahead c.fill.new.input c.take-byte.new.self)
@@ -25,13 +25,12 @@ returns-then-byte-eq10-clause-line g c =
 
 pub bytes-preserved : goal.bytes-preserved
 bytes-preserved g c =
-    let inv = c.bytes.invariant.2 in
+    let inv = c.bytes.invariant.1 in
     let ahead = ahead_of g.R.Read.remaining in
     let takes = takes_byte (ahead c.args.input.now c.args.incoming.now) (ahead c.bytes.input c.bytes.incoming)
     (ahead c.fill.new.input c.fill.new.self) (ahead c.fill.new.input c.take-byte.new.self)
     inv.0 c.take-byte.result inv.3 c.fill.ensures.takes refl c.take-byte.ensures.count c.take-byte.ensures.bytes in (
-      c.in_default.ensures.open,
-      rw c.take-byte.ensures.count c.in_default.ensures.few,
+      (c.in_default.ensures.ready.0, rw c.take-byte.ensures.count c.in_default.ensures.ready.1),
       (
         inv.0 ++ c.take-byte.result ∷ [],
         in_line_more inv.0 c.take-byte.result inv.1 (ne_eqb c.take-byte.result 10 c.if-byte-eq10.false),

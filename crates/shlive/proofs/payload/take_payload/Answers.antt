@@ -6,7 +6,7 @@ use Rattle.shlive.proofs.payload.take_payload.Goals as goal
 
 pub returns-in-Err-clause-cut : goal.returns-in-Err-clause-cut
 returns-in-Err-clause-cut g c =
-    let inv = c.pieces.invariant.2 in (
+    let inv = c.pieces.invariant.1 in (
       inv.0,
       omega (arith, inv.1, c.pieces-test.true),
       takes_both _ _ _ inv.0 [] inv.0 inv.3 c.fill.ensures.takes (append-nil inv.0),
@@ -15,7 +15,7 @@ returns-in-Err-clause-cut g c =
 
 pub pieces-preserved : goal.pieces-preserved
 pieces-preserved g c =
-    let inv = c.pieces.invariant.2 in
+    let inv = c.pieces.invariant.1 in
     let ahead = ahead_of g.R.Read.remaining in
     let piece = c.front-piece.result.now in
     let waits = c.fill.new.self.bytes in
@@ -31,7 +31,6 @@ pieces-preserved g c =
     (takes_front (ahead c.fill.new.input c.fill.new.self)
     (ahead c.fill.new.input c.pass.new.self) piece refl c.pass.ensures.count parts) refl in
     let both = length-append inv.0 piece in (
-      c.in_default.ensures.open,
-      rw c.pass.ensures.count c.in_default.ensures.few,
+      (c.in_default.ensures.ready.0, rw c.pass.ensures.count c.in_default.ensures.ready.1),
       (inv.0 ++ piece, omega (arith, inv.1, both, long, size), c.keep_more-kept.ensures inv.0 inv.2, takes),
     )

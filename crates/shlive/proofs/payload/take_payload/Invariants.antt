@@ -1,11 +1,11 @@
-use Rattle.std.proofs.Common.{◌≡◌, ◌<◌, ◌+◌, List, ℕ, length}
-use Rattle.shlive.specs.Ahead.{IsOpen, TakesBytes, ahead_of, too_many}
+use Rattle.std.proofs.Common.{◌≡◌, ◌+◌, List, ℕ, length}
+use Rattle.shlive.specs.Ahead.{IsReady, TakesBytes, ahead_of}
 use Rattle.shlive.specs.Payload.{AreKept}
 use Rattle.shlive.proofs.payload.take_payload.Given as goal
 
 abbrev pub invariant-pieces : goal.invariant-pieces
 invariant-pieces g l =
-    IsOpen l.input × (l.incoming.count < too_many)
+    IsReady l.input l.incoming
     × ((bytes : List ℕ) × (length bytes + l.left ≡ l.count) × AreKept l.kept bytes
     × TakesBytes (ahead_of g.R.Read.remaining l.fn.input l.fn.incoming)
     (ahead_of g.R.Read.remaining l.input l.incoming) bytes)
