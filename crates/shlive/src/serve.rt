@@ -9,6 +9,7 @@ ghost use Rattle.shlive.specs.Parts.{Comes};
 ghost use Rattle.shlive.specs.Requests.{Sense, next_by_form, next_request_of, order_of_line, request_of};
 ghost use Rattle.shlive.specs.Runs.{HasAnswer, IsSessionRun, run_state};
 ghost use Rattle.shlive.specs.Turns.{IsTurn, RepliesTo, end_between, end_inside, turn_state};
+ghost use Rattle.shlive.specs.declared.serve.End.TheVariants.{Unwritable};
 
 use crate::incoming::{Incoming, InputEnd};
 use crate::lines::{RequestLine, take_line};
@@ -38,6 +39,14 @@ pub(crate) enum End {
     TooLong,
     /// A write or a flush failed.
     Unwritable,
+}
+
+impl From<Failed> for End {
+    ghost from_gives = { λ _ end. end ≡ Unwritable };
+
+    fn from(_failed: Failed) -> End {
+        End::Unwritable
+    }
 }
 
 impl End {
@@ -124,10 +133,7 @@ fn answer_came<W: Write>(
         Ok(came) => came,
         Err(stop) => return Err(End::inside(stop)),
     };
-    match reply_to_edit(alloc, session, output, parts, came) {
-        Ok(()) => Ok(()),
-        Err(Failed) => Err(End::Unwritable),
-    }
+    Ok(reply_to_edit(alloc, session, output, parts, came)?)
 }
 
 /// Takes what an edit brings, and replies.
@@ -180,15 +186,9 @@ fn answer_next<R: Read, W: Write>(
     };
     match order_of_line(&line) {
         Some(Order::Edit(form)) => answer_edit(alloc, session, incoming, input, output, form),
-        Some(Order::Ask(question)) => match reply_to(alloc, session, output, question) {
-            Ok(()) => Ok(()),
-            Err(Failed) => Err(End::Unwritable),
-        },
+        Some(Order::Ask(question)) => Ok(reply_to(alloc, session, output, question)?),
         Some(Order::Quit) => Err(End::Quit),
-        None => match write_flushed(output, &[b"no request\n"]) {
-            Ok(()) => Ok(()),
-            Err(Failed) => Err(End::Unwritable),
-        },
+        None => Ok(write_flushed(output, &[b"no request\n"])?),
     }
 }
 

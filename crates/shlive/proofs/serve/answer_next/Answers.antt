@@ -1,4 +1,5 @@
 use Rattle.std.proofs.Common.{◌≡◌, [], ◌∷◌, ◌++◌, ◌∙◌, ◌||◌, None, Some, ap, codes, refl, sym, true, rules}
+use Rattle.std.proofs.lemmas.Result.{err_from_is_err_and}
 use Rattle.shlive.specs.Ahead.{ahead_of}
 use Rattle.shlive.specs.Requests.{next_by_order, next_request_of, order_of_line, request_of, unknown}
 use Rattle.shlive.specs.Turns.{turn_state}
@@ -67,8 +68,8 @@ returns-in-Some-Quit-clause-turn g c =
       sound = c.requires.unbroken;
     }
 
-pub returns-in-Ok-reply_to-clause-turn : goal.returns-in-Ok-reply_to-clause-turn
-returns-in-Ok-reply_to-clause-turn g c =
+pub returns-in_ok-reply_to-in-Some-Ask-clause-turn : goal.returns-in_ok-reply_to-in-Some-Ask-clause-turn
+returns-in_ok-reply_to-in-Some-Ask-clause-turn g c =
     let ahead = ahead_of g.R.Read.remaining in
     let q = c.in-Ok.ensures.line in
     let start = ahead c.args.input.now c.args.incoming.now in
@@ -79,10 +80,10 @@ returns-in-Ok-reply_to-clause-turn g c =
     let is : order ≡ order_of_line q.0 = search (rules, told, c.in-Some-Ask.is, c.in-Some-Ask.field-0-is) in
     plain_replied q.0 q.1 order is _ _ _ (request_of c.in-Some-Ask.question)
     (takes_both start filled mid [] (q.0 ++ 10 ∷ []) _ c.fill.ensures.takes q.3 refl)
-    (λ rest. refl) c.in-Ok-reply_to.ensures.tells
+    (λ rest. refl) c.in_ok-reply_to-in-Some-Ask.ensures.tells
 
-pub returns-in-Err-reply_to-clause-turn : goal.returns-in-Err-reply_to-clause-turn
-returns-in-Err-reply_to-clause-turn g c =
+pub returns-in_err-reply_to-in-Some-Ask-clause-turn : goal.returns-in_err-reply_to-in-Some-Ask-clause-turn
+returns-in_err-reply_to-in-Some-Ask-clause-turn g c =
     let ahead = ahead_of g.R.Read.remaining in
     let q = c.in-Ok.ensures.line in
     let start = ahead c.args.input.now c.args.incoming.now in
@@ -90,16 +91,18 @@ returns-in-Err-reply_to-clause-turn g c =
     let mid = ahead c.take_line.new.input c.take_line.new.incoming in
     let order = Some (Ask c.in-Some-Ask.question) in
     let told = c.order_of_line.ensures.is q.0 q.2 in
-    let is : order ≡ order_of_line q.0 = search (rules, told, c.in-Some-Ask.is, c.in-Some-Ask.field-0-is) in (
+    let is : order ≡ order_of_line q.0 = search (rules, told, c.in-Some-Ask.is, c.in-Some-Ask.field-0-is) in
+    let e = err_from_is_err_and c.from_residual.result c.from_residual.ensures.1 in
+    rw (e.1, e.2) (
       plain_replied q.0 q.1 order is _ _ _ (request_of c.in-Some-Ask.question)
           (takes_both start filled mid [] (q.0 ++ 10 ∷ []) _ c.fill.ensures.takes q.3 refl)
-          (λ rest. refl) c.in-Err-reply_to.ensures.tells,
+          (λ rest. refl) c.in_err-reply_to-in-Some-Ask.ensures.tells,
       c.in-Ok.ensures.ready.0.0,
-      c.in-Err-reply_to.ensures.failed ∙ ap (λ f. f || true) c.requires.unbroken,
+      c.in_err-reply_to-in-Some-Ask.ensures.failed ∙ ap (λ f. f || true) c.requires.unbroken,
     )
 
-pub returns-in-Ok-write_flushed-clause-turn : goal.returns-in-Ok-write_flushed-clause-turn
-returns-in-Ok-write_flushed-clause-turn g c =
+pub returns-in_ok-write_flushed-in-None-clause-turn : goal.returns-in_ok-write_flushed-in-None-clause-turn
+returns-in_ok-write_flushed-in-None-clause-turn g c =
     let ahead = ahead_of g.R.Read.remaining in
     let q = c.in-Ok.ensures.line in
     let start = ahead c.args.input.now c.args.incoming.now in
@@ -107,18 +110,21 @@ returns-in-Ok-write_flushed-clause-turn g c =
     let mid = ahead c.take_line.new.input c.take_line.new.incoming in
     plain_replied q.0 q.1 None (sym c.in-None.is ∙ c.order_of_line.ensures.is q.0 q.2) _ _ _ unknown
     (takes_both start filled mid [] (q.0 ++ 10 ∷ []) _ c.fill.ensures.takes q.3 refl) (λ rest. refl)
-    (codes "no request\n", (refl, refl), c.in-Ok-write_flushed.ensures.bytes)
+    (codes "no request\n", (refl, refl), c.in_ok-write_flushed-in-None.ensures.bytes)
 
-pub returns-in-Err-write_flushed-clause-turn : goal.returns-in-Err-write_flushed-clause-turn
-returns-in-Err-write_flushed-clause-turn g c =
+pub returns-in_err-write_flushed-in-None-clause-turn : goal.returns-in_err-write_flushed-in-None-clause-turn
+returns-in_err-write_flushed-in-None-clause-turn g c =
     let ahead = ahead_of g.R.Read.remaining in
     let q = c.in-Ok.ensures.line in
     let start = ahead c.args.input.now c.args.incoming.now in
     let filled = ahead c.fill.new.input c.fill.new.self in
-    let mid = ahead c.take_line.new.input c.take_line.new.incoming in (
+    let mid = ahead c.take_line.new.input c.take_line.new.incoming in
+    let e = err_from_is_err_and c.from_residual-in_err-write_flushed-in-None.result
+    c.from_residual-in_err-write_flushed-in-None.ensures.1 in
+    rw (e.1, e.2) (
       plain_replied q.0 q.1 None (sym c.in-None.is ∙ c.order_of_line.ensures.is q.0 q.2) _ _ _ unknown
           (takes_both start filled mid [] (q.0 ++ 10 ∷ []) _ c.fill.ensures.takes q.3 refl) (λ rest. refl)
-          (codes "no request\n", (refl, refl), c.in-Err-write_flushed.ensures.bytes),
+          (codes "no request\n", (refl, refl), c.in_err-write_flushed-in-None.ensures.bytes),
       c.in-Ok.ensures.ready.0.0,
-      c.in-Err-write_flushed.ensures.failed ∙ ap (λ f. f || true) c.requires.unbroken,
+      c.in_err-write_flushed-in-None.ensures.failed ∙ ap (λ f. f || true) c.requires.unbroken,
     )
