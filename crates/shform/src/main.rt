@@ -11,7 +11,7 @@
 //! `gathering` it; what is opened, is opened here.
 #![tactic(auto)]
 
-ghost use Rattle.std.specs.Prelude.{◌≡◌, IfSome, false, is_some};
+ghost use Rattle.std.specs.Prelude.{◌≡◌, ◌⊎◌, IfSome, false, is_some};
 ghost use Rattle.shlive.specs.Ahead.{IsOpen};
 ghost use Rattle.shtext.specs.Device.{output_failed};
 
@@ -101,7 +101,9 @@ fn on_settings(rt: &HostRuntime, settings: &Settings<'_>) -> u8 {
 
 /// Prints what `clap` says of words that ask for no run. Help and the version go to
 /// standard output, with status 0.
-fn on_words(rt: &HostRuntime, error: &clap::Error) -> u8 {
+fn on_words(rt: &HostRuntime, error: &clap::Error) -> u8
+    ensures { (result ≡ 0) ⊎ (result ≡ 2) }
+{
     if error.kind() == ErrorKind::OutOfMemory {
         return give_up_on(rt, "-", RunError::Memory);
     }
@@ -117,7 +119,9 @@ fn on_words(rt: &HostRuntime, error: &clap::Error) -> u8 {
 
 /// Says why words ask for no run. It stands apart for the reason that `settings` does.
 #[inline(never)]
-fn on_usage(rt: &HostRuntime, usage: &Usage) -> u8 {
+fn on_usage(rt: &HostRuntime, usage: &Usage) -> u8
+    ensures { (result ≡ 0) ⊎ (result ≡ 2) }
+{
     match usage {
         Usage::Words(error) => on_words(rt, error),
         Usage::Indent(_) => {
@@ -127,8 +131,10 @@ fn on_usage(rt: &HostRuntime, usage: &Usage) -> u8 {
     }
 }
 
-/// Tells on standard error why the run was given up.
-fn give_up_on(rt: &HostRuntime, name: &str, error: RunError) -> u8 {
+/// Tells on standard error why the run was given up, and answers 2.
+fn give_up_on(rt: &HostRuntime, name: &str, error: RunError) -> u8
+    ensures { result ≡ 2 }
+{
     give_up(name, error, &mut output_to(rt, rt.stderr()))
 }
 
