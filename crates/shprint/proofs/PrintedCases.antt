@@ -39,7 +39,7 @@ use Rattle.shprint.proofs.PrintedText.{laid_text, Alike, laid_same, deeper_blank
 use Rattle.shprint.proofs.PrintedItems.{printed_word}
 use Rattle.shprint.proofs.PrintedCommands.{Fine}
 use Rattle.shprint.proofs.PrintedLists.{at_line_start, line_end_here, Closes, empty_line, list_ends, list_read}
-use Rattle.shprint.proofs.PrintedCompounds.{Ends, line_end_end, Key, KeywordRead, paren_alone, keyword_read, key_by, in_key, Finished, no_lines, closing_read}
+use Rattle.shprint.proofs.PrintedCompounds.{Ends, line_end_end, Key, ReservedRead, paren_alone, reserved_read, key_by, in_key, Finished, no_lines, closing_read}
 
 -- ---- what stands after a pattern
 
@@ -562,7 +562,7 @@ module _ {edition : Edition} {B T : List ℕ} {o : ℕ} {S : StandsIn edition B 
     comments : Row Span
     f : ℕ
     later : Held
-    key : KeywordRead S later f reserved.Esac rest
+    key : ReservedRead S later f reserved.Esac rest
     reads : Gives (g S) (many (case_turn (level room)) (cases_so acc before (asked S Command e)))
         (state h (past_blanks T e))
         (cases_so (acc ++ value) comments (asked S Command f)) (state later (past_blanks T f))
@@ -595,7 +595,7 @@ module _ {edition : Edition} {B T : List ℕ} {o : ℕ} {S : StandsIn edition B 
   unfolding case_turn one_case an_open_bracket a_pattern_list a_pattern closing an_item_end an_ender a_linebreak
       open_cases cases_bodies case_bodies
   cases_read h m no_case tail acc before e rest blank good comments normal stop same at =
-      let k = keyword_read S h m (codes "esac") reserved.Esac e rest blank (esac_key rest stop) at in
+      let k = reserved_read S h m (codes "esac") reserved.Esac e rest blank (esac_key rest stop) at in
       record {
         value = [];
         comments = before;
@@ -713,7 +713,7 @@ module _ {edition : Edition} {B T : List ℕ} {o : ℕ} {S : StandsIn edition B 
       let X = line_end ∷ next_marks y m items tail rest in
       let v = word_at h Suffix begins_word (codes " ") w f (case_marks y m items tail rest) refl good.0
       (case_follows y m items tail rest) at in
-      let k = keyword_read S h (codes " ") (codes "in") reserved.In v.e X refl (in_key S X (line_end_end _)) v.at in
+      let k = reserved_read S h (codes " ") (codes "in") reserved.In v.e X refl (in_key S X (line_end_end _)) v.at in
       let l = break_read (case_margin y m) (items_margin y m items) (margin_blank y m blank)
       (items_blank y m items blank) (items_marks y m items tail rest)
       (λ h. items_operand h m items tail rest good.1 stop) h

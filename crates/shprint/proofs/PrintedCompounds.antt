@@ -33,7 +33,7 @@ use Rattle.shast.specs.Tree.{AWordOf, ForWordsOf, ForWords, no_in, in_words, AWo
 use Rattle.shprint.specs.declared.layout.Layout.{Layout}
 use Rattle.shprint.specs.Marks.{text, line_end, Marks, laid_after, one, deeper, lines_between}
 use Rattle.shprint.specs.Printed.{print_for_words, print_word, print_branch, print_branches, print_else, is_one_line, print_only, print_entries, print_and_or, print_items}
-use Rattle.shprint.proofs.Tokens.{in_here, then_here, elif_here, else_here, fi_here, do_here, done_here, close_brace_here, close_token, semicolon_token, Keyword, byte_here, start_here, Start, all_blank, no_gap}
+use Rattle.shprint.proofs.Tokens.{in_here, then_here, elif_here, else_here, fi_here, do_here, done_here, close_brace_here, close_token, semicolon_token, ReservedWord, byte_here, start_here, Start, all_blank, no_gap}
 use Rattle.shprint.proofs.Gives.{Gives, gives_on, told_here, ◌⟫◌, given_here, seen_here, moved_here, pushed_here, first_of, second_of, last_turn, one_turn}
 use Rattle.shprint.proofs.Held.{At, Followed, Held, StandsIn, g, held_bytes, lay, state, texts_of}
 use Rattle.shprint.proofs.BodiesOfParts.{for_words_open, for_words_bodies}
@@ -170,10 +170,10 @@ module _ {edition : Edition} {B T : List ℕ} {o : ℕ} (S : StandsIn edition B 
 
   -- wherever this word stands before these marks it is that reserved word
   abbrev pub Key : Text → Reserved → Marks → Type 0
-  Key w r ms = (h : Held) (p : ℕ) → drop p T ≡ w ++ lay h ms → Keyword T p w r
+  Key w r ms = (h : Held) (p : ℕ) → drop p T ≡ w ++ lay h ms → ReservedWord T p w r
 
   -- a reserved word after a margin
-  pub record KeywordRead (h : Held) (e : ℕ) (r : Reserved) (ms : Marks) : Type 0 where
+  pub record ReservedRead (h : Held) (e : ℕ) (r : Reserved) (ms : Marks) : Type 0 where
     pub token_is : told S Command (past_blanks T e) ≡ tokens.Reserved r
     pub no_comment_it : raw_stands T (past_blanks T e) 35 ≡ false
     pub s : Span
@@ -201,9 +201,9 @@ module _ {edition : Edition} {B T : List ℕ} {o : ℕ} (S : StandsIn edition B 
       subst (λ p. Gives (g S) (move one_byte) (state h q) tt (state h p)) is (moved_here one_byte) in
       told_here (by label) moved ⟫ next_read S h Command (q + 1) ⟫ given_here
 
-  pub keyword_read : (h : Held) (m w : Text) (r : Reserved) (e : ℕ) (ms : Marks) → all_blank m ≡ true → Key w r ms →
-      At S h e (text m ∷ text w ∷ ms) → KeywordRead h e r ms
-  keyword_read h m w r e ms blank key at =
+  pub reserved_read : (h : Held) (m w : Text) (r : Reserved) (e : ℕ) (ms : Marks) → all_blank m ≡ true → Key w r ms →
+      At S h e (text m ∷ text w ∷ ms) → ReservedRead h e r ms
+  reserved_read h m w r e ms blank key at =
       let behind_it = at_text S h e m (text w ∷ ms) at in
       let k = key h (e + length m) (behind_it ∙ laid_text h w ms) in
       let gap = margin_gap S h m e (text w ∷ ms) blank at k.start in
@@ -219,17 +219,17 @@ module _ {edition : Edition} {B T : List ℕ} {o : ℕ} (S : StandsIn edition B 
         reads = λ label position. reserved_or_paren_by h label position q (q + length w) kq.past_it;
       }
 
-  keyword_f : (h : Held) (m w : Text) (r : Reserved) (e : ℕ) (ms : Marks) (blank : all_blank m ≡ true)
+  reserved_f : (h : Held) (m w : Text) (r : Reserved) (e : ℕ) (ms : Marks) (blank : all_blank m ≡ true)
       (key : Key w r ms) (at : At S h e (text m ∷ text w ∷ ms)) →
-      (keyword_read h m w r e ms blank key at).f ≡ past_blanks T e + length w
-  unfolding keyword_read
-  keyword_f h m w r e ms blank key at = refl
+      (reserved_read h m w r e ms blank key at).f ≡ past_blanks T e + length w
+  unfolding reserved_read
+  reserved_f h m w r e ms blank key at = refl
 
   -- a closing word closes
-  keyword_closes : (m w : Text) (r : Reserved) (ms : Marks) → all_blank m ≡ true → Key w r ms →
+  reserved_closes : (m w : Text) (r : Reserved) (ms : Marks) → all_blank m ≡ true → Key w r ms →
       begins_pipeline (tokens.Reserved r) ≡ false → (h : Held) (e : ℕ) → At S h e (text m ∷ text w ∷ ms) → Closes S e
-  keyword_closes m w r ms blank key none h e at =
-      let k = keyword_read h m w r e ms blank key at in
+  reserved_closes m w r ms blank key none h e at =
+      let k = reserved_read h m w r e ms blank key at in
       record {
         no_entry_it = ap begins_pipeline k.token_is ∙ none;
         no_newline_it = ap is_newline_token k.token_is;
@@ -238,7 +238,7 @@ module _ {edition : Edition} {B T : List ℕ} {o : ℕ} (S : StandsIn edition B 
 
   pub key_by : (w : Text) (r : Reserved) (ms : Marks) → Ends ms →
       ((p x : ℕ) (xs : List ℕ) → (x == 92) ≡ false → ends (Some x) ≡ true → drop p T ≡ w ++ x ∷ xs →
-      Keyword T p w r) → Key w r ms
+      ReservedWord T p w r) → Key w r ms
   key_by w r ms e here h p at = let x = e h in here p x.x x.xs x.clear x.stops (at ∙ ap (λ z. w ++ z) x.is)
 
   then_key : (ms : Marks) → Ends ms → Key (codes "then") reserved.Then ms
@@ -304,7 +304,7 @@ module _ {edition : Edition} {B T : List ℕ} {o : ℕ} {S : StandsIn edition B 
     (fine : Fine S room y) where
   -- what has to stand here
   pub closing_read : (h : Held) (c : Closing) (r : Reserved) (e : ℕ) (ms : Marks) →
-      is_closing c (tokens.Reserved r) ≡ true → is_close_paren c ≡ false → (k : KeywordRead S h e r ms)
+      is_closing c (tokens.Reserved r) ≡ true → is_close_paren c ≡ false → (k : ReservedRead S h e r ms)
       → Gives (g S) (closing (level room) c (asked S Command e)) (state h (past_blanks T e)) (k.s, asked S Command k.f)
       (state h (past_blanks T k.f))
   unfolding closing
@@ -318,7 +318,7 @@ module _ {edition : Edition} {B T : List ℕ} {o : ℕ} {S : StandsIn edition B 
     value : Entries
     e : ℕ
     later : Held
-    key : KeywordRead S later e r ms
+    key : ReservedRead S later e r ms
     reads : Gives (g S) (a_list (level room) (asked S Command f)) (state h (past_blanks T f)) (value, asked S Command e)
         (state later (past_blanks T e))
     shape : shape_of B value ≡ opened [] es
@@ -386,7 +386,7 @@ module _ {edition : Edition} {B T : List ℕ} {o : ℕ} {S : StandsIn edition B 
       let at_p = subst (λ q. At S h q A) (sym gap.blanks) behind_it in
       let b = begins p at_p in
       let n = asked S Command f in
-      let closes = keyword_closes S (codes " ") w r ms refl key none in
+      let closes = reserved_closes S (codes " ") w r ms refl key none in
       let one_read = short_read h m a n p (text w ∷ ms) blank good normal refl closes at_p in
       let k = one_read.later in
       let c = closes k one_read.f one_read.at in
@@ -411,7 +411,7 @@ module _ {edition : Edition} {B T : List ℕ} {o : ℕ} {S : StandsIn edition B 
         value = got.value;
         e = got.«end»;
         later = got.later;
-        key = keyword_read S got.later (codes " ") w r got.«end» ms refl key got.at;
+        key = reserved_read S got.later (codes " ") w r got.«end» ms refl key got.at;
         reads = got.reads;
         shape = got.is;
         texts = got.texts;
@@ -438,12 +438,12 @@ module _ {edition : Edition} {B T : List ℕ} {o : ℕ} {S : StandsIn edition B 
           ((cond b (text (codes " ") ∷ print_only y m js ++ one (codes "; ")) (lines_between m ES))
           ++ (text w ∷ ms))) e ∙ ap (λ ks. lay h (line_end ∷ ks)) (append_assoc ES (one m) (text w ∷ ms)) in
           let got = block_read fine h d js f (text m ∷ text w ∷ ms) (deeper_blank y m blank) good whole normal
-          (keyword_closes S m w r ms blank key none) (at ∙ marks_are) in
+          (reserved_closes S m w r ms blank key none) (at ∙ marks_are) in
           record {
             value = got.value;
             e = got.«end»;
             later = got.later;
-            key = keyword_read S got.later m w r got.«end» ms blank key got.at;
+            key = reserved_read S got.later m w r got.«end» ms blank key got.at;
             reads = got.reads;
             shape = got.is;
             texts = got.texts;
@@ -456,7 +456,7 @@ module _ {edition : Edition} {B T : List ℕ} {o : ℕ} {S : StandsIn edition B 
     value : Entries
     e : ℕ
     later : Held
-    key : KeywordRead S later e r ms
+    key : ReservedRead S later e r ms
     reads : Gives (g S) (a_list (level room) (asked S Command f)) (state h (past_blanks T f)) (value, asked S Command e)
         (state later (past_blanks T e))
     shape : shape_of B value ≡ opened [] es
@@ -468,12 +468,12 @@ module _ {edition : Edition} {B T : List ℕ} {o : ℕ} {S : StandsIn edition B 
       BlockRead h f es r ms
   body_read h m es f w r ms blank good whole normal key none at =
       let got = block_read fine h (deeper y m) es f (text m ∷ text w ∷ ms) (deeper_blank y m blank) good whole normal
-      (keyword_closes S m w r ms blank key none) at in
+      (reserved_closes S m w r ms blank key none) at in
       record {
         value = got.value;
         e = got.«end»;
         later = got.later;
-        key = keyword_read S got.later m w r got.«end» ms blank key got.at;
+        key = reserved_read S got.later m w r got.«end» ms blank key got.at;
         reads = got.reads;
         shape = got.is;
         texts = got.texts;
@@ -530,7 +530,7 @@ module _ {edition : Edition} {B T : List ℕ} {o : ℕ} {S : StandsIn edition B 
   first_closes : (m : Text) (ms : Marks) → all_blank m ≡ true → FirstWord ms → (h : Held) (e : ℕ) →
       At S h e (text m ∷ ms) → Closes S e
   first_closes m ms blank f h e at =
-      keyword_closes S m f.w f.r f.others blank f.key f.none h e (at ∙ ap (λ ks. lay h (text m ∷ ks)) f.is)
+      reserved_closes S m f.w f.r f.others blank f.key f.none h e (at ∙ ap (λ ks. lay h (text m ∷ ks)) f.is)
 
   -- a branch, and the word after what it runs
   record BranchRead (h : Held) (f : ℕ) (b : Shape ABranchOf) (ms : Marks) : Type 0 where
@@ -575,9 +575,9 @@ module _ {edition : Edition} {B T : List ℕ} {o : ℕ} {S : StandsIn edition B 
       }
 
   first_read : (h : Held) (m : Text) (ms : Marks) (e : ℕ) → all_blank m ≡ true → (f : FirstWord ms) →
-      At S h e (text m ∷ ms) → KeywordRead S h e f.r f.others
+      At S h e (text m ∷ ms) → ReservedRead S h e f.r f.others
   first_read h m ms e blank f at =
-      keyword_read S h m f.w f.r e f.others blank f.key (at ∙ ap (λ ks. lay h (text m ∷ ks)) f.is)
+      reserved_read S h m f.w f.r e f.others blank f.key (at ∙ ap (λ ks. lay h (text m ∷ ks)) f.is)
 
   -- ---- loops
 
@@ -615,7 +615,7 @@ module _ {edition : Edition} {B T : List ℕ} {o : ℕ} {S : StandsIn edition B 
     value : Otherwise
     f : ℕ
     later : Held
-    key : KeywordRead S later f reserved.Fi rest
+    key : ReservedRead S later f reserved.Fi rest
     reads : Gives (g S) (an_else (level room) (asked S Command e)) (state h (past_blanks T e))
         (value, asked S Command f)
         (state later (past_blanks T f))
@@ -627,7 +627,7 @@ module _ {edition : Edition} {B T : List ℕ} {o : ℕ} {S : StandsIn edition B 
       → At S h e (text m ∷ else_rest y m other rest) → ElseRead h e other rest
   unfolding an_else else_first open_else else_bodies
   else_read h m no_else e rest blank good normal stop at =
-      let k = keyword_read S h m (codes "fi") reserved.Fi e rest blank (fi_key S rest stop) at in
+      let k = reserved_read S h m (codes "fi") reserved.Fi e rest blank (fi_key S rest stop) at in
       record {
         value = no_else;
         f = e;
@@ -640,7 +640,7 @@ module _ {edition : Edition} {B T : List ℕ} {o : ℕ} {S : StandsIn edition B 
   else_read h m (otherwise es) e rest blank good normal stop at =
       let first_word = else_first m (otherwise es) rest stop in
       let X = block_marks y m es (text (codes "fi") ∷ rest) in
-      let k = keyword_read S h m (codes "else") reserved.Else e X blank
+      let k = reserved_read S h m (codes "else") reserved.Else e X blank
       (key_by S (codes "else") reserved.Else X (line_end_end _)
       (λ p x xs clear stops at. else_here T p x xs clear stops at))
       (at ∙ ap (λ ks. lay h (text m ∷ ks)) first_word.is) in
@@ -698,9 +698,9 @@ module _ {edition : Edition} {B T : List ℕ} {o : ℕ} {S : StandsIn edition B 
   elif_key m condition ms = key_by S (codes "elif") reserved.Elif (cond_marks y m condition ++ ms)
       (condition_end y m condition ms) (λ p x xs clear stops at. elif_here T p x xs clear stops at)
 
-  keyword_within : (h : Held) (m : Text) (w : Text) (e : ℕ) (ms : Marks) → 0 < length w → all_blank m ≡ true →
+  reserved_within : (h : Held) (m : Text) (w : Text) (e : ℕ) (ms : Marks) → 0 < length w → all_blank m ≡ true →
       Start T (e + length m) → At S h e (text m ∷ text w ∷ ms) → past_blanks T e < length T
-  keyword_within h m w e ms some blank s at =
+  reserved_within h m w e ms some blank s at =
       let behind_it = at_text S h e m (text w ∷ ms) at in
       let gap = margin_gap S h m e (text w ∷ ms) blank at s in
       let low = some_word S (e + length m) w (lay h ms) some (behind_it ∙ laid_text h w ms) in
@@ -733,13 +733,13 @@ module _ {edition : Edition} {B T : List ℕ} {o : ℕ} {S : StandsIn edition B 
       let parts = and_parts _ _ normal in
       let there = at ∙ ap (λ ks. lay h (text m ∷ ks)) (elif_is y m condition body bs (else_rest y m other rest)) in
       let key = elif_key m condition Y in
-      let k = keyword_read S h m (codes "elif") reserved.Elif e X blank key there in
-      let k_f = keyword_f S h m (codes "elif") reserved.Elif e X blank key there in
+      let k = reserved_read S h m (codes "elif") reserved.Elif e X blank key there in
+      let k_f = reserved_f S h m (codes "elif") reserved.Elif e X blank key there in
       let b = branch_read h m condition body k.f Z blank good.0 parts.0 (if_first m bs other rest stop) k.at in
       let low = gives_on (a_branch (level room) (asked S Command k.f)) _ _ _ b.reads in
       let start = (key h (e + length m)
       (at_text S h e m (text (codes "elif") ∷ X) there ∙ laid_text h (codes "elif") X)).start in
-      let within = keyword_within h m (codes "elif") e X (omega arith) blank start there in
+      let within = reserved_within h m (codes "elif") e X (omega arith) blank start there in
       let others = branches_read b.later m bs other
       (acc ++ b.value ∷ []) b.e rest blank good.1 parts.1 stop b.at in
       record {
@@ -840,7 +840,7 @@ module _ {edition : Edition} {B T : List ℕ} {o : ℕ} {S : StandsIn edition B 
     value : ForWords
     e : ℕ
     later : Held
-    key : KeywordRead S later e reserved.Do ms
+    key : ReservedRead S later e reserved.Do ms
     reads : Gives (g S) (a_for_head (level room) (asked S Command f)) (state h (past_blanks T f))
         (headed value (join_so (a_join_of false []) (asked S Command e))) (state later (past_blanks T e))
     shape : shape_of_for_words B value ≡ words
@@ -849,7 +849,7 @@ module _ {edition : Edition} {B T : List ℕ} {o : ℕ} {S : StandsIn edition B 
   -- `;` and the word after it
   sep_read : (h : Held) (e : ℕ) (w : Text) (r : Reserved) (ms : Marks) → Key S w r ms →
       At S h e (text (codes "; ") ∷ text w ∷ ms)
-      → (k : KeywordRead S h (past_blanks T e + 1) r ms)
+      → (k : ReservedRead S h (past_blanks T e + 1) r ms)
       × Gives (g S) (a_sequential_sep (level room) [] (asked S Command e)) (state h (past_blanks T e))
       (join_so (a_join_of false []) (asked S Command (past_blanks T e + 1)))
       (state h (past_blanks T (past_blanks T e + 1)))
@@ -861,7 +861,7 @@ module _ {edition : Edition} {B T : List ℕ} {o : ℕ} {S : StandsIn edition B 
       let r_q = byte_here T q 59 (32 ∷ lay h (text w ∷ ms)) refl
       (subst (λ r. drop r T ≡ 59 ∷ 32 ∷ lay h (text w ∷ ms)) (sym gap.blanks) there) in
       let n_is = (semicolon_follower S (text w ∷ ms)).seen_as h e at Command in
-      let k = keyword_read S h (codes " ") w r (q + 1) ms refl key
+      let k = reserved_read S h (codes " ") w r (q + 1) ms refl key
       (r_q.rest ∙ sym (laid_text h (codes " ") (text w ∷ ms))) in
       let moved : Gives (g S) (move one_byte) (state h q) tt (state h (q + 1)) =
       subst (λ p. Gives (g S) (move one_byte) (state h q) tt (state h p)) r_q.behind_it (moved_here one_byte) in (
@@ -883,7 +883,7 @@ module _ {edition : Edition} {B T : List ℕ} {o : ℕ} {S : StandsIn edition B 
       let some_margin = deeper_some y m in
       let stops : Ends (P ++ X) =
       λ h. follows_end (lay h (P ++ X)) (items_follow y m items X follower.follow (held_bytes h.waiting)) in
-      let k = keyword_read S h (codes " ") (codes "in") reserved.In f (P ++ X) refl (in_key S (P ++ X) stops) at in
+      let k = reserved_read S h (codes " ") (codes "in") reserved.In f (P ++ X) refl (in_key S (P ++ X) stops) at in
       let is = items_read S room y m some_margin.0 some_margin.1
       (deeper_blank y m blank) some_margin.2 X follower.follow
       (follower_after S follower refl) h good.items [] k.f (λ none. (and_parts _ _ normal).0) k.at in
@@ -909,7 +909,7 @@ module _ {edition : Edition} {B T : List ℕ} {o : ℕ} {S : StandsIn edition B 
       → At S h f (head_marks y m words ms) → HeadRead h f words ms
   unfolding a_for_head
   head_read h m no_in f ms blank good normal stop at =
-      let k = keyword_read S h (codes " ") (codes "do") reserved.Do f ms refl (do_key S ms stop) at in
+      let k = reserved_read S h (codes " ") (codes "do") reserved.Do f ms refl (do_key S ms stop) at in
       let n = asked S Command f in
       let q = past_blanks T f in
       record {

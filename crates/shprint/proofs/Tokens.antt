@@ -335,7 +335,7 @@ module _ (T : List ℕ) (x : ℕ) (xs : List ℕ) (clear : (x == 92) ≡ false) 
       ∙ ap (λ o. cond (same_word v.0 w) (Some v.1) o) (first_here p w vs plain parts.1 at)
 
 -- a reserved word where it may stand
-pub record Keyword (T : List ℕ) (p : ℕ) (w : List ℕ) (r : Reserved) : Type 0 where
+pub record ReservedWord (T : List ℕ) (p : ℕ) (w : List ℕ) (r : Reserved) : Type 0 where
   pub start : Start T p
   pub token : token_at Command T p ≡ tokens.Reserved r
   pub past_it : past_reserved T p ≡ p + length w
@@ -375,12 +375,12 @@ abbrev pub WordByte : ℕ → Type 0
 WordByte c = (T : List ℕ) (p : ℕ) → is_number T p ≡ false →
     token_of Command T p (Some c) ≡ first_word (begins_assignment T p) (reserved_at T p)
 
-pub keyword_here : (T : List ℕ) (p c x : ℕ) (cs xs : List ℕ) (r : Reserved) → WordByte c → is_blank c ≡ false →
+pub reserved_here : (T : List ℕ) (p c x : ℕ) (cs xs : List ℕ) (r : Reserved) → WordByte c → is_blank c ≡ false →
     is_digit c ≡ false → is_plain (c ∷ cs) ≡ true → all_names cs ≡ true
     → first_same (c ∷ cs) reserved_words ≡ Some r → (x == 92) ≡ false → ends (Some x) ≡ true →
-    drop p T ≡ c ∷ (cs ++ x ∷ xs) → Keyword T p (c ∷ cs) r
+    drop p T ≡ c ∷ (cs ++ x ∷ xs) → ReservedWord T p (c ∷ cs) r
 unfolding past_reserved
-keyword_here T p c x cs xs r byte no_blank no_digit plain names same clear stops at =
+reserved_here T p c x cs xs r byte no_blank no_digit plain names same clear stops at =
     let here = byte_here T p c (cs ++ x ∷ xs) (plain_parts c cs plain).1 at in
     let number = no_number T p (in_class is_digit here ∙ no_digit) in
     let reserved_is : reserved_at T p ≡ Some r =
@@ -393,71 +393,71 @@ keyword_here T p c x cs xs r byte no_blank no_digit plain names same clear stops
 -- ---- each reserved word before a byte that ends it
 
 module _ (T : List ℕ) (p x : ℕ) (xs : List ℕ) (clear : (x == 92) ≡ false) (stops : ends (Some x) ≡ true) where
-  pub if_here : drop p T ≡ codes "if" ++ x ∷ xs → Keyword T p (codes "if") reserved.If
+  pub if_here : drop p T ≡ codes "if" ++ x ∷ xs → ReservedWord T p (codes "if") reserved.If
   unfolding reserved_words
-  if_here at = keyword_here T p _ x _ xs reserved.If (λ T p e. rw e refl) refl refl refl refl refl clear stops at
+  if_here at = reserved_here T p _ x _ xs reserved.If (λ T p e. rw e refl) refl refl refl refl refl clear stops at
 
-  pub then_here : drop p T ≡ codes "then" ++ x ∷ xs → Keyword T p (codes "then") reserved.Then
+  pub then_here : drop p T ≡ codes "then" ++ x ∷ xs → ReservedWord T p (codes "then") reserved.Then
   unfolding reserved_words
-  then_here at = keyword_here T p _ x _ xs reserved.Then (λ T p e. rw e refl) refl refl refl refl refl clear stops at
+  then_here at = reserved_here T p _ x _ xs reserved.Then (λ T p e. rw e refl) refl refl refl refl refl clear stops at
 
-  pub elif_here : drop p T ≡ codes "elif" ++ x ∷ xs → Keyword T p (codes "elif") reserved.Elif
+  pub elif_here : drop p T ≡ codes "elif" ++ x ∷ xs → ReservedWord T p (codes "elif") reserved.Elif
   unfolding reserved_words
-  elif_here at = keyword_here T p _ x _ xs reserved.Elif (λ T p e. rw e refl) refl refl refl refl refl clear stops at
+  elif_here at = reserved_here T p _ x _ xs reserved.Elif (λ T p e. rw e refl) refl refl refl refl refl clear stops at
 
-  pub else_here : drop p T ≡ codes "else" ++ x ∷ xs → Keyword T p (codes "else") reserved.Else
+  pub else_here : drop p T ≡ codes "else" ++ x ∷ xs → ReservedWord T p (codes "else") reserved.Else
   unfolding reserved_words
-  else_here at = keyword_here T p _ x _ xs reserved.Else (λ T p e. rw e refl) refl refl refl refl refl clear stops at
+  else_here at = reserved_here T p _ x _ xs reserved.Else (λ T p e. rw e refl) refl refl refl refl refl clear stops at
 
-  pub fi_here : drop p T ≡ codes "fi" ++ x ∷ xs → Keyword T p (codes "fi") reserved.Fi
+  pub fi_here : drop p T ≡ codes "fi" ++ x ∷ xs → ReservedWord T p (codes "fi") reserved.Fi
   unfolding reserved_words
-  fi_here at = keyword_here T p _ x _ xs reserved.Fi (λ T p e. rw e refl) refl refl refl refl refl clear stops at
+  fi_here at = reserved_here T p _ x _ xs reserved.Fi (λ T p e. rw e refl) refl refl refl refl refl clear stops at
 
-  pub while_here : drop p T ≡ codes "while" ++ x ∷ xs → Keyword T p (codes "while") reserved.While
+  pub while_here : drop p T ≡ codes "while" ++ x ∷ xs → ReservedWord T p (codes "while") reserved.While
   unfolding reserved_words
-  while_here at = keyword_here T p _ x _ xs reserved.While (λ T p e. rw e refl) refl refl refl refl refl clear stops at
+  while_here at = reserved_here T p _ x _ xs reserved.While (λ T p e. rw e refl) refl refl refl refl refl clear stops at
 
-  pub until_here : drop p T ≡ codes "until" ++ x ∷ xs → Keyword T p (codes "until") reserved.Until
+  pub until_here : drop p T ≡ codes "until" ++ x ∷ xs → ReservedWord T p (codes "until") reserved.Until
   unfolding reserved_words
-  until_here at = keyword_here T p _ x _ xs reserved.Until (λ T p e. rw e refl) refl refl refl refl refl clear stops at
+  until_here at = reserved_here T p _ x _ xs reserved.Until (λ T p e. rw e refl) refl refl refl refl refl clear stops at
 
-  pub do_here : drop p T ≡ codes "do" ++ x ∷ xs → Keyword T p (codes "do") reserved.Do
+  pub do_here : drop p T ≡ codes "do" ++ x ∷ xs → ReservedWord T p (codes "do") reserved.Do
   unfolding reserved_words
-  do_here at = keyword_here T p _ x _ xs reserved.Do (λ T p e. rw e refl) refl refl refl refl refl clear stops at
+  do_here at = reserved_here T p _ x _ xs reserved.Do (λ T p e. rw e refl) refl refl refl refl refl clear stops at
 
-  pub done_here : drop p T ≡ codes "done" ++ x ∷ xs → Keyword T p (codes "done") reserved.Done
+  pub done_here : drop p T ≡ codes "done" ++ x ∷ xs → ReservedWord T p (codes "done") reserved.Done
   unfolding reserved_words
-  done_here at = keyword_here T p _ x _ xs reserved.Done (λ T p e. rw e refl) refl refl refl refl refl clear stops at
+  done_here at = reserved_here T p _ x _ xs reserved.Done (λ T p e. rw e refl) refl refl refl refl refl clear stops at
 
-  pub brace_here : drop p T ≡ codes "{" ++ x ∷ xs → Keyword T p (codes "{") reserved.OpenBrace
+  pub brace_here : drop p T ≡ codes "{" ++ x ∷ xs → ReservedWord T p (codes "{") reserved.OpenBrace
   unfolding reserved_words
-  brace_here at = keyword_here T p _ x _ xs reserved.OpenBrace
+  brace_here at = reserved_here T p _ x _ xs reserved.OpenBrace
       (λ T p e. rw e refl) refl refl refl refl refl clear stops at
 
-  pub close_brace_here : drop p T ≡ codes "}" ++ x ∷ xs → Keyword T p (codes "}") reserved.CloseBrace
+  pub close_brace_here : drop p T ≡ codes "}" ++ x ∷ xs → ReservedWord T p (codes "}") reserved.CloseBrace
   unfolding reserved_words
-  close_brace_here at = keyword_here T p _ x _ xs reserved.CloseBrace
+  close_brace_here at = reserved_here T p _ x _ xs reserved.CloseBrace
       (λ T p e. rw e refl) refl refl refl refl refl clear stops at
 
-  pub bang_here : drop p T ≡ codes "!" ++ x ∷ xs → Keyword T p (codes "!") reserved.Bang
+  pub bang_here : drop p T ≡ codes "!" ++ x ∷ xs → ReservedWord T p (codes "!") reserved.Bang
   unfolding reserved_words
-  bang_here at = keyword_here T p _ x _ xs reserved.Bang (λ T p e. rw e refl) refl refl refl refl refl clear stops at
+  bang_here at = reserved_here T p _ x _ xs reserved.Bang (λ T p e. rw e refl) refl refl refl refl refl clear stops at
 
-  pub for_here : drop p T ≡ codes "for" ++ x ∷ xs → Keyword T p (codes "for") reserved.For
+  pub for_here : drop p T ≡ codes "for" ++ x ∷ xs → ReservedWord T p (codes "for") reserved.For
   unfolding reserved_words
-  for_here at = keyword_here T p _ x _ xs reserved.For (λ T p e. rw e refl) refl refl refl refl refl clear stops at
+  for_here at = reserved_here T p _ x _ xs reserved.For (λ T p e. rw e refl) refl refl refl refl refl clear stops at
 
-  pub case_here : drop p T ≡ codes "case" ++ x ∷ xs → Keyword T p (codes "case") reserved.Case
+  pub case_here : drop p T ≡ codes "case" ++ x ∷ xs → ReservedWord T p (codes "case") reserved.Case
   unfolding reserved_words
-  case_here at = keyword_here T p _ x _ xs reserved.Case (λ T p e. rw e refl) refl refl refl refl refl clear stops at
+  case_here at = reserved_here T p _ x _ xs reserved.Case (λ T p e. rw e refl) refl refl refl refl refl clear stops at
 
-  pub esac_here : drop p T ≡ codes "esac" ++ x ∷ xs → Keyword T p (codes "esac") reserved.Esac
+  pub esac_here : drop p T ≡ codes "esac" ++ x ∷ xs → ReservedWord T p (codes "esac") reserved.Esac
   unfolding reserved_words
-  esac_here at = keyword_here T p _ x _ xs reserved.Esac (λ T p e. rw e refl) refl refl refl refl refl clear stops at
+  esac_here at = reserved_here T p _ x _ xs reserved.Esac (λ T p e. rw e refl) refl refl refl refl refl clear stops at
 
-  pub in_here : drop p T ≡ codes "in" ++ x ∷ xs → Keyword T p (codes "in") reserved.In
+  pub in_here : drop p T ≡ codes "in" ++ x ∷ xs → ReservedWord T p (codes "in") reserved.In
   unfolding reserved_words
-  in_here at = keyword_here T p _ x _ xs reserved.In (λ T p e. rw e refl) refl refl refl refl refl clear stops at
+  in_here at = reserved_here T p _ x _ xs reserved.In (λ T p e. rw e refl) refl refl refl refl refl clear stops at
 
 -- ---- editions
 

@@ -232,7 +232,7 @@ abbrev mutual
       text (codes "case ") ∷ print_word w ++ (text (codes " in") ∷ line_end ∷ print_cases y (case_margin y margin) items
       ++ print_comment_lines (case_margin y margin) tail ++ (text margin ∷ text (codes "esac") ∷ []))
 
-  -- a condition on the line of its keyword or on lines of its own, and what it runs
+  -- a condition on the line of its reserved word or on lines of its own, and what it runs
   pub print_branch : Layout → Text → Text → Text → Shape ABranchOf → Marks
   print_branch y margin opener opens_body (branch condition body) =
       text opener ∷ (if is_one_line condition then text (codes " ") ∷ print_only y margin condition ++ one (codes "; ")
