@@ -1,12 +1,23 @@
-pub mod BodiesOfParts
+-- what the code has still to print, and what it copies from the source
 pub mod Copying
-pub mod Digits
-pub mod Due
-pub mod Gives
+pub mod Writing
+pub mod Parts
+pub mod Rows
+pub mod Spaced
+-- good shapes: what a shape has so that its printed text is read back
 pub mod Good
 pub mod GoodRows
+-- what was read has a good shape: here-documents and numbers, then the rows
+pub mod Due
+pub mod BodiesOfParts
+pub mod Digits
+pub mod ReadableForms
+pub mod ReadableCommands
+pub mod ReadableCompounds
+-- what is printed for a good shape is read as a tree of that shape: tokens and what waits, then the rows
+pub mod Gives
+pub mod Tokens
 pub mod Held
-pub mod ReadBack
 pub mod PrintedText
 pub mod PrintedItems
 pub mod PrintedCommands
@@ -14,11 +25,5 @@ pub mod PrintedLists
 pub mod PrintedCompounds
 pub mod PrintedCases
 pub mod PrintedRows
-pub mod ReadableForms
-pub mod ReadableCommands
-pub mod ReadableCompounds
-pub mod Parts
-pub mod Rows
-pub mod Spaced
-pub mod Tokens
-pub mod Writing
+-- both put together: what is printed of a script that was read is read back
+pub mod ReadBack
