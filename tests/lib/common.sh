@@ -1,5 +1,5 @@
-# What the shell scripts of this folder begin with: they read it by `.`. A script has a room of its own, which
-# goes when it ends, and counts what fails.
+# What the shell scripts of tests/ start with: they read it by `.`. A script has a room of its own, which goes
+# when it ends, and counts what fails.
 set -eu
 
 here=$(CDPATH='' cd -- "$(dirname -- "$0")" && pwd -P)

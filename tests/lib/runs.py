@@ -12,7 +12,7 @@ from typing import NamedTuple
 from edits import batch_of
 
 HERE = os.path.dirname(os.path.realpath(__file__))
-PROGRAM = f"{os.path.dirname(HERE)}/crates/shform/out/shform"
+PROGRAM = f"{os.path.dirname(os.path.dirname(HERE))}/crates/shform/out/shform"
 SECONDS = 60
 EVERY_OPTION = ("-i", "16", "--case-indent", "--space-redirects", "--func-next-line")
 LAYOUTS = ((), ("-i", "3"), ("--case-indent",), ("--space-redirects",), ("--func-next-line",), EVERY_OPTION)

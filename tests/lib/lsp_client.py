@@ -9,7 +9,7 @@ import subprocess
 import sys
 
 HERE = os.path.dirname(os.path.realpath(__file__))
-ROOT = os.path.dirname(HERE)
+ROOT = os.path.dirname(os.path.dirname(HERE))
 SERVER = f"{ROOT}/contrib/lsp/shform-lsp"
 URI = "file:///a%20place/script.sh"
 counts = {"passed": 0, "failed": 0}
