@@ -1,6 +1,6 @@
 -- Edits of a list of bytes: splices that rise, all of them at once.
 use Rattle.std.specs.Prelude.{◌≡◌, ℕ, ◌+◌, ◌-◌, ◌<◌, ◌≤◌, ◌^◌, ◌↔◌, IsTrue, ◌++◌, List, [], ◌∷◌, List as Row, length, map, min, take, drop}
-use Rattle.shtext.specs.declared.allow.Tally.{Tally}
+use Rattle.shtext.specs.declared.tally.Tally.{Tally}
 use Rattle.shtext.specs.declared.error.TextError.{TextError}
 use Rattle.shtext.specs.declared.error.TextError.TheVariants.{Range, TooLarge, Memory, Order}
 use Rattle.shtext.specs.declared.splice.Splice.{Splice}

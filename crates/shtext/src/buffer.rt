@@ -4,13 +4,13 @@ ghost use Rattle.shtext.specs.Chunks.{AreFull, EachHas, HasSums, begin_of, ends_
 ghost use Rattle.shtext.specs.Edit.{AreAllowed, Refuses, limit, one_splice};
 ghost use Rattle.shtext.specs.Text.{IsRun};
 
-use crate::allow::Tally;
 use crate::chunk::{CHUNK, Chunk};
 use crate::cut::cut;
 use crate::edit::SEAM;
 use crate::error::TextError;
 use crate::source::Source;
 use crate::sums::{add_up_anew, place_near, sum_before};
+use crate::tally::Tally;
 use std::alloc::Global;
 
 /// A text that is edited in two steps, so that nothing can go wrong once its bytes change: a change is

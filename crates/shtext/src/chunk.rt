@@ -3,8 +3,8 @@ ghost use Rattle.std.specs.Prelude.{◌≡◌, ◌-◌, ◌≤◌, [], IfOk, cou
 ghost use Rattle.shtext.specs.Text.{is_newline};
 ghost use Rattle.shtext.specs.Chunks.{most};
 
+use crate::copy::push_part;
 use crate::count::newlines_in;
-use crate::part::push_part;
 use crate::source::Source;
 use std::alloc::{AllocError, Global};
 use std::marker::Model;

@@ -5,19 +5,19 @@ ghost use Rattle.shtext.specs.Chunks.{HoldsPart, LeavesFull, around, around_coun
 ghost use Rattle.shtext.specs.Edit.{AreInRange, Refuses, RiseFrom, IsTally, first_begin, limit, one_splice, splices_of};
 ghost use Rattle.shtext.specs.declared.change.Change.{Change};
 
-use crate::allow::{LIMIT, Tally};
 use crate::buffer::Buffer;
 use crate::change::Change;
 use crate::chunk::{CHUNK, Chunk, FEWEST};
+use crate::copy::{push_part, stand_at};
 use crate::cut::chunks_for;
 use crate::edited::Edited;
 use crate::error::TextError;
 use crate::fill::fill_anew;
 use crate::filling::Filling;
-use crate::part::{push_part, stand_at};
 use crate::source::Source;
 use crate::splice::Splice;
 use crate::sums::add_up_anew;
+use crate::tally::{LIMIT, Tally};
 use std::alloc::{AllocError, Global};
 use std::mem;
 

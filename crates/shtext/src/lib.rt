@@ -10,10 +10,11 @@
 //! definitions that the contracts cite are in `specs/`.
 #![tactic(auto)]
 
-mod allow;
 mod buffer;
+mod buffer_lines;
 mod change;
 mod chunk;
+mod copy;
 mod count;
 mod cut;
 mod device;
@@ -25,14 +26,12 @@ mod filling;
 mod items;
 pub mod laws;
 mod line_col;
-mod part;
-mod places;
-mod row;
+mod make_place;
 mod source;
 mod splice;
 mod sums;
+mod tally;
 
-pub use allow::{LIMIT, Tally};
 pub use buffer::Buffer;
 pub use change::Change;
 pub use chunk::CHUNK;
@@ -44,3 +43,4 @@ pub use items::replace_items;
 pub use line_col::line_col_of;
 pub use source::{Flat, Source};
 pub use splice::Splice;
+pub use tally::{LIMIT, Tally};

@@ -6,7 +6,7 @@ ghost use Rattle.shtext.specs.Chunks.{HasSums, SumsOn, before, ends_of, joined, 
 
 use crate::chunk::Chunk;
 use crate::items::take_out;
-use crate::row::to_place;
+use crate::make_place::to_place;
 
 /// How many places are looked at one by one before all are searched.
 const NEAR: usize = 16;

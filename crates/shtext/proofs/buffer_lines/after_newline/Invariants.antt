@@ -1,6 +1,6 @@
 use Rattle.std.proofs.Common.{◌≡◌, ◌-◌, ◌≤◌, count_by, length, take}
 use Rattle.shtext.specs.Text.{is_newline}
-use Rattle.shtext.proofs.places.after_newline.Given as goal
+use Rattle.shtext.proofs.buffer_lines.after_newline.Given as goal
 
 abbrev pub invariant-bytes : goal.invariant-bytes
 invariant-bytes l = record {

@@ -1,5 +1,5 @@
 use Rattle.std.proofs.Common.{◌+◌, ◌-◌, ◌≡◌, ◌≤◌, ◌++◌, drop, take, vec_capacity, vec_len}
-use Rattle.shtext.proofs.part.push_part.Given as goal
+use Rattle.shtext.proofs.copy.push_part.Given as goal
 
 abbrev pub invariant-runs : goal.invariant-runs
 invariant-runs g l = record {

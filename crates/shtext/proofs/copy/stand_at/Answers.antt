@@ -3,7 +3,7 @@ use Rattle.std.proofs.lemmas.Bool.Decides.{Decides-eqb}
 use Rattle.std.proofs.lemmas.List.{take-append-drop}
 use Rattle.std.proofs.lemmas.Slice.Eq.{slice_eq-Decides}
 use Rattle.shtext.proofs.Parts.{run_part, stand_more, stand_not}
-use Rattle.shtext.proofs.part.stand_at.Goals as goal
+use Rattle.shtext.proofs.copy.stand_at.Goals as goal
 
 pub returns-then-not-is_same : goal.returns-then-not-is_same
 returns-then-not-is_same g c =

@@ -2,7 +2,7 @@ use Rattle.std.proofs.Common.{◌≡◌, ◌+◌, ◌-◌, drop, length, reverse
 use Rattle.std.proofs.lemmas.List.{length-reverse}
 use Rattle.shtext.specs.Rows.{last_moved}
 use Rattle.shtext.proofs.Rows.{brought_back, brought_front}
-use Rattle.shtext.proofs.row.bring.Goals as goal
+use Rattle.shtext.proofs.make_place.bring.Goals as goal
 
 pub returns-clause-front : goal.returns-clause-front
 returns-clause-front g c =

@@ -1,6 +1,6 @@
 use Rattle.std.proofs.Common.{arith}
 use Rattle.shtext.proofs.Splices.{edited_long}
-use Rattle.shtext.proofs.allow.Tally.answer.Goals as goal
+use Rattle.shtext.proofs.tally.Tally.answer.Goals as goal
 
 pub returns-then-saturating_add-gt-LIMIT-clause-err : goal.returns-then-saturating_add-gt-LIMIT-clause-err
 returns-then-saturating_add-gt-LIMIT-clause-err c bytes ss told =

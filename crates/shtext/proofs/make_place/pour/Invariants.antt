@@ -1,5 +1,5 @@
 use Rattle.std.proofs.Common.{◌-◌, ◌≡◌, ◌+◌, ◌≤◌, ◌++◌, drop, length, vec_capacity, vec_len, reverse}
-use Rattle.shtext.proofs.row.pour.Given as goal
+use Rattle.shtext.proofs.make_place.pour.Given as goal
 
 abbrev pub invariant-items : goal.invariant-items
 invariant-items g l = record {

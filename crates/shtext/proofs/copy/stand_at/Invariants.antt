@@ -1,5 +1,5 @@
 use Rattle.std.proofs.Common.{◌≡◌, ◌+◌, ◌↔◌, drop, length, take}
-use Rattle.shtext.proofs.part.stand_at.Given as goal
+use Rattle.shtext.proofs.copy.stand_at.Given as goal
 
 abbrev pub invariant-runs : goal.invariant-runs
 invariant-runs g l = record {

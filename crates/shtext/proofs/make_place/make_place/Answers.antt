@@ -1,5 +1,5 @@
 use Rattle.shtext.proofs.Rows.{fewer_same}
-use Rattle.shtext.proofs.row.make_place.Goals as goal
+use Rattle.shtext.proofs.make_place.make_place.Goals as goal
 
 pub returns-else-count-held-clause-front : goal.returns-else-count-held-clause-front
 returns-else-count-held-clause-front g c =

@@ -2,7 +2,7 @@ use Rattle.std.proofs.Common.{arith, sym, leb-true, le-leb}
 use Rattle.std.proofs.lemmas.Bool.Decides.{Decides-and, Decides-like}
 use Rattle.shtext.specs.Edit.{ASplice}
 use Rattle.shtext.proofs.Splices.{in_range_more, last_more, made_more, rise_more}
-use Rattle.shtext.proofs.allow.Tally.add.Goals as goal
+use Rattle.shtext.proofs.tally.Tally.add.Goals as goal
 
 pub returns : goal.returns
 returns c = λ len ss bytes long told.

@@ -1,7 +1,7 @@
 use Rattle.std.proofs.Common.{◌≡◌, ◌+◌, ◌-◌, ◌≤◌, ◌++◌, ℕ, List, length, take, drop, arith, ap, sym, ◌∙◌, append_assoc}
 use Rattle.std.proofs.lemmas.List.{length-take-le}
 use Rattle.shtext.proofs.Parts.{part_more, run_part}
-use Rattle.shtext.proofs.part.push_part.Goals as goal
+use Rattle.shtext.proofs.copy.push_part.Goals as goal
 
 pub runs-preserved : goal.runs-preserved
 runs-preserved g c =
