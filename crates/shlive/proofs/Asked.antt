@@ -11,10 +11,10 @@ use Rattle.shlive.specs.Requests.{EndsBy, Request, Sense, asks, behind_bytes, cl
 use Rattle.shlive.specs.Turns.{ChangesNothing, EndsAs, IsTurn, NoFurther, Replied, RepliesTo, Spells, TurnState, end_between, end_inside}
 use Rattle.shlive.specs.declared.incoming.InputEnd.{InputEnd}
 use Rattle.shlive.specs.declared.incoming.InputEnd.TheVariants as stops
-use Rattle.shlive.specs.declared.order.EditForm.{EditForm}
-use Rattle.shlive.specs.declared.order.EditForm.TheVariants as forms
-use Rattle.shlive.specs.declared.order.Order.{Order}
-use Rattle.shlive.specs.declared.order.Part.{Part}
+use Rattle.shlive.specs.declared.request_kind.EditForm.{EditForm}
+use Rattle.shlive.specs.declared.request_kind.EditForm.TheVariants as forms
+use Rattle.shlive.specs.declared.request_kind.Order.{Order}
+use Rattle.shlive.specs.declared.request_kind.Part.{Part}
 use Rattle.shlive.specs.declared.parts.Flaw.TheVariants.{NoPayload}
 use Rattle.shlive.specs.declared.serve.End.{End}
 use Rattle.shlive.specs.declared.serve.End.TheVariants.{Clean, Quit, Cut, Unreadable, TooLong, Unwritable}

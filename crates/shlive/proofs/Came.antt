@@ -7,7 +7,7 @@ use Rattle.shlive.specs.Requests.{Sense, asks, edit, edit_alone, first_line, fla
 use Rattle.shlive.specs.Lines.{IsInLine}
 use Rattle.shlive.specs.Turns.{Spells}
 use Rattle.shlive.specs.declared.incoming.InputEnd.{InputEnd}
-use Rattle.shlive.specs.declared.order.Part.{Part}
+use Rattle.shlive.specs.declared.request_kind.Part.{Part}
 use Rattle.shlive.specs.declared.parts.Flaw.{Flaw}
 use Rattle.shlive.specs.declared.parts.Flaw.TheVariants.{NoPart}
 use Rattle.shlive.specs.declared.parts.Parts.{Parts}

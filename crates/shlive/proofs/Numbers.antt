@@ -1,6 +1,6 @@
 -- The number that a word spells, from left to right.
 use Rattle.std.proofs.Common.{◌≡◌, ℕ, ◌+◌, ◌-◌, ◌*◌, ◌<◌, cond, None, List, length, drop, get_or, refl, add-one, drop-cons}
-use Rattle.shlive.specs.Orders.{digits_from, is_digit}
+use Rattle.shlive.specs.RequestKinds.{digits_from, is_digit}
 
 pub one_digit : (word : List ℕ) (i n : ℕ) → i < length word
     → digits_from n (drop i word)

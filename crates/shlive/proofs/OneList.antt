@@ -3,10 +3,10 @@ use Rattle.std.proofs.Common.{◌≡◌, ℕ, zero, suc, ◌<◌, ◌≤◌, Boo
 use Rattle.shtext.specs.Text.{is_newline}
 use Rattle.shtext.specs.Edit.{ASplice}
 use Rattle.shlive.specs.Requests.{Begins, Ending, EndsBy, Lined, NextRequest, Request, Requests, Sense, asks, behind_bytes, clean, cut, edit_alone, first_line, leaves, left, more_parts, next_by_line, next_by_order, next_by_part, next_request_of, none_yet, nothing, one_more, order_of_line, part_by_line, part_of_line, splice_by, unfinished, with_bytes, with_text_before}
-use Rattle.shlive.specs.declared.order.Order.{Order}
-use Rattle.shlive.specs.declared.order.Part.{Part}
-use Rattle.shlive.specs.declared.order.EditForm.TheVariants as forms
-use Rattle.shlive.specs.declared.order.Order.TheVariants as orders
+use Rattle.shlive.specs.declared.request_kind.Order.{Order}
+use Rattle.shlive.specs.declared.request_kind.Part.{Part}
+use Rattle.shlive.specs.declared.request_kind.EditForm.TheVariants as forms
+use Rattle.shlive.specs.declared.request_kind.Order.TheVariants as orders
 
 -- ---- what follows a request is shorter
 

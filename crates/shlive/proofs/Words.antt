@@ -1,7 +1,7 @@
 -- The words of a line, found from left to right.
 use Rattle.std.proofs.Common.{◌≡◌, ℕ, ◌+◌, ◌<◌, ◌≤◌, ◌==◌, cond, Bool, true, false, List, [], ◌∷◌, ◌++◌, length, take, drop, get_or, refl, sym, ap, ◌∙◌, append_assoc, append-nil, add-one, drop-cons, None}
 use Rattle.std.proofs.lemmas.List.{take_more, take_all, drop_all}
-use Rattle.shlive.specs.Orders.{before, number_alone, order_by_name, order_of_words, part_of_words, words}
+use Rattle.shlive.specs.RequestKinds.{before, number_alone, order_by_name, order_of_words, part_of_words, words}
 
 before_nothing : (ws : List (List ℕ)) → before [] (before [] ws) ≡ before [] ws
 before_nothing [] = refl

@@ -7,7 +7,7 @@ pub mod Printing
 pub mod Waiting
 pub mod Ahead
 pub mod Incoming
-pub mod Orders
+pub mod RequestKinds
 pub mod Requests
 pub mod Lines
 pub mod Payload

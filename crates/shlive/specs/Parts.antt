@@ -6,7 +6,7 @@ use Rattle.shlive.specs.Ahead.{Ahead, StopsAfter, TakesBytes}
 use Rattle.shlive.specs.Requests.{Request, Sense, asks, edit, flawed, splice_by, unfinished, with_bytes}
 use Rattle.shlive.specs.Turns.{Spells}
 use Rattle.shlive.specs.declared.incoming.InputEnd.{InputEnd}
-use Rattle.shlive.specs.declared.order.Part.{Part}
+use Rattle.shlive.specs.declared.request_kind.Part.{Part}
 use Rattle.shlive.specs.declared.parts.Flaw.{Flaw}
 use Rattle.shlive.specs.declared.parts.KeptSplice.{KeptSplice}
 use Rattle.shlive.specs.declared.parts.Parts.{Parts}

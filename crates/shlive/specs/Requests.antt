@@ -2,14 +2,14 @@
 use Rattle.std.specs.Prelude.{◌≡◌, zero, suc, ℕ, nat_le, List, [], ◌∷◌, ◌++◌, List as Row, length, take, drop, Option, None, Some, if◌then◌else◌}
 use Rattle.shtext.specs.Edit.{ASplice}
 use Rattle.shtext.specs.Text.{is_newline}
-use Rattle.shlive.specs.Orders.{order_of, part_of}
-use Rattle.shlive.specs.declared.order.EditForm.{EditForm}
-use Rattle.shlive.specs.declared.order.EditForm.TheVariants as forms
-use Rattle.shlive.specs.declared.order.Order.{Order}
-use Rattle.shlive.specs.declared.order.Order.TheVariants as orders
-use Rattle.shlive.specs.declared.order.Part.{Part}
-use Rattle.shlive.specs.declared.order.Question.{Question}
-use Rattle.shlive.specs.declared.order.Question.TheVariants as questions
+use Rattle.shlive.specs.RequestKinds.{order_of, part_of}
+use Rattle.shlive.specs.declared.request_kind.EditForm.{EditForm}
+use Rattle.shlive.specs.declared.request_kind.EditForm.TheVariants as forms
+use Rattle.shlive.specs.declared.request_kind.Order.{Order}
+use Rattle.shlive.specs.declared.request_kind.Order.TheVariants as orders
+use Rattle.shlive.specs.declared.request_kind.Part.{Part}
+use Rattle.shlive.specs.declared.request_kind.Question.{Question}
+use Rattle.shlive.specs.declared.request_kind.Question.TheVariants as questions
 use Rattle.shlive.specs.declared.parts.Flaw.{Flaw}
 use Rattle.shlive.specs.declared.parts.Flaw.TheVariants.{NoPart, NoPayload}
 

@@ -5,13 +5,13 @@ ghost use Rattle.shlive.specs.Ahead.{IsReady, StopsAfter, ahead_of};
 ghost use Rattle.shlive.specs.Lines.{KeepsText};
 ghost use Rattle.shlive.specs.Parts.{AreSplices, Comes, Hold, IsInSplice, TakesSplice};
 ghost use Rattle.shlive.specs.Payload.{AreKept};
-ghost use Rattle.shlive.specs.Orders.{HasPart};
+ghost use Rattle.shlive.specs.RequestKinds.{HasPart};
 ghost use Rattle.shlive.specs.Requests.{more_parts, next_by_form, part_of_line, splice_by};
 
 use crate::incoming::{Incoming, InputEnd};
 use crate::lines::{RequestLine, take_line};
-use crate::order::{EditForm, Part, part_of};
 use crate::payload::take_payload;
+use crate::request_kind::{EditForm, Part, part_of};
 use shtext::{Input, LIMIT, Tally, TextError};
 use std::alloc::Global;
 use std::io::Read;

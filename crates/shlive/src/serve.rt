@@ -3,7 +3,7 @@ ghost use Rattle.std.specs.Prelude.{◌≡◌, IfSome, IsOk, ℕ, List, OnOk, fa
 ghost use Rattle.shtext.specs.Device.{output_failed};
 ghost use Rattle.shlive.specs.Ahead.{Ahead, IsOpen, IsReady, ahead_of};
 ghost use Rattle.shlive.specs.Lines.{KeepsText};
-ghost use Rattle.shlive.specs.Orders.{HasPart, HasParts};
+ghost use Rattle.shlive.specs.RequestKinds.{HasPart, HasParts};
 ghost use Rattle.shlive.specs.Outputs.{Remembers, WritesText};
 ghost use Rattle.shlive.specs.Parts.{Comes};
 ghost use Rattle.shlive.specs.Requests.{Sense, next_by_form, next_request_of, order_of_line, request_of};
@@ -13,8 +13,8 @@ ghost use Rattle.shlive.specs.declared.serve.End.TheVariants.{Unwritable};
 
 use crate::incoming::{Incoming, InputEnd};
 use crate::lines::{RequestLine, take_line};
-use crate::order::{EditForm, Order, Question, order_of};
 use crate::parts::{Flaw, Parts, take_splices};
+use crate::request_kind::{EditForm, Order, Question, order_of};
 use crate::replies::{
     reply_to_at, reply_to_edit, reply_to_fault, reply_to_outline, reply_to_print,
 };

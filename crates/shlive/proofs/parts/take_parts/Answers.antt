@@ -4,7 +4,7 @@ use Rattle.shtext.specs.Edit.{ASplice}
 use Rattle.shlive.specs.Ahead.{ahead_of}
 use Rattle.shlive.specs.Parts.{after_bytes}
 use Rattle.shlive.specs.Requests.{Sense, more_parts, part_of_line, splice_by}
-use Rattle.shlive.specs.declared.order.Part.{Part}
+use Rattle.shlive.specs.declared.request_kind.Part.{Part}
 use Rattle.shlive.proofs.Came.{after_flaw, after_whole, came_on, comes_cut, cut_in_bytes, cut_in_line, next, no_part, none_if}
 use Rattle.shlive.proofs.Taken.{takes_both, takes_none}
 use Rattle.shlive.proofs.parts.take_parts.Goals as goal

@@ -3,7 +3,7 @@ use Rattle.std.proofs.lemmas.Result.{err_from_is_err_and}
 use Rattle.shlive.specs.Ahead.{ahead_of}
 use Rattle.shlive.specs.Requests.{next_by_order, next_request_of, order_of_line, request_of, unknown}
 use Rattle.shlive.specs.Turns.{turn_state}
-use Rattle.shlive.specs.declared.order.Order.TheVariants.{Ask, Edit, Quit}
+use Rattle.shlive.specs.declared.request_kind.Order.TheVariants.{Ask, Edit, Quit}
 use Rattle.shlive.proofs.Asked.{form_begins, line_cut, line_is, plain_replied, some_taken, stops_between, stops_inside, turn_through}
 use Rattle.shlive.proofs.Taken.{takes_both}
 use Rattle.shlive.proofs.serve.answer_next.Goals as goal

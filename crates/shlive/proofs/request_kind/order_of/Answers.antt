@@ -1,7 +1,7 @@
 use Rattle.std.proofs.Common.{◌≡◌, ap, rules, sym, ◌∙◌}
-use Rattle.shlive.specs.Orders.{order_by_name, order_of_words, words}
+use Rattle.shlive.specs.RequestKinds.{order_by_name, order_of_words, words}
 use Rattle.shlive.proofs.Words.{by_name}
-use Rattle.shlive.proofs.order.order_of.Goals as goal
+use Rattle.shlive.proofs.request_kind.order_of.Goals as goal
 
 pub returns-in_default-Some : goal.returns-in_default-Some
 returns-in_default-Some c =

@@ -2,12 +2,12 @@
 use Rattle.std.specs.Prelude.{ℕ, ◌+◌, ◌-◌, ◌*◌, ◌<◌, ◌==◌, Bool, ◌&&◌, not, nat_le, nat_lt, List, [], ◌∷◌, ◌++◌, length, Option, None, Some, option_and_then, option_map, codes, if◌then◌else◌}
 use Rattle.std.specs.Str.{bytes_eq}
 use Rattle.shgrammar.specs.Characters.{space}
-use Rattle.shlive.specs.declared.order.EditForm.{EditForm}
-use Rattle.shlive.specs.declared.order.EditForm.TheVariants.{Alone, Batch}
-use Rattle.shlive.specs.declared.order.Order.{Order}
-use Rattle.shlive.specs.declared.order.Order.TheVariants.{Edit, Ask, Quit}
-use Rattle.shlive.specs.declared.order.Part.{Part}
-use Rattle.shlive.specs.declared.order.Question.TheVariants.{Outline, At, Fault, Print}
+use Rattle.shlive.specs.declared.request_kind.EditForm.{EditForm}
+use Rattle.shlive.specs.declared.request_kind.EditForm.TheVariants.{Alone, Batch}
+use Rattle.shlive.specs.declared.request_kind.Order.{Order}
+use Rattle.shlive.specs.declared.request_kind.Order.TheVariants.{Edit, Ask, Quit}
+use Rattle.shlive.specs.declared.request_kind.Part.{Part}
+use Rattle.shlive.specs.declared.request_kind.Question.TheVariants.{Outline, At, Fault, Print}
 
 -- ---- words
 

@@ -1,6 +1,6 @@
 //! What the line of a request asks for.
 ghost use Rattle.std.specs.Prelude.{◌≡◌, ◌∷◌, [], IfSome, MatchOption};
-ghost use Rattle.shlive.specs.Orders.{HasParts, batch_of, number_alone, number_of, order_by_name, order_of, order_of_one_word, part_of, words};
+ghost use Rattle.shlive.specs.RequestKinds.{HasParts, batch_of, number_alone, number_of, order_by_name, order_of, order_of_one_word, part_of, words};
 
 /// The most parts of a batch.
 const MOST_PARTS: usize = 64;

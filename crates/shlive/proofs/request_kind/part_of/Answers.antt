@@ -1,7 +1,7 @@
 use Rattle.std.proofs.Common.{◌≡◌, ap, sym, ◌∙◌, ◌∷◌, rules}
-use Rattle.shlive.specs.Orders.{part_of_words, words}
+use Rattle.shlive.specs.RequestKinds.{part_of_words, words}
 use Rattle.shlive.proofs.Words.{part_too_many}
-use Rattle.shlive.proofs.order.part_of.Goals as goal
+use Rattle.shlive.proofs.request_kind.part_of.Goals as goal
 
 pub returns-in_default-Some-cut_word-2 : goal.returns-in_default-Some-cut_word-2
 returns-in_default-Some-cut_word-2 c =

@@ -1,7 +1,7 @@
 use Rattle.std.proofs.Common.{ap, sym, ◌∙◌}
-use Rattle.shlive.specs.Orders.{number_alone}
+use Rattle.shlive.specs.RequestKinds.{number_alone}
 use Rattle.shlive.proofs.Words.{not_alone}
-use Rattle.shlive.proofs.order.number_alone.Goals as goal
+use Rattle.shlive.proofs.request_kind.number_alone.Goals as goal
 
 pub returns-in_default-Some : goal.returns-in_default-Some
 returns-in_default-Some c =

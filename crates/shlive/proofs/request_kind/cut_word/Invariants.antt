@@ -1,6 +1,6 @@
 use Rattle.std.proofs.Common.{◌≡◌, ◌≤◌, ◌-◌, length, take, drop}
-use Rattle.shlive.specs.Orders.{before, words}
-use Rattle.shlive.proofs.order.cut_word.Given as goal
+use Rattle.shlive.specs.RequestKinds.{before, words}
+use Rattle.shlive.proofs.request_kind.cut_word.Given as goal
 
 abbrev pub invariant-bytes : goal.invariant-bytes
 invariant-bytes l = (l.at ≤ length l.line) × (words l.line ≡ before (take l.at l.line) (words (drop l.at l.line)))

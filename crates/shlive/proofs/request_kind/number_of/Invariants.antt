@@ -1,6 +1,6 @@
 use Rattle.std.proofs.Common.{◌≡◌, ◌<◌, ◌≤◌, ◌^◌, length, drop}
-use Rattle.shlive.specs.Orders.{digits_from}
-use Rattle.shlive.proofs.order.number_of.Given as goal
+use Rattle.shlive.specs.RequestKinds.{digits_from}
+use Rattle.shlive.proofs.request_kind.number_of.Given as goal
 
 abbrev pub invariant-loop-digit : goal.invariant-loop-digit
 invariant-loop-digit l =
