@@ -7,13 +7,13 @@ use Rattle.shlive.specs.Ahead.{Ahead, StopsBy, TakesBytes}
 use Rattle.shlive.specs.Lines.{IsInLine}
 use Rattle.shtext.specs.Device.{Writes}
 use Rattle.shtext.specs.Edit.{ASplice}
-use Rattle.shlive.specs.Requests.{EndsBy, Request, Sense, asks, behind_bytes, clean, cut, edit, edit_alone, first_line, flawed, more_parts, next_by_form, next_by_line, next_by_order, next_request_of, nothing, order_of_line, part_by_line, splice_by, unfinished, with_bytes}
+use Rattle.shlive.specs.Requests.{EndsBy, Request, Sense, asks, behind_bytes, clean, cut, edit, edit_alone, first_line, flawed, more_parts, next_by_form, next_by_line, next_by_kind, next_request_of, nothing, kind_of_line, part_by_line, splice_by, unfinished, with_bytes}
 use Rattle.shlive.specs.Turns.{ChangesNothing, EndsAs, IsTurn, NoFurther, Replied, RepliesTo, Spells, TurnState, end_between, end_inside}
 use Rattle.shlive.specs.declared.incoming.InputEnd.{InputEnd}
 use Rattle.shlive.specs.declared.incoming.InputEnd.TheVariants as stops
 use Rattle.shlive.specs.declared.request_kind.EditForm.{EditForm}
 use Rattle.shlive.specs.declared.request_kind.EditForm.TheVariants as forms
-use Rattle.shlive.specs.declared.request_kind.Order.{Order}
+use Rattle.shlive.specs.declared.request_kind.RequestKind.{RequestKind}
 use Rattle.shlive.specs.declared.request_kind.Part.{Part}
 use Rattle.shlive.specs.declared.parts.Flaw.TheVariants.{NoPayload}
 use Rattle.shlive.specs.declared.serve.End.{End}
@@ -24,7 +24,7 @@ use Rattle.shlive.proofs.Taken.{takes_both}
 -- ---- the line of a request
 
 pub line_first : (text rest : List ℕ) → IsInLine text →
-    next_request_of ((text ++ 10 ∷ []) ++ rest) ≡ next_by_order (order_of_line text) rest
+    next_request_of ((text ++ 10 ∷ []) ++ rest) ≡ next_by_kind (kind_of_line text) rest
 line_first [] rest p = refl
 line_first (c ∷ text) rest p = ap next_by_line (line_ends (c ∷ text) rest p)
 
@@ -197,13 +197,13 @@ module _ (text : List ℕ) (sense : Sense)
 
 -- ---- a request that is a line alone
 
-module _ (text : List ℕ) (inline : IsInLine text) (order : Option Order) (is : order ≡ order_of_line text) where
-  pub line_is : (rest : List ℕ) → next_request_of ((text ++ 10 ∷ []) ++ rest) ≡ next_by_order order rest
-  line_is rest = line_first text rest inline ∙ ap (λ o. next_by_order o rest) (sym is)
+module _ (text : List ℕ) (inline : IsInLine text) (kind : Option RequestKind) (is : kind ≡ kind_of_line text) where
+  pub line_is : (rest : List ℕ) → next_request_of ((text ++ 10 ∷ []) ++ rest) ≡ next_by_kind kind rest
+  line_is rest = line_first text rest inline ∙ ap (λ o. next_by_kind o rest) (sym is)
 
   pub plain_replied : (old new : TurnState) (failed : Bool) (request : Request)
       → TakesBytes old.ahead new.ahead (text ++ 10 ∷ [])
-      → ((rest : List ℕ) → next_by_order order rest ≡ asks request rest)
+      → ((rest : List ℕ) → next_by_kind kind rest ≡ asks request rest)
       → RepliesTo old.session request new.session (Writes old.written new.written failed)
       → Replied next_request_of old new failed
   plain_replied old new failed request takes next tells =

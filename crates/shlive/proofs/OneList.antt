@@ -2,11 +2,11 @@
 use Rattle.std.proofs.Common.{◌≡◌, ℕ, zero, suc, ◌<◌, ◌≤◌, Bool, true, false, cond, List, [], ◌∷◌, ◌++◌, List as Row, Option, None, Some, length, take, drop, refl, sym, ap, ◌∙◌, arith, append_assoc, append-nil, length-drop, subst}
 use Rattle.shtext.specs.Text.{is_newline}
 use Rattle.shtext.specs.Edit.{ASplice}
-use Rattle.shlive.specs.Requests.{Begins, Ending, EndsBy, Lined, NextRequest, Request, Requests, Sense, asks, behind_bytes, clean, cut, edit_alone, first_line, leaves, left, more_parts, next_by_line, next_by_order, next_by_part, next_request_of, none_yet, nothing, one_more, order_of_line, part_by_line, part_of_line, splice_by, unfinished, with_bytes, with_text_before}
-use Rattle.shlive.specs.declared.request_kind.Order.{Order}
+use Rattle.shlive.specs.Requests.{Begins, Ending, EndsBy, Lined, NextRequest, Request, Requests, Sense, asks, behind_bytes, clean, cut, edit_alone, first_line, leaves, left, more_parts, next_by_line, next_by_kind, next_by_part, next_request_of, none_yet, nothing, one_more, kind_of_line, part_by_line, part_of_line, splice_by, unfinished, with_bytes, with_text_before}
+use Rattle.shlive.specs.declared.request_kind.RequestKind.{RequestKind}
 use Rattle.shlive.specs.declared.request_kind.Part.{Part}
 use Rattle.shlive.specs.declared.request_kind.EditForm.TheVariants as forms
-use Rattle.shlive.specs.declared.request_kind.Order.TheVariants as orders
+use Rattle.shlive.specs.declared.request_kind.RequestKind.TheVariants as kinds
 
 -- ---- what follows a request is shorter
 
@@ -70,17 +70,18 @@ leaves_parts (suc count) ss n rest low =
     leaves_part_line (λ s. more_parts count (ss ++ s ∷ [])) rest (first_line rest) n (line_shorter rest) low
     (λ s. leaves_parts count (ss ++ s ∷ []) n)
 
-leaves_order : (order : Option Order) (rest : List ℕ) (n : ℕ) → length rest < n → Leaves n (next_by_order order rest)
-leaves_order (Some (orders.Edit (forms.Alone part))) rest n low =
+leaves_kind : (kind : Option RequestKind) (rest : List ℕ) (n : ℕ) → length rest < n →
+    Leaves n (next_by_kind kind rest)
+leaves_kind (Some (kinds.Edit (forms.Alone part))) rest n low =
     leaves_bytes part edit_alone rest n low (λ s r less. less)
-leaves_order (Some (orders.Edit (forms.Batch count))) rest n low = leaves_parts count [] n rest low
-leaves_order (Some (orders.Ask question)) rest n low = low
-leaves_order (Some orders.Quit) rest n low = tt
-leaves_order None rest n low = low
+leaves_kind (Some (kinds.Edit (forms.Batch count))) rest n low = leaves_parts count [] n rest low
+leaves_kind (Some (kinds.Ask question)) rest n low = low
+leaves_kind (Some kinds.Quit) rest n low = tt
+leaves_kind None rest n low = low
 
 leaves_line : (text : List ℕ) (l : Lined) → Shorter text l → Leaves (length text) (next_by_line l)
 leaves_line text None p = tt
-leaves_line text (Some (line, rest)) p = leaves_order (order_of_line line) rest (length text) p
+leaves_line text (Some (line, rest)) p = leaves_kind (kind_of_line line) rest (length text) p
 
 next_shorter : (input : List ℕ) → Leaves (length input) (next_request_of input)
 next_shorter [] = tt

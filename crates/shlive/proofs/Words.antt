@@ -1,7 +1,7 @@
 -- The words of a line, found from left to right.
 use Rattle.std.proofs.Common.{◌≡◌, ℕ, ◌+◌, ◌<◌, ◌≤◌, ◌==◌, cond, Bool, true, false, List, [], ◌∷◌, ◌++◌, length, take, drop, get_or, refl, sym, ap, ◌∙◌, append_assoc, append-nil, add-one, drop-cons, None}
 use Rattle.std.proofs.lemmas.List.{take_more, take_all, drop_all}
-use Rattle.shlive.specs.RequestKinds.{before, number_alone, order_by_name, order_of_words, part_of_words, words}
+use Rattle.shlive.specs.RequestKinds.{before, number_alone, kind_by_name, kind_of_words, part_of_words, words}
 
 before_nothing : (ws : List (List ℕ)) → before [] (before [] ws) ≡ before [] ws
 before_nothing [] = refl
@@ -65,9 +65,9 @@ pub part_too_many : (a b n line : List ℕ) → part_of_words (a ∷ b ∷ n ∷
 part_too_many a b n line = rw (from_start line) (part_more a b n (words line))
 
 by_name_more : (name : List ℕ) (ws : List (List ℕ)) →
-    order_of_words (name ∷ before [] ws) ≡ order_by_name name (before [] ws)
+    kind_of_words (name ∷ before [] ws) ≡ kind_by_name name (before [] ws)
 by_name_more name [] = refl
 by_name_more name (w ∷ ws) = refl
 
-pub by_name : (name line : List ℕ) → order_of_words (name ∷ words line) ≡ order_by_name name (words line)
+pub by_name : (name line : List ℕ) → kind_of_words (name ∷ words line) ≡ kind_by_name name (words line)
 by_name name line = rw (from_start line) (by_name_more name (words line))

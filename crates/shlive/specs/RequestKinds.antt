@@ -4,8 +4,8 @@ use Rattle.std.specs.Str.{bytes_eq}
 use Rattle.shgrammar.specs.Characters.{space}
 use Rattle.shlive.specs.declared.request_kind.EditForm.{EditForm}
 use Rattle.shlive.specs.declared.request_kind.EditForm.TheVariants.{Alone, Batch}
-use Rattle.shlive.specs.declared.request_kind.Order.{Order}
-use Rattle.shlive.specs.declared.request_kind.Order.TheVariants.{Edit, Ask, Quit}
+use Rattle.shlive.specs.declared.request_kind.RequestKind.{RequestKind}
+use Rattle.shlive.specs.declared.request_kind.RequestKind.TheVariants.{Edit, Ask, Quit}
 use Rattle.shlive.specs.declared.request_kind.Part.{Part}
 use Rattle.shlive.specs.declared.request_kind.Question.TheVariants.{Outline, At, Fault, Print}
 
@@ -60,15 +60,15 @@ part_of line = part_of_words (words line)
 -- ---- requests
 
 -- a request of one word
-abbrev pub order_of_one_word : List ℕ → Option Order
-order_of_one_word word =
+abbrev pub kind_of_one_word : List ℕ → Option RequestKind
+kind_of_one_word word =
     if bytes_eq word (codes "outline") then Some (Ask Outline)
     else if bytes_eq word (codes "fault") then Some (Ask Fault)
     else if bytes_eq word (codes "print") then Some (Ask Print)
     else if bytes_eq word (codes "quit") then Some Quit else None
 
 -- a batch has 1 to 64 parts
-abbrev pub batch_of : ℕ → Option Order
+abbrev pub batch_of : ℕ → Option RequestKind
 batch_of n = if nat_le 1 n && nat_le n 64 then Some (Edit (Batch n)) else None
 
 -- a batch has a part
@@ -76,22 +76,22 @@ abbrev pub HasPart : EditForm → Type 0
 HasPart (Alone p) = Unit {0}
 HasPart (Batch n) = 0 < n
 
-abbrev pub HasParts : Order → Type 0
+abbrev pub HasParts : RequestKind → Type 0
 HasParts (Edit form) = HasPart form
 HasParts _ = Unit {0}
 
 -- a request of a name and more words
-abbrev pub order_by_name : List ℕ → List (List ℕ) → Option Order
-order_by_name name ws =
+abbrev pub kind_by_name : List ℕ → List (List ℕ) → Option RequestKind
+kind_by_name name ws =
     if bytes_eq name (codes "at") then option_map (λ n. Ask (At n)) (number_alone ws)
     else if bytes_eq name (codes "edit") then option_map (λ p. Edit (Alone p)) (part_of_words ws)
     else if bytes_eq name (codes "batch") then option_and_then batch_of (number_alone ws) else None
 
-abbrev pub order_of_words : List (List ℕ) → Option Order
-order_of_words [] = None
-order_of_words (name ∷ []) = order_of_one_word name
-order_of_words (name ∷ w ∷ ws) = order_by_name name (w ∷ ws)
+abbrev pub kind_of_words : List (List ℕ) → Option RequestKind
+kind_of_words [] = None
+kind_of_words (name ∷ []) = kind_of_one_word name
+kind_of_words (name ∷ w ∷ ws) = kind_by_name name (w ∷ ws)
 
 -- what a line asks for, None for one that is no request
-abbrev pub order_of : List ℕ → Option Order
-order_of line = order_of_words (words line)
+abbrev pub request_kind_of : List ℕ → Option RequestKind
+request_kind_of line = kind_of_words (words line)

@@ -2,11 +2,11 @@
 use Rattle.std.specs.Prelude.{◌≡◌, zero, suc, ℕ, nat_le, List, [], ◌∷◌, ◌++◌, List as Row, length, take, drop, Option, None, Some, if◌then◌else◌}
 use Rattle.shtext.specs.Edit.{ASplice}
 use Rattle.shtext.specs.Text.{is_newline}
-use Rattle.shlive.specs.RequestKinds.{order_of, part_of}
+use Rattle.shlive.specs.RequestKinds.{request_kind_of, part_of}
 use Rattle.shlive.specs.declared.request_kind.EditForm.{EditForm}
 use Rattle.shlive.specs.declared.request_kind.EditForm.TheVariants as forms
-use Rattle.shlive.specs.declared.request_kind.Order.{Order}
-use Rattle.shlive.specs.declared.request_kind.Order.TheVariants as orders
+use Rattle.shlive.specs.declared.request_kind.RequestKind.{RequestKind}
+use Rattle.shlive.specs.declared.request_kind.RequestKind.TheVariants as kinds
 use Rattle.shlive.specs.declared.request_kind.Part.{Part}
 use Rattle.shlive.specs.declared.request_kind.Question.{Question}
 use Rattle.shlive.specs.declared.request_kind.Question.TheVariants as questions
@@ -112,19 +112,19 @@ next_by_form (forms.Alone p) = with_bytes p edit_alone
 next_by_form (forms.Batch n) = more_parts n []
 
 -- what a line asks for, by what follows it
-abbrev pub next_by_order : Option Order → List ℕ → NextRequest
-next_by_order (Some (orders.Edit form)) rest = next_by_form form rest
-next_by_order (Some (orders.Ask question)) rest = asks (request_of question) rest
-next_by_order (Some orders.Quit) rest = leaves
-next_by_order None rest = asks unknown rest
+abbrev pub next_by_kind : Option RequestKind → List ℕ → NextRequest
+next_by_kind (Some (kinds.Edit form)) rest = next_by_form form rest
+next_by_kind (Some (kinds.Ask question)) rest = asks (request_of question) rest
+next_by_kind (Some kinds.Quit) rest = leaves
+next_by_kind None rest = asks unknown rest
 
 -- what a line is taken for: a longer one is no request
-abbrev pub order_of_line : List ℕ → Option Order
-order_of_line line = if nat_le (length line) line_limit then order_of line else None
+abbrev pub kind_of_line : List ℕ → Option RequestKind
+kind_of_line line = if nat_le (length line) line_limit then request_kind_of line else None
 
 abbrev pub next_by_line : Lined → NextRequest
 next_by_line None = unfinished
-next_by_line (Some (line, rest)) = next_by_order (order_of_line line) rest
+next_by_line (Some (line, rest)) = next_by_kind (kind_of_line line) rest
 
 abbrev pub next_request_of : List ℕ → NextRequest
 next_request_of [] = nothing

@@ -1,6 +1,6 @@
 //! What the line of a request asks for.
 ghost use Rattle.std.specs.Prelude.{◌≡◌, ◌∷◌, [], IfSome, MatchOption};
-ghost use Rattle.shlive.specs.RequestKinds.{HasParts, batch_of, number_alone, number_of, order_by_name, order_of, order_of_one_word, part_of, words};
+ghost use Rattle.shlive.specs.RequestKinds.{HasParts, batch_of, number_alone, number_of, kind_by_name, request_kind_of, kind_of_one_word, part_of, words};
 
 /// The most parts of a batch.
 const MOST_PARTS: usize = 64;
@@ -33,7 +33,7 @@ pub(crate) enum EditForm {
 
 /// What a line asks for.
 #[derive(Clone, Copy, Debug, PartialEq, Eq)]
-pub(crate) enum Order {
+pub(crate) enum RequestKind {
     /// A change of the script.
     Edit(EditForm),
     /// An answer.
@@ -76,18 +76,18 @@ fn cut_word(line: &[u8]) -> (&[u8], Option<&[u8]>)
 }
 
 /// What a line of this one word asks for.
-fn order_of_one_word(word: &[u8]) -> Option<Order>
-    ensures is { result ≡ order_of_one_word word.now }
+fn kind_of_one_word(word: &[u8]) -> Option<RequestKind>
+    ensures is { result ≡ kind_of_one_word word.now }
     ensures parts { IfSome result HasParts }
 {
     if word == b"outline".as_slice() {
-        Some(Order::Ask(Question::Outline))
+        Some(RequestKind::Ask(Question::Outline))
     } else if word == b"fault".as_slice() {
-        Some(Order::Ask(Question::Fault))
+        Some(RequestKind::Ask(Question::Fault))
     } else if word == b"print".as_slice() {
-        Some(Order::Ask(Question::Print))
+        Some(RequestKind::Ask(Question::Print))
     } else if word == b"quit".as_slice() {
-        Some(Order::Quit)
+        Some(RequestKind::Quit)
     } else {
         None
     }
@@ -124,26 +124,26 @@ pub(crate) fn part_of(line: &[u8]) -> Option<Part>
 }
 
 /// A batch of so many parts, where there may be so many.
-fn batch_of(count: usize) -> Option<Order>
+fn batch_of(count: usize) -> Option<RequestKind>
     ensures is { result ≡ batch_of count }
     ensures parts { IfSome result HasParts }
 {
     if 1 <= count && count <= MOST_PARTS {
-        Some(Order::Edit(EditForm::Batch(count)))
+        Some(RequestKind::Edit(EditForm::Batch(count)))
     } else {
         None
     }
 }
 
 /// What a line asks for that has words after its name.
-fn order_by_name(name: &[u8], rest: &[u8]) -> Option<Order>
-    ensures is { result ≡ order_by_name name.now (words rest.now) }
+fn kind_by_name(name: &[u8], rest: &[u8]) -> Option<RequestKind>
+    ensures is { result ≡ kind_by_name name.now (words rest.now) }
     ensures parts { IfSome result HasParts }
 {
     if name == b"at".as_slice() {
-        Some(Order::Ask(Question::At(number_alone(rest)?)))
+        Some(RequestKind::Ask(Question::At(number_alone(rest)?)))
     } else if name == b"edit".as_slice() {
-        Some(Order::Edit(EditForm::Alone(part_of(rest)?)))
+        Some(RequestKind::Edit(EditForm::Alone(part_of(rest)?)))
     } else if name == b"batch".as_slice() {
         batch_of(number_alone(rest)?)
     } else {
@@ -152,12 +152,12 @@ fn order_by_name(name: &[u8], rest: &[u8]) -> Option<Order>
 }
 
 /// What a line asks for, or `None` where it is none of the requests.
-pub(crate) fn order_of(line: &[u8]) -> Option<Order>
-    ensures is { result ≡ order_of line.now }
+pub(crate) fn request_kind_of(line: &[u8]) -> Option<RequestKind>
+    ensures is { result ≡ request_kind_of line.now }
     ensures parts { IfSome result HasParts }
 {
     match cut_word(line) {
-        (word, None) => order_of_one_word(word),
-        (name, Some(rest)) => order_by_name(name, rest),
+        (word, None) => kind_of_one_word(word),
+        (name, Some(rest)) => kind_by_name(name, rest),
     }
 }

@@ -6,7 +6,7 @@ ghost use Rattle.shlive.specs.Lines.{KeepsText};
 ghost use Rattle.shlive.specs.RequestKinds.{HasPart, HasParts};
 ghost use Rattle.shlive.specs.Outputs.{Remembers, WritesText};
 ghost use Rattle.shlive.specs.Parts.{Comes};
-ghost use Rattle.shlive.specs.Requests.{Sense, next_by_form, next_request_of, order_of_line, request_of};
+ghost use Rattle.shlive.specs.Requests.{Sense, next_by_form, next_request_of, kind_of_line, request_of};
 ghost use Rattle.shlive.specs.Runs.{HasAnswer, IsSessionRun, run_state};
 ghost use Rattle.shlive.specs.Turns.{IsTurn, RepliesTo, end_between, end_inside, turn_state};
 ghost use Rattle.shlive.specs.declared.serve.End.TheVariants.{Unwritable};
@@ -14,11 +14,11 @@ ghost use Rattle.shlive.specs.declared.serve.End.TheVariants.{Unwritable};
 use crate::incoming::{Incoming, InputEnd};
 use crate::lines::{RequestLine, take_line};
 use crate::parts::{Flaw, Parts, take_splices};
-use crate::request_kind::{EditForm, Order, Question, order_of};
 use crate::replies::{
     reply_to_at, reply_to_edit, reply_to_fault, reply_to_outline, reply_to_print,
 };
 use crate::reply::write_flushed;
+use crate::request_kind::{EditForm, Question, RequestKind, request_kind_of};
 use crate::session::Session;
 use shtext::{Failed, Input, Output};
 use std::alloc::Global;
@@ -84,12 +84,12 @@ impl End {
 }
 
 /// What a line asks for. One that is too long is no request.
-fn order_of_line(line: &RequestLine) -> Option<Order>
-    ensures is { (text : List ℕ) → KeepsText line.now text → result ≡ order_of_line text }
+fn kind_of_line(line: &RequestLine) -> Option<RequestKind>
+    ensures is { (text : List ℕ) → KeepsText line.now text → result ≡ kind_of_line text }
     ensures parts { IfSome result HasParts }
 {
     match line.text() {
-        Some(text) => order_of(text),
+        Some(text) => request_kind_of(text),
         None => None,
     }
 }
@@ -184,10 +184,10 @@ fn answer_next<R: Read, W: Write>(
         Ok(line) => line,
         Err(stop) => return Err(End::inside(stop)),
     };
-    match order_of_line(&line) {
-        Some(Order::Edit(form)) => answer_edit(alloc, session, incoming, input, output, form),
-        Some(Order::Ask(question)) => Ok(reply_to(alloc, session, output, question)?),
-        Some(Order::Quit) => Err(End::Quit),
+    match kind_of_line(&line) {
+        Some(RequestKind::Edit(form)) => answer_edit(alloc, session, incoming, input, output, form),
+        Some(RequestKind::Ask(question)) => Ok(reply_to(alloc, session, output, question)?),
+        Some(RequestKind::Quit) => Err(End::Quit),
         None => Ok(write_flushed(output, &[b"no request\n"])?),
     }
 }
