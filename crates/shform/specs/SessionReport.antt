@@ -3,7 +3,7 @@ use Rattle.std.specs.Prelude.{◌≡◌, ◌⊎◌, ℕ, ◌≤◌, [], true, fa
 use Rattle.std.specs.Prelude.{Option, None, Some, Err}
 use Rattle.std.specs.Io.KnownBytes.{Consumes, IsAtEnd}
 use Rattle.shgrammar.specs.declared.edition.Edition.{Edition}
-use Rattle.shlive.specs.Held.{Held, Manner}
+use Rattle.shlive.specs.Held.{Held, SessionOptions}
 use Rattle.shlive.specs.Runs.{IsSessionRun, run_state}
 use Rattle.shprint.specs.declared.layout.Layout.{Layout}
 use Rattle.shtext.specs.Device.{held_of, input_ended, input_failed, left_of, output_failed}
@@ -16,11 +16,11 @@ use Rattle.shform.specs.declared.report.RunError.{RunError}
 
 -- ---- the session
 
-abbrev pub how_of : Edition → Layout → Manner
+abbrev pub how_of : Edition → Layout → SessionOptions
 how_of edition layout = record { edition = edition; layout = layout }
 
 -- what a session holds that was opened on these bytes, with a reader of this meter
-abbrev pub opened_on : Manner → ℕ → List ℕ → Held
+abbrev pub opened_on : SessionOptions → ℕ → List ℕ → Held
 opened_on how meter bytes = record { bytes = bytes; how = how; meter = raised meter (length bytes) }
 
 -- ---- FILE
@@ -46,7 +46,7 @@ IsGivenUp remaining _ _ read error = ⊥
 
 -- FILE was read, and a session ran that was opened on its bytes; nothing was told. The ends as they were
 -- and as they are, and the status.
-pub record Serves {F I O E : Type 0} (devices : Devices F I O E) (how : Manner) (meter : ℕ)
+pub record Serves {F I O E : Type 0} (devices : Devices F I O E) (how : SessionOptions) (meter : ℕ)
     (old new : ProgramEnds F I O E) (status : ℕ) : Type 0 where
   pub read : List ℕ
   pub file : IsReadWhole devices.file old.file new.file read
@@ -72,7 +72,7 @@ pub record GivesUp {F I O E : Type 0} (devices : Devices F I O E) (name : List �
 
 -- The report of a session, whose requests come on standard input and whose replies go to standard output;
 -- the meter is that with which its reader came. Without FILE it is never given up.
-abbrev pub IsSessionReport : {F I O E : Type 0} → Devices F I O E → Manner → ℕ → List ℕ
+abbrev pub IsSessionReport : {F I O E : Type 0} → Devices F I O E → SessionOptions → ℕ → List ℕ
     → ProgramEnds F I O E → ProgramEnds F I O E → ℕ → Type 0
 IsSessionReport devices how meter name old new status =
     Serves devices how meter old new status ⊎ GivesUp devices name old new status

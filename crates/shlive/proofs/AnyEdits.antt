@@ -11,7 +11,7 @@ use Rattle.shwindow.proofs.Windows.{window_only}
 use Rattle.shheld.proofs.Windows.{some}
 use Rattle.shlive.specs.Answers.{HasNodesAt, HasOutline, HasStatus, HasText}
 use Rattle.shlive.specs.Edits.{AreRead, AreReadBy, IsAfter, IsAfterBy, Tried, bytes_after, bytes_by, none_tried, one_tried}
-use Rattle.shlive.specs.Held.{Held, Manner}
+use Rattle.shlive.specs.Held.{Held, SessionOptions}
 use Rattle.shlive.specs.declared.error.LiveError.{LiveError}
 use Rattle.shlive.specs.declared.error.LiveError.TheVariants.{Range, TooLarge, Memory, Order}
 use Rattle.shlive.proofs.OneAnswer.{one_fault, one_outline, one_row_of_nodes, one_status, one_text}
@@ -73,7 +73,7 @@ all_rose before after [] _ _ low is none_tried = let same = ap (λ (h : Held). h
 all_rose before after (e ∷ es) _ _ low (mid, one, rest) (one_tried l m n k by more) =
     let rose = rose_one before e.splices mid e.result l m low one by in
     let small : mid.meter < 2 ^ 64 = omega (arith, low, rose.1) in
-    let from = subst (λ (h : Manner). AreRead h.edition (bytes_by e.result before.bytes e.splices) es n k)
+    let from = subst (λ (h : SessionOptions). AreRead h.edition (bytes_by e.result before.bytes e.splices) es n k)
     (sym (how_one before e.splices mid e.result one)) more in
     let on = subst (λ B. AreRead mid.how.edition B es n k) (sym (bytes_one before e.splices mid e.result one)) from in
     let behind = all_rose mid after es n k small rest on in
@@ -102,8 +102,8 @@ all_sums edition bytes (e ∷ es) =
 
 module _ (before after : Held) (es : Row Tried) (is : IsAfter before es after) where
   -- what is so of the bytes from scratch is so after the edits
-  here : (P : Manner → List ℕ → Type 0) → P before.how (bytes_after before.bytes es) → P after.how after.bytes
-  here P p = subst (λ (h : Manner). P h after.bytes) (sym (all_how before after es is))
+  here : (P : SessionOptions → List ℕ → Type 0) → P before.how (bytes_after before.bytes es) → P after.how after.bytes
+  here P p = subst (λ (h : SessionOptions). P h after.bytes) (sym (all_how before after es is))
       (subst (P before.how) (sym (all_bytes before after es is)) p)
 
   pub same_fault : (x y : Option Fault) → FirstFault after.how.edition after.bytes x →

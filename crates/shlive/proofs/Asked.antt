@@ -7,7 +7,7 @@ use Rattle.shlive.specs.Ahead.{Ahead, StopsBy, TakesBytes}
 use Rattle.shlive.specs.Lines.{IsInLine}
 use Rattle.shtext.specs.Device.{Writes}
 use Rattle.shtext.specs.Edit.{ASplice}
-use Rattle.shlive.specs.Requests.{EndsBy, Request, Sense, asks, behind_bytes, clean, cut, edit, edit_alone, first_line, flawed, more_parts, next_by_form, next_by_line, next_by_kind, next_request_of, nothing, kind_of_line, part_by_line, splice_by, unfinished, with_bytes}
+use Rattle.shlive.specs.Requests.{EndsBy, Request, Parser, asks, behind_bytes, clean, cut, edit, edit_alone, first_line, flawed, more_parts, next_by_form, next_by_line, next_by_kind, next_request_of, nothing, kind_of_line, part_by_line, splice_by, unfinished, with_bytes}
 use Rattle.shlive.specs.Turns.{ChangesNothing, EndsAs, IsTurn, NoFurther, Replied, RepliesTo, Spells, TurnState, end_between, end_inside}
 use Rattle.shlive.specs.declared.incoming.InputEnd.{InputEnd}
 use Rattle.shlive.specs.declared.incoming.InputEnd.TheVariants as stops
@@ -34,7 +34,7 @@ line_cut (c ∷ text) p some = ap next_by_line (line_open (c ∷ text) p)
 
 -- ---- the bytes of a splice
 
-module _ (part : Part) (next : ASplice → Sense) (bytes : List ℕ) where
+module _ (part : Part) (next : ASplice → Parser) (bytes : List ℕ) where
   seam : (more : List ℕ) → length bytes ≡ part.count →
       with_bytes part next (bytes ++ more) ≡ behind_bytes (next (splice_by part bytes)) (first_line more)
   seam more all =
@@ -60,10 +60,10 @@ module _ (part : Part) (next : ASplice → Sense) (bytes : List ℕ) where
       with_bytes part next (bytes ++ text) ≡ unfinished
   bytes_cut_line text all p = seam text all ∙ ap (behind_bytes (next (splice_by part bytes))) (line_open text p)
 
-pub after_none : (next : Sense) (text rest : List ℕ) → text ≡ [] → behind_bytes next (Some (text, rest)) ≡ next rest
+pub after_none : (next : Parser) (text rest : List ℕ) → text ≡ [] → behind_bytes next (Some (text, rest)) ≡ next rest
 after_none next text rest none = ap (λ l. behind_bytes next (Some (l, rest))) none
 
-pub after_some : (next : Sense) (text rest : List ℕ) → (text ≡ [] → ⊥) →
+pub after_some : (next : Parser) (text rest : List ℕ) → (text ≡ [] → ⊥) →
     behind_bytes next (Some (text, rest)) ≡ asks (flawed NoPayload) rest
 after_some next [] rest some = absurd (some refl)
 after_some next (c ∷ text) rest some = refl
@@ -104,11 +104,11 @@ some_taken old new taken t some none =
 
 -- ---- a run that ends where no more bytes come
 
-module _ (sense : Sense) (old new : TurnState) (same : new.session ≡ old.session)
+module _ (parser : Parser) (old new : TurnState) (same : new.session ≡ old.session)
     (silent : new.written ≡ old.written) (sound : new.broken ≡ false) where
   pub stops_inside : (stop : InputEnd) (taken : List ℕ) → TakesBytes old.ahead new.ahead taken →
-      (new.ahead.waiting.bytes ≡ [] → sense taken ≡ unfinished) → StopsBy new.ahead stop
-      → EndsAs sense old new (end_inside stop)
+      (new.ahead.waiting.bytes ≡ [] → parser taken ≡ unfinished) → StopsBy new.ahead stop
+      → EndsAs parser old new (end_inside stop)
   stops_inside stops.Met taken takes whole s =
       record { taken = taken; takes = takes; none = (whole s.2, s); same = same; silent = silent; sound = sound }
   stops_inside stops.Unreadable taken takes whole s =
@@ -123,8 +123,8 @@ module _ (sense : Sense) (old new : TurnState) (same : new.session ≡ old.sessi
   stops_inside stops.TooLong taken takes whole s =
       record { taken = taken; takes = takes; none = s; same = same; silent = silent; sound = sound }
 
-  pub stops_between : (stop : InputEnd) → TakesBytes old.ahead new.ahead [] → sense [] ≡ nothing
-      → StopsBy new.ahead stop → EndsAs sense old new (end_between stop)
+  pub stops_between : (stop : InputEnd) → TakesBytes old.ahead new.ahead [] → parser [] ≡ nothing
+      → StopsBy new.ahead stop → EndsAs parser old new (end_between stop)
   stops_between stops.Met takes none s =
       record { taken = []; takes = takes; none = (refl, none, s); same = same; silent = silent; sound = sound }
   stops_between stops.Unreadable takes none s =
@@ -141,20 +141,20 @@ module _ (sense : Sense) (old new : TurnState) (same : new.session ≡ old.sessi
 
 -- ---- what follows the line of a request goes on with it
 
-module _ (text : List ℕ) (sense : Sense)
-    (front : (rest : List ℕ) → next_request_of ((text ++ 10 ∷ []) ++ rest) ≡ sense rest)
-    (begun : sense [] ≡ nothing → ⊥)
+module _ (text : List ℕ) (parser : Parser)
+    (front : (rest : List ℕ) → next_request_of ((text ++ 10 ∷ []) ++ rest) ≡ parser rest)
+    (begun : parser [] ≡ nothing → ⊥)
     (old new : TurnState) (mid : Ahead) (first : TakesBytes old.ahead mid (text ++ 10 ∷ [])) where
   abbrev after_line : TurnState
   after_line = record { session = old.session; ahead = mid; written = old.written; broken = old.broken }
 
-  through : (taken rest : List ℕ) → next_request_of (((text ++ 10 ∷ []) ++ taken) ++ rest) ≡ sense (taken ++ rest)
+  through : (taken rest : List ℕ) → next_request_of (((text ++ 10 ∷ []) ++ taken) ++ rest) ≡ parser (taken ++ rest)
   through taken rest = ap next_request_of (append_assoc (text ++ 10 ∷ []) taken rest) ∙ front (taken ++ rest)
 
-  through_all : (taken : List ℕ) → next_request_of ((text ++ 10 ∷ []) ++ taken) ≡ sense taken
+  through_all : (taken : List ℕ) → next_request_of ((text ++ 10 ∷ []) ++ taken) ≡ parser taken
   through_all taken = front taken
 
-  replied_through : (failed : Bool) → Replied sense after_line new failed → Replied next_request_of old new failed
+  replied_through : (failed : Bool) → Replied parser after_line new failed → Replied next_request_of old new failed
   replied_through failed r = record {
     taken = (text ++ 10 ∷ []) ++ r.taken;
     request = r.request;
@@ -163,7 +163,7 @@ module _ (text : List ℕ) (sense : Sense)
     tells = r.tells;
   }
 
-  none_through : («end» : End) (taken : List ℕ) → NoFurther sense «end» taken new.ahead →
+  none_through : («end» : End) (taken : List ℕ) → NoFurther parser «end» taken new.ahead →
       NoFurther next_request_of «end» ((text ++ 10 ∷ []) ++ taken) new.ahead
   none_through Clean taken n = absurd (begun n.1)
   none_through Quit taken n = ((λ rest. through taken rest ∙ n.0 rest), n.1)
@@ -172,7 +172,7 @@ module _ (text : List ℕ) (sense : Sense)
   none_through TooLong taken n = n
   none_through Unwritable taken n = n
 
-  stays_through : («end» : End) → ChangesNothing sense «end» after_line new →
+  stays_through : («end» : End) → ChangesNothing parser «end» after_line new →
       ChangesNothing next_request_of «end» old new
   stays_through why s = record {
     taken = (text ++ 10 ∷ []) ++ s.taken;
@@ -183,7 +183,7 @@ module _ (text : List ℕ) (sense : Sense)
     sound = s.sound;
   }
 
-  ends_through : («end» : End) → EndsAs sense after_line new «end» → EndsAs next_request_of old new «end»
+  ends_through : («end» : End) → EndsAs parser after_line new «end» → EndsAs next_request_of old new «end»
   ends_through Clean s = stays_through Clean s
   ends_through Quit s = stays_through Quit s
   ends_through Cut s = stays_through Cut s
@@ -191,7 +191,7 @@ module _ (text : List ℕ) (sense : Sense)
   ends_through TooLong s = stays_through TooLong s
   ends_through Unwritable s = (replied_through true s.0, s.1, s.2)
 
-  pub turn_through : (r : Result (Unit {0}) End) → IsTurn sense after_line new r → IsTurn next_request_of old new r
+  pub turn_through : (r : Result (Unit {0}) End) → IsTurn parser after_line new r → IsTurn next_request_of old new r
   turn_through (Ok replied) turn = replied_through false turn
   turn_through (Err why) turn = ends_through why turn
 

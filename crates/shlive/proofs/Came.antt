@@ -3,7 +3,7 @@ use Rattle.std.proofs.Common.{◌≡◌, ◌-◌, ◌<◌, ◌++◌, [], ◌∷�
 use Rattle.shtext.specs.Edit.{ASplice}
 use Rattle.shlive.specs.Ahead.{Ahead, StopsAfter, StopsBy, TakesBytes}
 use Rattle.shlive.specs.Parts.{Comes, Hold, IsInSplice, TakesSplice, after_bytes, request_by}
-use Rattle.shlive.specs.Requests.{Sense, asks, edit, edit_alone, first_line, flawed, more_parts, next_by_part, part_by_line, part_of_line, splice_by, unfinished, with_bytes}
+use Rattle.shlive.specs.Requests.{Parser, asks, edit, edit_alone, first_line, flawed, more_parts, next_by_part, part_by_line, part_of_line, splice_by, unfinished, with_bytes}
 use Rattle.shlive.specs.Lines.{IsInLine}
 use Rattle.shlive.specs.Turns.{Spells}
 use Rattle.shlive.specs.declared.incoming.InputEnd.{InputEnd}
@@ -43,7 +43,7 @@ module _ (part : Part) (old new : Ahead) (before after : Parts) (len : ℕ) (non
   comes_alone (Err stop) sound is cut = (cut.0, cut.1 edit_alone, cut.2, cut.3)
 
 -- a flaw ends an edit, and none goes on with it
-pub after_flaw : (came : Result (Unit {0}) Flaw) (ss : Row ASplice) (next : Sense) (rest : List ℕ) → is_err came ≡ true
+pub after_flaw : (came : Result (Unit {0}) Flaw) (ss : Row ASplice) (next : Parser) (rest : List ℕ) → is_err came ≡ true
     → after_bytes came next rest ≡ asks (request_by came ss) rest
 after_flaw (Ok whole) ss next rest is = absurd (true≢false (sym is))
 after_flaw (Err flaw) ss next rest is = refl
@@ -52,25 +52,25 @@ pub none_if : (came : Result (Unit {0}) Flaw) (P : Type 0) → is_err came ≡ t
 none_if (Ok whole) P is = absurd (true≢false (sym is))
 none_if (Err flaw) P is = tt
 
-pub after_whole : (came : Result (Unit {0}) Flaw) (next : Sense) (rest : List ℕ) → is_err came ≡ false →
+pub after_whole : (came : Result (Unit {0}) Flaw) (next : Parser) (rest : List ℕ) → is_err came ≡ false →
     after_bytes came next rest ≡ next rest
 after_whole (Ok whole) next rest is = refl
 after_whole (Err flaw) next rest is = absurd (true≢false is)
 
 -- the input ended in an edit
-pub comes_cut : (sense : Sense) (old new : Ahead) (parts : Parts) (len : ℕ)
+pub comes_cut : (parser : Parser) (old new : Ahead) (parts : Parts) (len : ℕ)
     (r : Result (Result (Unit {0}) Flaw) InputEnd) (e stop : InputEnd) → r ≡ Err e → e ≡ stop
-    → (taken : List ℕ) → TakesBytes old new taken → sense taken ≡ unfinished → StopsBy new stop →
-    Comes sense old new parts len r
-comes_cut sense old new parts len r e stop is same taken takes cut stops =
-    subst (Comes sense old new parts len) (sym is) (taken, cut, takes, subst (StopsBy new) (sym same) stops)
+    → (taken : List ℕ) → TakesBytes old new taken → parser taken ≡ unfinished → StopsBy new stop →
+    Comes parser old new parts len r
+comes_cut parser old new parts len r e stop is same taken takes cut stops =
+    subst (Comes parser old new parts len) (sym is) (taken, cut, takes, subst (StopsBy new) (sym same) stops)
 
 -- ---- one part more
 
 module _ (count left : ℕ) (ss : Row ASplice) (taken : List ℕ)
     (goes : (rest : List ℕ) → more_parts count [] (taken ++ rest) ≡ more_parts left ss rest) (more : 0 < left)
     (text : List ℕ) (inline : IsInLine text) where
-  abbrev pub next : ASplice → Sense
+  abbrev pub next : ASplice → Parser
   next s = more_parts (left - 1) (ss ++ s ∷ [])
 
   abbrev line : List ℕ
@@ -98,7 +98,7 @@ module _ (count left : ℕ) (ss : Row ASplice) (taken : List ℕ)
         more_parts count [] (line ++ bytes) ≡ unfinished
     cut_in_bytes bytes cut = through bytes ∙ cut
 
-    pub came_on : (bytes : List ℕ) (come : Sense) → Spells (with_bytes part next) bytes come → (rest : List ℕ) →
+    pub came_on : (bytes : List ℕ) (come : Parser) → Spells (with_bytes part next) bytes come → (rest : List ℕ) →
         more_parts count [] ((line ++ bytes) ++ rest) ≡ come rest
     came_on bytes come spells rest = ap (more_parts count []) (append_assoc line bytes rest) ∙ through (bytes ++ rest)
         ∙ spells rest

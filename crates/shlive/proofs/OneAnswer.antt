@@ -9,7 +9,7 @@ use Rattle.shgrammar.specs.declared.fault.Fault.{Fault}
 use Rattle.shgrammar.proofs.Scripts.{script_only}
 use Rattle.shprint.specs.Printed.{printed}
 use Rattle.shlive.specs.Answers.{HasNodesAt, HasOutline, HasStatus, HasText, status_of}
-use Rattle.shlive.specs.Held.{Manner}
+use Rattle.shlive.specs.Held.{SessionOptions}
 
 module _ (edition : Edition) (B : List ℕ) where
   one_script : (s t : AScript) → Outcome edition B s → Outcome edition B t → s ≡ t
@@ -32,7 +32,7 @@ module _ (edition : Edition) (B : List ℕ) where
   no_text s f p none first =
       let wrong : Some f ≡ None = ap (λ (t : AScript). t.wrong) (one_script _ _ first.1 p) ∙ none in absurd cc
 
-module _ (how : Manner) (B : List ℕ) where
+module _ (how : SessionOptions) (B : List ℕ) where
   pub one_text : (x y : Option (List ℕ)) → HasText how B x → HasText how B y → x ≡ y
   one_text None None p q = refl
   one_text None (Some y) p q = absurd (no_text how.edition B q.script p.0 q.outcome q.faultless p.1)

@@ -2,7 +2,7 @@
 use Rattle.std.proofs.Common.{◌≡◌, ℕ, zero, suc, ◌<◌, ◌≤◌, Bool, true, false, cond, List, [], ◌∷◌, ◌++◌, List as Row, Option, None, Some, length, take, drop, refl, sym, ap, ◌∙◌, arith, append_assoc, append-nil, length-drop, subst}
 use Rattle.shtext.specs.Text.{is_newline}
 use Rattle.shtext.specs.Edit.{ASplice}
-use Rattle.shlive.specs.Requests.{Begins, Ending, EndsBy, Lined, NextRequest, Request, Requests, Sense, asks, behind_bytes, clean, cut, edit_alone, first_line, leaves, left, more_parts, next_by_line, next_by_kind, next_by_part, next_request_of, none_yet, nothing, one_more, kind_of_line, part_by_line, part_of_line, splice_by, unfinished, with_bytes, with_text_before}
+use Rattle.shlive.specs.Requests.{Begins, Ending, EndsBy, Lined, NextRequest, Request, Requests, Parser, asks, behind_bytes, clean, cut, edit_alone, first_line, quits, left, more_parts, next_by_line, next_by_kind, next_by_part, next_request_of, none_yet, nothing, one_more, kind_of_line, part_by_line, part_of_line, splice_by, unfinished, with_bytes, with_text_before}
 use Rattle.shlive.specs.declared.request_kind.RequestKind.{RequestKind}
 use Rattle.shlive.specs.declared.request_kind.Part.{Part}
 use Rattle.shlive.specs.declared.request_kind.EditForm.TheVariants as forms
@@ -32,20 +32,20 @@ line_shorter (b ∷ text) = shorter_by b text (is_newline b) (first_line text) (
 abbrev Leaves : ℕ → NextRequest → Type 0
 Leaves n nothing = Unit {0}
 Leaves n unfinished = Unit {0}
-Leaves n leaves = Unit {0}
+Leaves n quits = Unit {0}
 Leaves n (asks request rest) = length rest < n
 
 -- where what it goes on with does
-abbrev GoesOn : ℕ → Sense → Type 0
+abbrev GoesOn : ℕ → Parser → Type 0
 GoesOn n next = (rest : List ℕ) → length rest < n → Leaves n (next rest)
 
-leaves_after : (next : Sense) (text : List ℕ) (l : Lined) (n : ℕ) → Shorter text l → length text < n → GoesOn n next →
+leaves_after : (next : Parser) (text : List ℕ) (l : Lined) (n : ℕ) → Shorter text l → length text < n → GoesOn n next →
     Leaves n (behind_bytes next l)
 leaves_after next text None n p low on = tt
 leaves_after next text (Some ([], rest)) n p low on = on rest (omega (arith, p, low))
 leaves_after next text (Some (c ∷ line, rest)) n p low on = omega (arith, p, low)
 
-leaves_bytes : (part : Part) (next : ASplice → Sense) (rest : List ℕ) (n : ℕ) → length rest < n →
+leaves_bytes : (part : Part) (next : ASplice → Parser) (rest : List ℕ) (n : ℕ) → length rest < n →
     ((s : ASplice) → GoesOn n (next s)) → Leaves n (with_bytes part next rest)
 leaves_bytes part next rest n low on =
     let less = length-drop part.count rest in
@@ -53,12 +53,12 @@ leaves_bytes part next rest n low on =
     leaves_after (next (splice_by part (take part.count rest))) after (first_line after) n (line_shorter after)
     (omega (arith, less, low)) (on _)
 
-leaves_part : (part : Option Part) (next : ASplice → Sense) (rest : List ℕ) (n : ℕ) → length rest < n →
+leaves_part : (part : Option Part) (next : ASplice → Parser) (rest : List ℕ) (n : ℕ) → length rest < n →
     ((s : ASplice) → GoesOn n (next s)) → Leaves n (next_by_part part next rest)
 leaves_part None next rest n low on = low
 leaves_part (Some part) next rest n low on = leaves_bytes part next rest n low on
 
-leaves_part_line : (next : ASplice → Sense) (text : List ℕ) (l : Lined) (n : ℕ) → Shorter text l → length text < n →
+leaves_part_line : (next : ASplice → Parser) (text : List ℕ) (l : Lined) (n : ℕ) → Shorter text l → length text < n →
     ((s : ASplice) → GoesOn n (next s)) → Leaves n (part_by_line next l)
 leaves_part_line next text None n p low on = tt
 leaves_part_line next text (Some (line, rest)) n p low on =
@@ -101,7 +101,7 @@ module _ (input : List ℕ) where
       Begins input asked mid → next_request_of mid ≡ next → Leaves (length mid) (next_request_of mid) → Ended input
   by_next n asked mid nothing low b is less = ends asked mid nothing clean b is tt
   by_next n asked mid unfinished low b is less = ends asked mid unfinished cut b is tt
-  by_next n asked mid leaves low b is less = ends asked mid leaves left b is tt
+  by_next n asked mid quits low b is less = ends asked mid quits left b is tt
   by_next zero asked mid (asks request rest) low b is less =
       let few : length rest < length mid = subst (Leaves (length mid)) is less in absurd (omega (arith, few, low))
   by_next (suc n) asked mid (asks request rest) low b is less =
@@ -138,11 +138,11 @@ one_end unfinished cut clean p q = absurd q
 one_end unfinished cut left p q = absurd q
 one_end unfinished clean e p q = absurd p
 one_end unfinished left e p q = absurd p
-one_end leaves left left p q = refl
-one_end leaves left clean p q = absurd q
-one_end leaves left cut p q = absurd q
-one_end leaves clean e p q = absurd p
-one_end leaves cut e p q = absurd p
+one_end quits left left p q = refl
+one_end quits left clean p q = absurd q
+one_end quits left cut p q = absurd q
+one_end quits clean e p q = absurd p
+one_end quits cut e p q = absurd p
 one_end (asks r rest) d e p q = absurd p
 
 no_end : (n : NextRequest) (e : Ending) (r : Request) (rest : List ℕ) → n ≡ asks r rest → EndsBy n e → ⊥
@@ -151,13 +151,13 @@ no_end n e r rest is p = let q : EndsBy (asks r rest) e = subst (λ m. EndsBy m 
 abbrev request_in : Request → NextRequest → Request
 request_in d nothing = d
 request_in d unfinished = d
-request_in d leaves = d
+request_in d quits = d
 request_in d (asks r rest) = r
 
 abbrev rest_in : NextRequest → List ℕ
 rest_in nothing = []
 rest_in unfinished = []
-rest_in leaves = []
+rest_in quits = []
 rest_in (asks r rest) = rest
 
 goes_one : (input : List ℕ) (rs ss : List Request) (d e : Ending) → Goes input rs d → Goes input ss e → (rs ≡ ss)

@@ -8,7 +8,7 @@ use Rattle.shwindow.specs.Meter.{risen}
 use Rattle.shwindow.specs.Window.{IsWindow}
 use Rattle.shheld.specs.TopLines.{IsTopLine}
 use Rattle.shprint.specs.declared.layout.Layout.{Layout}
-use Rattle.shlive.specs.Held.{Manner}
+use Rattle.shlive.specs.Held.{SessionOptions}
 use Rattle.shlive.specs.HeldLines.{HasReadNoMore, HasReadWindow, IsHeldLine}
 use Rattle.shlive.proofs.TopLines.{window_held, window_top}
 
@@ -47,5 +47,5 @@ module _ (edition : Edition) (B U : List ℕ) (ss : Row ASplice) (a e b : ℕ)
 
 -- how a session reads and prints, by what its reader reads by and its layout
 pub same_how : (y : Layout) (e d : Edition) → e ≡ d →
-    ◌≡◌ {A = Manner} (record { edition = e; layout = y }) (record { edition = d; layout = y })
+    ◌≡◌ {A = SessionOptions} (record { edition = e; layout = y }) (record { edition = d; layout = y })
 same_how y e d is = ap (λ x. record { edition = x; layout = y }) is

@@ -9,7 +9,7 @@ use Rattle.shtext.specs.Edit.{ASplice, Refuses}
 use Rattle.shtext.specs.declared.error.TextError.{TextError}
 use Rattle.shtext.specs.declared.error.TextError.TheVariants as text_errors
 use Rattle.shprint.specs.ReadBack.{IsTextOf}
-use Rattle.shlive.specs.Held.{Manner}
+use Rattle.shlive.specs.Held.{SessionOptions}
 use Rattle.shlive.specs.declared.error.LiveError.{LiveError}
 use Rattle.shlive.specs.declared.error.LiveError.TheVariants.{Range, TooLarge, Memory, Order}
 
@@ -33,7 +33,7 @@ HasNodesAt edition bytes at lines = (script : AScript) × Outcome edition bytes 
     × (lines ≡ nodes_at 0 at script.entries)
 
 -- the printed text, which reads back; a faulty script has none
-abbrev pub HasText : Manner → List ℕ → Option (List ℕ) → Type 0
+abbrev pub HasText : SessionOptions → List ℕ → Option (List ℕ) → Type 0
 HasText how bytes (Some text) = IsTextOf how.edition how.layout bytes text
 HasText how bytes None = (fault : Fault) × FirstFault how.edition bytes (Some fault)
 

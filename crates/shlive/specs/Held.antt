@@ -4,7 +4,7 @@ use Rattle.shgrammar.specs.declared.edition.Edition.{Edition}
 use Rattle.shprint.specs.declared.layout.Layout.{Layout}
 
 -- how a session reads its script, and how it prints it: as long as it is open
-pub record Manner : Type 0 where
+pub record SessionOptions : Type 0 where
   pub edition : Edition
   pub layout : Layout
 
@@ -12,5 +12,5 @@ pub record Manner : Type 0 where
 -- keeps is no part of this: what a session answers is said of the bytes and the manner alone.
 pub record Held : Type 0 where
   pub bytes : List ℕ
-  pub how : Manner
+  pub how : SessionOptions
   pub meter : ℕ

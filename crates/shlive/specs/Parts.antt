@@ -3,7 +3,7 @@ use Rattle.std.specs.Prelude.{◌≡◌, ◌<◌, ◌++◌, ◌∷◌, [], ℕ, 
 use Rattle.std.specs.Global.{Global}
 use Rattle.shtext.specs.Edit.{ASplice, IsTally}
 use Rattle.shlive.specs.Ahead.{Ahead, StopsAfter, TakesBytes}
-use Rattle.shlive.specs.Requests.{Request, Sense, asks, edit, flawed, splice_by, unfinished, with_bytes}
+use Rattle.shlive.specs.Requests.{Request, Parser, asks, edit, flawed, splice_by, unfinished, with_bytes}
 use Rattle.shlive.specs.Turns.{Spells}
 use Rattle.shlive.specs.declared.incoming.InputEnd.{InputEnd}
 use Rattle.shlive.specs.declared.request_kind.Part.{Part}
@@ -35,7 +35,7 @@ request_by (Ok whole) ss = edit ss
 request_by (Err flaw) ss = flawed flaw
 
 -- how what follows the newline after a splice's bytes is understood
-abbrev pub after_bytes : Result (Unit {0}) Flaw → Sense → Sense
+abbrev pub after_bytes : Result (Unit {0}) Flaw → Parser → Parser
 after_bytes (Ok whole) next = next
 after_bytes (Err flaw) next = asks (flawed flaw)
 
@@ -46,26 +46,26 @@ pub record TakesSplice (part : Part) (before after : Parts) (old new : Ahead) (c
   pub taken : List ℕ
   pub bytes : List ℕ
   pub takes : TakesBytes old new taken
-  pub spelled : (next : ASplice → Sense)
+  pub spelled : (next : ASplice → Parser)
       → Spells (with_bytes part next) taken (after_bytes came (next (splice_by part bytes)))
   pub held : (len : ℕ) (ss : Row ASplice) → Hold before len ss → Hold after len (ss ++ splice_by part bytes ∷ [])
 
 -- where no more follows, the request is cut off in a splice's bytes or before the newline after them
 abbrev pub IsInSplice : Part → List ℕ → Type 0
-IsInSplice part taken = (next : ASplice → Sense) → with_bytes part next taken ≡ unfinished
+IsInSplice part taken = (next : ASplice → Parser) → with_bytes part next taken ≡ unfinished
 
 -- an edit that is understood so was taken whole or up to a flaw
-pub record TakesEdit (sense : Sense) (old new : Ahead) (parts : Parts) (len : ℕ) (came : Result (Unit {0}) Flaw)
+pub record TakesEdit (parser : Parser) (old new : Ahead) (parts : Parts) (len : ℕ) (came : Result (Unit {0}) Flaw)
     : Type 0 where
   pub taken : List ℕ
   pub splices : Row ASplice
   pub some : OnOk came (0 < length splices)
   pub takes : TakesBytes old new taken
-  pub spelled : Spells sense taken (asks (request_by came splices))
+  pub spelled : Spells parser taken (asks (request_by came splices))
   pub held : Hold parts len splices
   pub sound : new.failed ≡ false
 
 -- What came of an edit that is understood so: it was taken whole or up to a flaw, or the input ended in it.
-abbrev pub Comes : Sense → Ahead → Ahead → Parts → ℕ → Result (Result (Unit {0}) Flaw) InputEnd → Type 0
-Comes sense old new parts len (Ok came) = TakesEdit sense old new parts len came
-Comes sense old new parts len (Err stop) = StopsAfter (λ taken. sense taken ≡ unfinished) old new stop
+abbrev pub Comes : Parser → Ahead → Ahead → Parts → ℕ → Result (Result (Unit {0}) Flaw) InputEnd → Type 0
+Comes parser old new parts len (Ok came) = TakesEdit parser old new parts len came
+Comes parser old new parts len (Err stop) = StopsAfter (λ taken. parser taken ≡ unfinished) old new stop

@@ -13,7 +13,7 @@ use Rattle.shast.specs.declared.node.NodeLine.{NodeLine}
 use Rattle.shast.specs.declared.tree.Span.{Span}
 use Rattle.shtext.specs.Edit.{ASplice}
 use Rattle.shtext.specs.Text.{column_of, line_of}
-use Rattle.shlive.specs.Held.{Held, Manner}
+use Rattle.shlive.specs.Held.{Held, SessionOptions}
 use Rattle.shlive.specs.Answers.{HasNodesAt, HasOutline, HasStatus, HasText}
 use Rattle.shlive.specs.Edits.{IsNotMade, IsMade}
 use Rattle.shlive.specs.Requests.{Request, edit, flawed, outline, at, fault, print, unknown}
@@ -127,7 +127,7 @@ TellsNodesAt edition bytes p reply =
     (lines : List NodeLine) × HasNodesAt edition bytes p lines × (reply ≡ nodes_text (codes "at") bytes lines)
 
 -- The reply to a request on the bytes of a script. Memory may run out where a tree or a text is made.
-abbrev pub IsReply : Manner → List ℕ → Request → List ℕ → Type 0
+abbrev pub IsReply : SessionOptions → List ℕ → Request → List ℕ → Type 0
 IsReply how bytes (edit ss) reply = ⊥
 IsReply how bytes (flawed flaw) reply = reply ≡ flaw_text flaw
 IsReply how bytes outline reply = TellsOutline how.edition bytes reply ⊎ IsNoMemory reply

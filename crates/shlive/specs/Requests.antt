@@ -32,7 +32,7 @@ pub data NextRequest : Type 0 where
   -- a request that the input cuts off
   unfinished : NextRequest
   -- a line `quit`
-  leaves : NextRequest
+  quits : NextRequest
   -- a request, and what follows it
   asks : (request : Request) (rest : List ℕ) → NextRequest
 
@@ -54,13 +54,13 @@ first_line (b ∷ bs) = if is_newline b then Some ([], bs) else with_text_before
 
 -- ---- how bytes are understood
 
-abbrev pub Sense : Type 0
-Sense = List ℕ → NextRequest
+abbrev pub Parser : Type 0
+Parser = List ℕ → NextRequest
 
 -- ---- edits
 
 -- what follows the bytes of a splice, by the rest of their last line: it has to be empty
-abbrev pub behind_bytes : Sense → Lined → NextRequest
+abbrev pub behind_bytes : Parser → Lined → NextRequest
 behind_bytes next None = unfinished
 behind_bytes next (Some ([], rest)) = next rest
 behind_bytes next (Some (c ∷ line, rest)) = asks (flawed NoPayload) rest
@@ -69,7 +69,7 @@ abbrev pub splice_by : Part → List ℕ → ASplice
 splice_by p bytes = record { a = p.a; b = p.b; bytes = bytes }
 
 -- what follows the line of a part: its bytes and a newline, and then what the splice goes on with
-abbrev pub with_bytes : Part → (ASplice → Sense) → Sense
+abbrev pub with_bytes : Part → (ASplice → Parser) → Parser
 with_bytes p next rest =
     behind_bytes (next (splice_by p (take p.count rest))) (first_line (drop p.count rest))
 
@@ -81,21 +81,21 @@ line_limit = 64
 abbrev pub part_of_line : List ℕ → Option Part
 part_of_line line = if nat_le (length line) line_limit then part_of line else None
 
-abbrev pub next_by_part : Option Part → (ASplice → Sense) → Sense
+abbrev pub next_by_part : Option Part → (ASplice → Parser) → Parser
 next_by_part None next rest = asks (flawed NoPart) rest
 next_by_part (Some p) next rest = with_bytes p next rest
 
-abbrev pub part_by_line : (ASplice → Sense) → Lined → NextRequest
+abbrev pub part_by_line : (ASplice → Parser) → Lined → NextRequest
 part_by_line next None = unfinished
 part_by_line next (Some (line, rest)) = next_by_part (part_of_line line) next rest
 
 -- so many parts after those of these splices: the first flaw ends the request
-abbrev pub more_parts : ℕ → Row ASplice → Sense
+abbrev pub more_parts : ℕ → Row ASplice → Parser
 more_parts zero ss rest = asks (edit ss) rest
 more_parts (suc n) ss rest = part_by_line (λ s. more_parts n (ss ++ s ∷ [])) (first_line rest)
 
 -- an edit of one splice
-abbrev pub edit_alone : ASplice → Sense
+abbrev pub edit_alone : ASplice → Parser
 edit_alone s = asks (edit (s ∷ []))
 
 -- ---- requests
@@ -107,7 +107,7 @@ request_of questions.Fault = fault
 request_of questions.Print = print
 
 -- the edit that splices make which come so
-abbrev pub next_by_form : EditForm → Sense
+abbrev pub next_by_form : EditForm → Parser
 next_by_form (forms.Alone p) = with_bytes p edit_alone
 next_by_form (forms.Batch n) = more_parts n []
 
@@ -115,7 +115,7 @@ next_by_form (forms.Batch n) = more_parts n []
 abbrev pub next_by_kind : Option RequestKind → List ℕ → NextRequest
 next_by_kind (Some (kinds.Edit form)) rest = next_by_form form rest
 next_by_kind (Some (kinds.Ask question)) rest = asks (request_of question) rest
-next_by_kind (Some kinds.Quit) rest = leaves
+next_by_kind (Some kinds.Quit) rest = quits
 next_by_kind None rest = asks unknown rest
 
 -- what a line is taken for: a longer one is no request
@@ -148,7 +148,7 @@ pub data Ending : Type 0 where
 abbrev pub EndsBy : NextRequest → Ending → Type 0
 EndsBy nothing clean = Unit {0}
 EndsBy unfinished cut = Unit {0}
-EndsBy leaves left = Unit {0}
+EndsBy quits left = Unit {0}
 EndsBy _ _ = ⊥
 
 -- the requests of an input, and how it ends after them

@@ -6,7 +6,7 @@ ghost use Rattle.shlive.specs.Lines.{KeepsText};
 ghost use Rattle.shlive.specs.RequestKinds.{HasPart, HasParts};
 ghost use Rattle.shlive.specs.Outputs.{Remembers, WritesText};
 ghost use Rattle.shlive.specs.Parts.{Comes};
-ghost use Rattle.shlive.specs.Requests.{Sense, next_by_form, next_request_of, kind_of_line, request_of};
+ghost use Rattle.shlive.specs.Requests.{Parser, next_by_form, next_request_of, kind_of_line, request_of};
 ghost use Rattle.shlive.specs.Runs.{HasAnswer, IsSessionRun, run_state};
 ghost use Rattle.shlive.specs.Turns.{IsTurn, RepliesTo, end_between, end_inside, turn_state};
 ghost use Rattle.shlive.specs.declared.serve.End.TheVariants.{Unwritable};
@@ -124,9 +124,9 @@ fn answer_came<W: Write>(
     requires unbroken { output_failed output.old ≡ false }
     ensures unbroken { OnOk result (output_failed output.new ≡ false) }
     ensures came { OnOk result (IsOk came) }
-    ensures turn { (sense : Sense) (old new : Ahead) →
-        Comes sense old new parts.now (length session.old.bytes) came →
-        IsTurn sense (turn_state W.contents session.old old output.old)
+    ensures turn { (parser : Parser) (old new : Ahead) →
+        Comes parser old new parts.now (length session.old.bytes) came →
+        IsTurn parser (turn_state W.contents session.old old output.old)
         (turn_state W.contents session.new new output.new) result }
 {
     let came = match came {

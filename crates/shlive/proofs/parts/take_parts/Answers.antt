@@ -3,7 +3,7 @@ use Rattle.std.proofs.lemmas.Result.{err_from_is_err_and}
 use Rattle.shtext.specs.Edit.{ASplice}
 use Rattle.shlive.specs.Ahead.{ahead_of}
 use Rattle.shlive.specs.Parts.{after_bytes}
-use Rattle.shlive.specs.Requests.{Sense, more_parts, part_of_line, splice_by}
+use Rattle.shlive.specs.Requests.{Parser, more_parts, part_of_line, splice_by}
 use Rattle.shlive.specs.declared.request_kind.Part.{Part}
 use Rattle.shlive.proofs.Came.{after_flaw, after_whole, came_on, comes_cut, cut_in_bytes, cut_in_line, next, no_part, none_if}
 use Rattle.shlive.proofs.Taken.{takes_both, takes_none}
@@ -70,7 +70,7 @@ returns-in_err-came-clause-comes g c len none =
     let first = takes_both start mid lined so.0 (q.0 ++ 10 ∷ []) _ so.2 q.3 refl in
     let part : Part = c.in-Some.part in
     let is : Some part ≡ part_of_line q.0 = sym c.in-Some.is ∙ told in
-    let on : ASplice → Sense = next c.args.count c.parts.left so.1 so.0 so.3 more q.0 q.1 in
+    let on : ASplice → Parser = next c.args.count c.parts.left so.1 so.0 so.3 more q.0 q.1 in
     let new = ahead c.take_bytes.new.input c.take_bytes.new.incoming in
     let b = c.in_err-came.ensures.cut in
     let e = err_from_is_err_and c.from_residual-in_err-came.result c.from_residual-in_err-came.ensures.1 in
@@ -92,7 +92,7 @@ returns-then-is_err-clause-comes g c len none =
     let first = takes_both start mid lined so.0 (q.0 ++ 10 ∷ []) _ so.2 q.3 refl in
     let part : Part = c.in-Some.part in
     let is : Some part ≡ part_of_line q.0 = sym c.in-Some.is ∙ told in
-    let on : ASplice → Sense = next c.args.count c.parts.left so.1 so.0 so.3 more q.0 q.1 in
+    let on : ASplice → Parser = next c.args.count c.parts.left so.1 so.0 so.3 more q.0 q.1 in
     let new = ahead c.take_bytes.new.input c.take_bytes.new.incoming in
     let b = c.in_ok-came.ensures.came in
     let s : ASplice = splice_by part b.bytes in
@@ -122,7 +122,7 @@ parts-preserved g c =
     let first = takes_both start mid lined so.0 (q.0 ++ 10 ∷ []) _ so.2 q.3 refl in
     let part : Part = c.in-Some.part in
     let is : Some part ≡ part_of_line q.0 = sym c.in-Some.is ∙ told in
-    let on : ASplice → Sense = next c.args.count c.parts.left so.1 so.0 so.3 more q.0 q.1 in
+    let on : ASplice → Parser = next c.args.count c.parts.left so.1 so.0 so.3 more q.0 q.1 in
     let new = ahead c.take_bytes.new.input c.take_bytes.new.incoming in
     let b = c.in_ok-came.ensures.came in
     let s : ASplice = splice_by part b.bytes in

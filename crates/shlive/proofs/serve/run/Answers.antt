@@ -1,6 +1,6 @@
 use Rattle.std.proofs.Common.{[], refl, subst, sym, lit<}
 use Rattle.shlive.specs.Ahead.{ahead_of, too_many}
-use Rattle.shlive.specs.Held.{Manner}
+use Rattle.shlive.specs.Held.{SessionOptions}
 use Rattle.shlive.specs.Replies as of_replies
 use Rattle.shlive.specs.Requests as of_requests
 use Rattle.shlive.specs.Runs.{HasAnswer}
@@ -73,5 +73,5 @@ returns-in-Err-clause-run g c =
     let so = c.requests.invariant.2 in
     let turn = c.in-Err.ensures.turn in
     ended_run old now new so c.answer.result refl refl c.in-Err.«end» turn
-    (subst (λ (h : Manner). HasAnswer h.edition c.in-Err.«end» c.answer_next.new.session.bytes c.answer.result)
+    (subst (λ (h : SessionOptions). HasAnswer h.edition c.in-Err.«end» c.answer_next.new.session.bytes c.answer.result)
     (ended_how old now new so c.in-Err.«end» turn) c.answer.ensures)
