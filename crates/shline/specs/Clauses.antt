@@ -113,7 +113,7 @@ token_of cursor position p = token_in cursor.how.edition (token_at position (tex
 abbrev pub next_from : {S : Type 0} {k : ℕ} {g : _} → Cursor S k g → Position → Next
 next_from cursor position = next_in cursor.how.edition (next_at position (text_of cursor) (here_of cursor))
 
--- what a cursor of this KEEP keeps, if it may grow a tree
+-- what a cursor of this TREE keeps, if it may grow a tree
 abbrev pub kept : ℕ → Keep → Keep
 kept k keep = if k == 1 then keep else Nothing
 

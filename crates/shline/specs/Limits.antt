@@ -8,7 +8,7 @@ pub record Limits : Type 0 where
   pub furthest : ℕ
   pub memory : Bool
 
--- A reading whose KEEP is 1 may want memory for a tree. One of another KEEP may want some where a `<` stands:
+-- A reading whose TREE is 1 may want memory for a tree. One of another TREE may want some where a `<` stands:
 -- the operators of here-documents begin with it.
 abbrev pub wants_memory : ℕ → List ℕ → Bool
 wants_memory k text = k == 1 || list_any (λ b. b == 60) text

@@ -14,7 +14,7 @@ use shast::{AndOrOperator, AndOrPart};
 use shtext::Source;
 use std::mem;
 
-impl<'a, S: Source, const KEEP: u8> Cursor<'a, S, KEEP> {
+impl<'a, S: Source, const TREE: u8> Cursor<'a, S, TREE> {
     /// One more pipeline of an and-or list, after `&&` or `||`. It stands apart to
     /// keep the frames of nested commands small.
     #[cycle(commands)]

@@ -11,7 +11,7 @@ use shast::Comment;
 use shgrammar::{Fault, FaultKind, Position, Separator, Token};
 use shtext::Source;
 
-impl<'a, S: Source, const KEEP: u8> Cursor<'a, S, KEEP> {
+impl<'a, S: Source, const TREE: u8> Cursor<'a, S, TREE> {
     /// Passes the comment here, if one stands.
     #[inline(always)]
     #[tactic(auto, unfolding(shgrammar::specs::Commands::a_comment, shgrammar::specs::Commands::next_token, shgrammar::specs::Comments::comment_at, crate::specs::InHand::InHand))]

@@ -10,7 +10,7 @@ use crate::cursor::Cursor;
 use shgrammar::{Class, ends_words};
 use shtext::Source;
 
-impl<'a, S: Source, const KEEP: u8> Cursor<'a, S, KEEP> {
+impl<'a, S: Source, const TREE: u8> Cursor<'a, S, TREE> {
     /// The place past the continuations at a place. Most often none stands there.
     #[inline(always)]
     #[tactic(auto, using(shgrammar::proofs::Stretches::joined_none))]

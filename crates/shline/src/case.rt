@@ -49,7 +49,7 @@ fn body_end(before: usize, body: &Listed) -> usize
     }
 }
 
-impl<'a, S: Source, const KEEP: u8> Cursor<'a, S, KEEP> {
+impl<'a, S: Source, const TREE: u8> Cursor<'a, S, TREE> {
     /// The word after `case`.
     #[cycle(commands)]
     #[tactic(auto, unfolding(shgrammar::specs::Compounds::a_case_word, shgrammar::specs::Commands::next_token, crate::specs::InHand::InHand))]

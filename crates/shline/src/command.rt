@@ -30,7 +30,7 @@ fn item_of(word: Word, position: Position, broken: bool) -> Item
     }
 }
 
-impl<'a, S: Source, const KEEP: u8> Cursor<'a, S, KEEP> {
+impl<'a, S: Source, const TREE: u8> Cursor<'a, S, TREE> {
     /// One more item, which is the word here, and the token after it, which stands in this position.
     #[cycle(commands)]
     #[tactic(auto, unfolding(shgrammar::specs::Commands::an_item, shgrammar::specs::Commands::next_token))]
@@ -131,7 +131,7 @@ impl<'a, S: Source, const KEEP: u8> Cursor<'a, S, KEEP> {
     /// Adds the first word of a command, after which the token in hand stands.
     #[inline(always)]
     fn add_first(&self, word: Word, items: &mut Vec<Item>) -> Result<(), AllocError>
-        ensures memory { IfErr result (λ e. (KEEP == 1) ≡ true) }
+        ensures memory { IfErr result (λ e. (TREE == 1) ≡ true) }
         ensures value { IfOk result (λ _. view_items items.new ≡ pushed (grows (keep_of self.now))
             (view_items items.old) (item false (argument (view_word word)))) }
     {

@@ -12,7 +12,7 @@ use shast::{Comment, Span};
 use shgrammar::Class;
 use shtext::Source;
 
-impl<'a, S: Source, const KEEP: u8> Cursor<'a, S, KEEP> {
+impl<'a, S: Source, const TREE: u8> Cursor<'a, S, TREE> {
     /// The place after the last byte before `end` that is no blank; at `from` one stands.
     #[tactic(auto, using(crate::proofs::Comments::blanks_before_on, crate::proofs::Comments::no_blanks_before_on))]
     fn before_blanks(&self, from: usize, end: usize) -> usize

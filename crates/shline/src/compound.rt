@@ -20,7 +20,7 @@ use shgrammar::{Closing, FaultKind, Opener, Position};
 use shtext::Source;
 use std::mem;
 
-impl<'a, S: Source, const KEEP: u8> Cursor<'a, S, KEEP> {
+impl<'a, S: Source, const TREE: u8> Cursor<'a, S, TREE> {
     /// Passes the round bracket or the reserved word here. The token after it stands in this position.
     #[tactic(auto, unfolding(shgrammar::specs::Compounds::reserved_or_paren, shgrammar::specs::Commands::next_token))]
     pub(crate) fn reserved_or_paren(&mut self, paren: bool, position: Position) -> Span
@@ -189,7 +189,7 @@ impl<'a, S: Source, const KEEP: u8> Cursor<'a, S, KEEP> {
         requires { IsRead (text_of self.old) (start_of self.old) }
         ensures value { TokenToToken self.old ((level room).compound opener) result
             (λ x. (view_command x, self.new.next)) self.new }
-        ensures tree { IfOk result (Boxed KEEP) }
+        ensures tree { IfOk result (Boxed TREE) }
     {
         if room == 0 {
             let at = self.start();

@@ -11,17 +11,17 @@ use shgrammar::{Edition, Keep, Next, Token};
 use shtext::Source;
 use std::alloc::Global;
 
-/// `KEEP` of a cursor that may grow the tree of what it reads. A number, since the
+/// `TREE` of a cursor that may grow the tree of what it reads. A number, since the
 /// check states no `bool` of a type beside ghost fields.
-pub const KEPT: u8 = 1;
+pub const WITH_TREE: u8 = 1;
 
-/// `KEEP` of one that only sees how far the reading goes, and grows no vector of a tree.
-pub const SEEN: u8 = 0;
+/// `TREE` of one that only sees how far the reading goes, and grows no vector of a tree.
+pub const NO_TREE: u8 = 0;
 
 /// By which edition a text is read, and what of its tree is kept.
 #[derive(Clone, Copy)]
-pub struct How {
-    /// The tree that grows, where `KEEP` is `KEPT`.
+pub struct ReadOptions {
+    /// The tree that grows, where `TREE` is `WITH_TREE`.
     pub keep: Keep,
     /// The edition of the grammar.
     pub edition: Edition,
@@ -33,10 +33,10 @@ pub struct How {
 /// longer than the stretch is, count from `begin`. Offsets, in spans and faults, are places of the text plus
 /// `origin`.
 ///
-/// `KEEP` is a part of the type, so that a reading without a tree has code of its own,
+/// `TREE` is a part of the type, so that a reading without a tree has code of its own,
 /// with nothing in it that a tree needs.
 #[derive(Drop)]
-pub(crate) struct Cursor<'a, S: Source, const KEEP: u8> {
+pub(crate) struct Cursor<'a, S: Source, const TREE: u8> {
     pub(crate) source: &'a S,
     /// The stretch of the source in which the reading stands, or stood: where the source lies in one
     /// piece, all that is read. Its bytes are reached faster.
@@ -52,7 +52,7 @@ pub(crate) struct Cursor<'a, S: Source, const KEEP: u8> {
     /// Where it begins.
     pub(crate) next_at: usize,
     /// How the text is read.
-    pub(crate) how: How,
+    pub(crate) how: ReadOptions,
     /// The here-documents of the level in which the reading stands.
     pub(crate) documents: Documents,
     /// Where a tree takes vectors that have room, if the caller has kept some.
@@ -67,11 +67,11 @@ pub(crate) struct Cursor<'a, S: Source, const KEEP: u8> {
     ghost shows: { InHand next.token (drop base (S.bytes source.now))
         (begin + next_at) } by { in_hand_prop next.token (drop base (S.bytes source.now))
             (begin + next_at) },
-    ghost waits: { All (Waits (limits KEEP origin (drop base (S.bytes source.now))))
+    ghost waits: { All (Waits (limits TREE origin (drop base (S.bytes source.now))))
         documents.waiting.items },
 }
 
-impl<'a, S: Source, const KEEP: u8> Cursor<'a, S, KEEP> {
+impl<'a, S: Source, const TREE: u8> Cursor<'a, S, TREE> {
     ghost use Rattle.shline.specs.Clauses.{at_place, Holds, keep_of};
     ghost use Rattle.shgrammar.specs.Form.{grows};
     ghost use Rattle.shgrammar.specs.Sights.{standing};
@@ -81,9 +81,9 @@ impl<'a, S: Source, const KEEP: u8> Cursor<'a, S, KEEP> {
         alloc: Global,
         source: &'a S,
         begin: Begin,
-        how: How,
+        how: ReadOptions,
         spare: Option<&'a mut Spare>,
-    ) -> Cursor<'a, S, KEEP>
+    ) -> Cursor<'a, S, TREE>
         requires { (begin.at ≤ length (S.bytes source.now)) × (begin.origin ≤ begin.at) }
         ensures { (result.source.now ≡ source.now) × (result.base ≡ begin.at) ×
             (result.origin ≡ begin.origin) × (at_place result ≡ standing 0) × (result.how ≡ how) }
@@ -113,9 +113,9 @@ impl<'a, S: Source, const KEEP: u8> Cursor<'a, S, KEEP> {
     #[inline(always)]
     pub(crate) fn grows(&self) -> bool
         ensures value { result ≡ grows (keep_of self.now) }
-        ensures tree { result ≡ true → (KEEP == 1) ≡ true }
+        ensures tree { result ≡ true → (TREE == 1) ≡ true }
     {
-        KEEP == KEPT && self.how.keep.grows()
+        TREE == WITH_TREE && self.how.keep.grows()
     }
 
     /// A vector for the items of a command: with room, where a tree grows here and some was kept.

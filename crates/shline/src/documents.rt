@@ -68,7 +68,7 @@ pub(crate) fn is_strip(operator: RedirectOperator) -> bool
     matches!(operator, RedirectOperator::HereStripped)
 }
 
-impl<'a, S: Source, const KEEP: u8> Cursor<'a, S, KEEP> {
+impl<'a, S: Source, const TREE: u8> Cursor<'a, S, TREE> {
     /// The operator of the first here-document that waits.
     #[inline(always)]
     pub(crate) fn first_waiting(&self) -> Option<usize>

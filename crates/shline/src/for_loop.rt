@@ -47,7 +47,7 @@ fn begins_words(semicolon: bool, token: Token) -> bool
     !semicolon && token.is_closing(Closing::In)
 }
 
-impl<'a, S: Source, const KEEP: u8> Cursor<'a, S, KEEP> {
+impl<'a, S: Source, const TREE: u8> Cursor<'a, S, TREE> {
     /// The word after `for`, which has to be a NAME.
     #[cycle(commands)]
     #[tactic(auto, unfolding(shgrammar::specs::Compounds::a_for_name, shgrammar::specs::Commands::next_token, crate::specs::InHand::InHand))]
@@ -78,7 +78,7 @@ impl<'a, S: Source, const KEEP: u8> Cursor<'a, S, KEEP> {
         ensures value { TokenToToken self.old
             (a_linebreak (view_join lines.old).comments self.old.next)
             result (λ _. join_so (view_join lines.new) self.new.next) self.new }
-        ensures tree { IfOk result (λ _. GrowsNone KEEP lines.old lines.new) }
+        ensures tree { IfOk result (λ _. GrowsNone TREE lines.old lines.new) }
     {
         lines.broken = false;
         self.join_on(lines)
@@ -91,7 +91,7 @@ impl<'a, S: Source, const KEEP: u8> Cursor<'a, S, KEEP> {
         ensures value { TokenToToken self.old
             (a_sequential_sep (level room) (view_join lines.old).comments
             self.old.next) result (λ _. join_so (view_join lines.new) self.new.next) self.new }
-        ensures tree { IfOk result (λ _. GrowsNone KEEP lines.old lines.new) }
+        ensures tree { IfOk result (λ _. GrowsNone TREE lines.old lines.new) }
     {
         let semicolon = self.semicolon();
         self.linebreak(lines)?;
@@ -138,7 +138,7 @@ impl<'a, S: Source, const KEEP: u8> Cursor<'a, S, KEEP> {
             (for_words (level room) (view_join lines.old).comments)
             result (λ words. headed (for_words_of (Some (view_items words))) (join_so (view_join
             lines.new) self.new.next)) self.new }
-        ensures tree { IfOk result (λ words. GrowsNone KEEP lines.old lines.new) }
+        ensures tree { IfOk result (λ words. GrowsNone TREE lines.old lines.new) }
     {
         let _ = self.reserved_or_paren(false, Position::Suffix);
         let words = self.words(room)?;
@@ -156,7 +156,7 @@ impl<'a, S: Source, const KEEP: u8> Cursor<'a, S, KEEP> {
             (λ words.
             headed (for_words_of (option_map (view_items) words)) (join_so (view_join lines.new)
             self.new.next)) self.new }
-        ensures tree { IfOk result (λ words. GrowsNone KEEP lines.old lines.new) }
+        ensures tree { IfOk result (λ words. GrowsNone TREE lines.old lines.new) }
     {
         let semicolon = self.semicolon();
         self.linebreak(lines)?;

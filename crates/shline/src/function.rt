@@ -37,14 +37,14 @@ fn under_name(
     }
 }
 
-impl<'a, S: Source, const KEEP: u8> Cursor<'a, S, KEEP> {
+impl<'a, S: Source, const TREE: u8> Cursor<'a, S, TREE> {
     /// The compound command that the token here has to open, and the redirections after it.
     #[cycle(commands)]
     #[tactic(auto, unfolding(crate::specs::InHand::InHand))]
     pub(crate) fn compound_by(&mut self, room: usize) -> Result<Command, Stop>
         ensures value { TokenToToken self.old (compound_by (level room) self.old.next (opener_of
             self.old.next.token)) result (λ x. (view_command x, self.new.next)) self.new }
-        ensures tree { IfOk result (Boxed KEEP) }
+        ensures tree { IfOk result (Boxed TREE) }
     {
         match self.next.token.opener() {
             Some(opener) => {

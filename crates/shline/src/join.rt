@@ -11,13 +11,13 @@ use shast::Join;
 use shgrammar::Position;
 use shtext::Source;
 
-impl<'a, S: Source, const KEEP: u8> Cursor<'a, S, KEEP> {
+impl<'a, S: Source, const TREE: u8> Cursor<'a, S, TREE> {
     /// One more comment and newline after an operator. Answers whether there was a newline.
     #[tactic(auto, unfolding(shgrammar::specs::Commands::join_turn))]
     fn join_turn(&mut self, join: &mut Join) -> Result<bool, Stop>
         ensures value { Turns self.old (join_turn (join_so (view_join join.old) self.old.next))
             result (join_so (view_join join.new) self.new.next) self.new }
-        ensures tree { IfOk result (λ more. GrowsNone KEEP join.old join.new) }
+        ensures tree { IfOk result (λ more. GrowsNone TREE join.old join.new) }
     {
         if let Some(comment) = self.comment() {
             join.broken = true;
@@ -36,7 +36,7 @@ impl<'a, S: Source, const KEEP: u8> Cursor<'a, S, KEEP> {
         ensures value { TokenToToken self.old
             (many join_turn (join_so (view_join join.old) self.old.next))
             result (λ _. join_so (view_join join.new) self.new.next) self.new }
-        ensures tree { IfOk result (λ _. GrowsNone KEEP join.old join.new) }
+        ensures tree { IfOk result (λ _. GrowsNone TREE join.old join.new) }
     {
         'turns: while self.join_turn(join)? {}
         Ok(())

@@ -36,6 +36,6 @@ mod substitution;
 mod token;
 mod word;
 
-pub use cursor::{How, KEPT, SEEN};
+pub use cursor::{NO_TREE, ReadOptions, WITH_TREE};
 pub use parsed_line::{Begin, ParsedLine, line_at};
 pub use stop::Stop;

@@ -22,7 +22,7 @@ pub(crate) fn filled_entries(mut entries: Vec<Entry>, bodies: Vec<Span>) -> Vec<
     entries
 }
 
-impl<'a, S: Source, const KEEP: u8> Cursor<'a, S, KEEP> {
+impl<'a, S: Source, const TREE: u8> Cursor<'a, S, TREE> {
     /// The newline or the end after the entries of a line. Answers whether it was a newline.
     #[inline(always)]
     #[tactic(auto, unfolding(shgrammar::specs::Lines::end_of_line, shgrammar::specs::Bytes::past_byte, crate::specs::InHand::InHand))]

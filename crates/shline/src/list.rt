@@ -110,7 +110,7 @@ impl Listed {
     }
 }
 
-impl<'a, S: Source, const KEEP: u8> Cursor<'a, S, KEEP> {
+impl<'a, S: Source, const TREE: u8> Cursor<'a, S, TREE> {
     /// Makes room for an entry, before the token in hand, in spare room where there is some.
     #[inline(always)]
     fn room_for_entry(&mut self, listed: &mut Listed) -> Result<(), AllocError>

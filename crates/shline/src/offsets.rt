@@ -9,7 +9,7 @@ use shast::Span;
 use shgrammar::{Fault, FaultKind};
 use shtext::Source;
 
-impl<'a, S: Source, const KEEP: u8> Cursor<'a, S, KEEP> {
+impl<'a, S: Source, const TREE: u8> Cursor<'a, S, TREE> {
     /// What stops the reading at a place of the text.
     pub(crate) fn wrong_at(&self, kind: FaultKind, place: usize) -> Stop
         requires { place ≤ length (text_of self.now) }

@@ -8,7 +8,7 @@ ghost use Rattle.shast.specs.Nodes.{AreWithin};
 ghost use Rattle.shast.specs.Tree.{entries_of};
 ghost use Rattle.shast.specs.View.{view_entry};
 
-use crate::cursor::{Cursor, How};
+use crate::cursor::{Cursor, ReadOptions};
 use crate::line::filled_entries;
 use crate::stop::Stop;
 use shast::{Entry, Spare};
@@ -40,23 +40,23 @@ pub struct ParsedLine {
     pub len: usize,
 }
 
-/// The line that begins at a place, read so. Of its tree that is kept where `KEEP` is [`KEPT`]
-/// (`crate::KEPT`), and nothing where it is `SEEN`. Its vectors are taken from spare ones, as far as there
-/// are any.
+/// The line that begins at a place, read so. Of its tree that is kept where `TREE` is
+/// [`WITH_TREE`](crate::WITH_TREE), and nothing where it is `NO_TREE`. Its vectors are taken from spare ones,
+/// as far as there are any.
 ///
 /// A fault and want of memory are the two errors. The offset is at most the length of the source, and
 /// `origin` at most the offset.
 #[tactic(auto, unfolding(shgrammar::specs::Lines::a_line, shgrammar::specs::Standing::raw_stands), using(shgrammar::proofs::Places::end_is, crate::proofs::EmptyLine::newline_told, crate::proofs::EmptyLine::newline_stands))]
-pub fn line_at<'a, S: Source, const KEEP: u8>(
+pub fn line_at<'a, S: Source, const TREE: u8>(
     alloc: Global,
     source: &'a S,
     begin: Begin,
-    how: How,
+    how: ReadOptions,
     spare: Option<&'a mut Spare>,
 ) -> Result<ParsedLine, Stop>
     requires { (begin.at ≤ length (S.bytes source.now)) × (begin.origin ≤ begin.at) }
-    ensures value { Gives (limits KEEP begin.origin (drop begin.at (S.bytes source.now))) view_told
-        result (line_told how.edition (S.bytes source.now) (kept KEEP how.keep) begin.blank begin.at
+    ensures value { Gives (limits TREE begin.origin (drop begin.at (S.bytes source.now))) view_told
+        result (line_told how.edition (S.bytes source.now) (kept TREE how.keep) begin.blank begin.at
         begin.origin) }
     // No node of its entries names an offset past it.
     ensures spans { IfOk result (λ x. (limit : ℕ) → begin.origin + x.len ≤ limit → AreWithin limit
@@ -79,7 +79,7 @@ pub fn line_at<'a, S: Source, const KEEP: u8>(
             len: 1,
         });
     }
-    let mut cursor = Cursor::<S, KEEP>::at_line(alloc, source, begin, how, spare);
+    let mut cursor = Cursor::<S, TREE>::at_line(alloc, source, begin, how, spare);
     // It holds no here-document yet: the line's level is its own.
     let (entries, newline) = cursor.open_line(begin.blank, MOST_OPEN)?;
     let len = cursor.begin + cursor.at;

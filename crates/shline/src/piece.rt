@@ -14,7 +14,7 @@ use crate::stop::Stop;
 use shgrammar::{Class, Escaping, FaultKind, Mode, Piece, ends_words};
 use shtext::Source;
 
-impl<'a, S: Source, const KEEP: u8> Cursor<'a, S, KEEP> {
+impl<'a, S: Source, const TREE: u8> Cursor<'a, S, TREE> {
     /// What the `$` at a place begins.
     #[inline(always)]
     #[tactic(auto, unfolding(shgrammar::specs::Pieces::dollar_at, shgrammar::specs::Bytes::past_byte, shgrammar::specs::Bytes::stands))]

@@ -16,7 +16,7 @@ use shgrammar::{Position, Reserved, Token};
 use shtext::Source;
 use std::mem;
 
-impl<'a, S: Source, const KEEP: u8> Cursor<'a, S, KEEP> {
+impl<'a, S: Source, const TREE: u8> Cursor<'a, S, TREE> {
     /// Passes the `!` of a pipeline, if one stands here.
     #[inline(always)]
     #[tactic(auto, unfolding(shgrammar::specs::Commands::a_bang, shgrammar::specs::Commands::next_token, crate::specs::InHand::InHand))]

@@ -6,7 +6,7 @@ use crate::sets::plain_front;
 use shgrammar::Mode;
 use shtext::Source;
 
-impl<'a, S: Source, const KEEP: u8> Cursor<'a, S, KEEP> {
+impl<'a, S: Source, const TREE: u8> Cursor<'a, S, TREE> {
     /// Passes the bytes from here on that are ordinary in a mode, or some of them.
     #[inline(always)]
     pub(crate) fn skip_plain(&mut self, mode: Mode)

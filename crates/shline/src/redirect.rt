@@ -25,7 +25,7 @@ fn is_long(operator: RedirectOperator) -> bool
     !matches!(operator, RedirectOperator::Input | RedirectOperator::Output)
 }
 
-impl<'a, S: Source, const KEEP: u8> Cursor<'a, S, KEEP> {
+impl<'a, S: Source, const TREE: u8> Cursor<'a, S, TREE> {
     /// Passes the number here, if one stands.
     #[tactic(auto, unfolding(shgrammar::specs::Commands::a_number, shgrammar::specs::Commands::next_token, crate::specs::InHand::InHand))]
     fn number(&mut self) -> Option<Span>

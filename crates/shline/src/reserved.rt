@@ -112,7 +112,7 @@ fn may_begin(first: u8, second: u8) -> bool
     FIRST[first as usize] & SECOND[second as usize] != 0
 }
 
-impl<'a, S: Source, const KEEP: u8> Cursor<'a, S, KEEP> {
+impl<'a, S: Source, const TREE: u8> Cursor<'a, S, TREE> {
     /// Whether the word that is spelled so stands at a place. Most often no continuation stands in it.
     #[inline(always)]
     #[tactic(auto, using(shgrammar::proofs::Runs::run_letter_more, shgrammar::proofs::Runs::run_letter_other, shgrammar::proofs::Runs::run_word_whole))]

@@ -53,7 +53,7 @@ pub(crate) fn find_in<S: Source>(source: &S, from: usize, sought: Sought) -> usi
     at
 }
 
-impl<'a, S: Source, const KEEP: u8> Cursor<'a, S, KEEP> {
+impl<'a, S: Source, const TREE: u8> Cursor<'a, S, TREE> {
     /// The next place from a place on where a byte that is sought stands, or the end.
     #[inline]
     #[tactic(auto, using(crate::proofs::Searches::such_found))]

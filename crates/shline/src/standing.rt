@@ -21,7 +21,7 @@ fn is_in(byte: Option<u8>, class: Class) -> bool
     }
 }
 
-impl<'a, S: Source, const KEEP: u8> Cursor<'a, S, KEEP> {
+impl<'a, S: Source, const TREE: u8> Cursor<'a, S, TREE> {
     /// The byte at a place as it stands, or `None` at the end.
     #[inline(always)]
     #[tactic(auto, using(shgrammar::proofs::Runs::front_byte, shgrammar::proofs::Runs::front_within))]

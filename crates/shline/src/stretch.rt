@@ -9,7 +9,7 @@ use crate::cursor::Cursor;
 use shgrammar::{Next, Token};
 use shtext::Source;
 
-impl<'a, S: Source, const KEEP: u8> Cursor<'a, S, KEEP> {
+impl<'a, S: Source, const TREE: u8> Cursor<'a, S, TREE> {
     /// Where the reading stands in the text.
     #[inline(always)]
     pub(crate) fn here(&self) -> usize

@@ -10,7 +10,7 @@ ghost use Rattle.shast.specs.Bodies.{filled};
 ghost use Rattle.shast.specs.Tree.{subst};
 ghost use Rattle.shast.specs.View.{view_list};
 
-use crate::cursor::{Cursor, How};
+use crate::cursor::{Cursor, ReadOptions};
 use crate::list::Listed;
 use crate::stop::Stop;
 use shast::make::{list_of, subst_of};
@@ -28,7 +28,7 @@ fn filled_list(mut list: List, bodies: &[Span]) -> List
     list
 }
 
-impl<'a, S: Source, const KEEP: u8> Cursor<'a, S, KEEP> {
+impl<'a, S: Source, const TREE: u8> Cursor<'a, S, TREE> {
     /// What stands in a substitution, and its `)`.
     #[cycle(commands)]
     #[tactic(auto, unfolding(shgrammar::specs::Substitutions::substitution_list, shgrammar::specs::Commands::next_token, crate::specs::InHand::InHand))]
@@ -60,7 +60,7 @@ impl<'a, S: Source, const KEEP: u8> Cursor<'a, S, KEEP> {
         ensures value { IfOk result (λ _. view_substs substs.new ≡ pushed (grows (keep_of self.now))
             (view_substs substs.old) (subst (filled bodies.items (view_list list)) (span
             self.now.origin opener (here_of self.now)))) }
-        ensures memory { IfErr result (λ e. (KEEP == 1) ≡ true) }
+        ensures memory { IfErr result (λ e. (TREE == 1) ≡ true) }
     {
         if self.grows() {
             let list = filled_list(list, &bodies);
@@ -122,7 +122,7 @@ impl<'a, S: Source, const KEEP: u8> Cursor<'a, S, KEEP> {
             return Err(self.wrong_at(FaultKind::TooDeep, opener));
         }
         let how = self.how;
-        self.how = How {
+        self.how = ReadOptions {
             keep: how.keep.inside(),
             ..how
         };

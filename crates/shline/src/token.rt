@@ -10,7 +10,7 @@ use shast::RedirectOperator;
 use shgrammar::{Class, Next, Position, Token, begins_a_word};
 use shtext::Source;
 
-impl<'a, S: Source, const KEEP: u8> Cursor<'a, S, KEEP> {
+impl<'a, S: Source, const TREE: u8> Cursor<'a, S, TREE> {
     /// Passes the digits that are in hand.
     #[tactic(auto, unfolding(shgrammar::specs::Tokens::past_digits))]
     pub(crate) fn pass_digits(&mut self)

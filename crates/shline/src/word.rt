@@ -19,7 +19,7 @@ use shast::{Subst, Word};
 use shgrammar::{FaultKind, Mode, Piece};
 use shtext::Source;
 
-impl<'a, S: Source, const KEEP: u8> Cursor<'a, S, KEEP> {
+impl<'a, S: Source, const TREE: u8> Cursor<'a, S, TREE> {
     /// What closes a construct of this mode, from its place on; nothing closes a word.
     #[tactic(auto, unfolding(shgrammar::specs::Bytes::past_byte), using(shgrammar::proofs::Stretches::place_low))]
     fn close(&mut self, mode: Mode, here: usize)

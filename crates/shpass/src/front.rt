@@ -5,7 +5,7 @@ ghost use Rattle.shgrammar.specs.Search.{LineBefore, MayPass, StopsAt};
 
 use crate::newline::ends_in_newline;
 use shgrammar::{Edition, Keep};
-use shline::{Begin, How, SEEN, Stop, line_at};
+use shline::{Begin, NO_TREE, ReadOptions, Stop, line_at};
 use shtext::Source;
 use std::alloc::{AllocError, Global};
 use std::mem;
@@ -23,18 +23,18 @@ fn behind_line<S: Source>(
     ensures some { IfOk result
         (λ next. IfSome next (λ p. LineBefore edition (S.bytes source.now) at p)) }
     ensures none { IfOk result (λ next. next ≡ None → StopsAt edition (S.bytes source.now) at) }
-    ensures memory { IfErr result (λ e. wants_memory SEEN (S.bytes source.now) ≡ true) }
+    ensures memory { IfErr result (λ e. wants_memory NO_TREE (S.bytes source.now) ≡ true) }
 {
     let begin = Begin {
         at,
         origin: 0,
         blank: false,
     };
-    let how = How {
+    let how = ReadOptions {
         keep: Keep::Nothing,
         edition,
     };
-    match line_at::<S, SEEN>(alloc, source, begin, how, None) {
+    match line_at::<S, NO_TREE>(alloc, source, begin, how, None) {
         Ok(told) => {
             // They hold no memory.
             mem::forget(told.entries);
@@ -64,7 +64,7 @@ pub fn faultless_front<S: Source>(
     // They are all: no such line follows.
     ensures all { IfOk result (StopsAt edition (S.bytes source.now)) }
     // Where no `<` stands, it succeeds, whatever memory is left.
-    ensures memory { IfErr result (λ e. wants_memory SEEN (S.bytes source.now) ≡ true) }
+    ensures memory { IfErr result (λ e. wants_memory NO_TREE (S.bytes source.now) ≡ true) }
 {
     let mut at = 0;
     'lines: while let Some(next) = behind_line(alloc, edition, source, at)? {

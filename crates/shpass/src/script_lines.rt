@@ -10,7 +10,7 @@ ghost use Rattle.shpass.specs.LineByLine.{before_of, bytes_of, edition_of, is_bl
 use crate::newline::ends_in_newline;
 use shast::{Entry, Spare};
 use shgrammar::{Edition, Keep};
-use shline::{Begin, How, KEPT, ParsedLine, Stop, line_at};
+use shline::{Begin, ParsedLine, ReadOptions, Stop, WITH_TREE, line_at};
 use shtext::Source;
 use std::alloc::{AllocError, Global};
 
@@ -109,7 +109,7 @@ impl<'a, S: Source> ScriptLines<'a, S> {
         ensures value { let bytes = bytes_of S.bytes self.old in
             let place = place_of self.old in
             let blank = is_blank_after (before_of self.old) in
-            Gives (limits KEPT place (drop place bytes)) view_told result
+            Gives (limits WITH_TREE place (drop place bytes)) view_told result
             (line_from (edition_of self.old) bytes keep blank place) }
         ensures moves { MovesOn S.bytes self.old result self.new }
         ensures within { LineWithin (length (bytes_of S.bytes self.old)) result }
@@ -120,11 +120,11 @@ impl<'a, S: Source> ScriptLines<'a, S> {
             origin: self.at,
             blank: self.before.gap && self.before.begun,
         };
-        let how = How {
+        let how = ReadOptions {
             keep,
             edition: self.edition,
         };
-        let told = line_at::<S, KEPT>(self.alloc, self.source, begin, how, spare)?;
+        let told = line_at::<S, WITH_TREE>(self.alloc, self.source, begin, how, spare)?;
         self.pass(&told);
         Ok(told)
     }

@@ -6,7 +6,7 @@ ghost use Rattle.shread.specs.Answers.{Tells};
 
 use crate::error::ReadError;
 use shgrammar::{Edition, Fault, Keep};
-use shline::{Begin, How, ParsedLine, SEEN, Stop, line_at};
+use shline::{Begin, NO_TREE, ParsedLine, ReadOptions, Stop, line_at};
 use shtext::Source;
 use std::alloc::Global;
 use std::mem;
@@ -27,11 +27,11 @@ fn see_line<S: Source>(
         origin: at,
         blank: false,
     };
-    let how = How {
+    let how = ReadOptions {
         keep: Keep::Nothing,
         edition,
     };
-    line_at::<S, SEEN>(alloc, source, begin, how, None)
+    line_at::<S, NO_TREE>(alloc, source, begin, how, None)
 }
 
 /// The first fault of a script. One without a byte wants no memory, nor does one without a `<`.
@@ -44,7 +44,7 @@ pub(crate) fn first_fault_of<S: Source>(
     ensures fault { IfOk result (λ fault. fault ≡ first_fault_from edition (S.bytes source.now) 0) }
     ensures within { IfOk result (λ fault. IfSome fault (λ f. f.at ≤ length (S.bytes source.now))) }
     ensures empty { length (S.bytes source.now) ≡ 0 → IsOk result }
-    ensures memory { IfErr result (λ e. wants_memory SEEN (S.bytes source.now) ≡ true) }
+    ensures memory { IfErr result (λ e. wants_memory NO_TREE (S.bytes source.now) ≡ true) }
 {
     if source.len() == 0 {
         return Ok(None);

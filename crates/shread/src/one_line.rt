@@ -10,7 +10,7 @@ use crate::reader::{Line, LineKind};
 use shast::Entry;
 use shast::make::list_of;
 use shgrammar::{Edition, Keep};
-use shline::{Begin, How, KEPT, line_at};
+use shline::{Begin, ReadOptions, WITH_TREE, line_at};
 use shpass::ends_in_newline;
 use shtext::Source;
 use std::alloc::Global;
@@ -62,11 +62,11 @@ pub(crate) fn line_from<S: Source>(
         origin: 0,
         blank: false,
     };
-    let how = How {
+    let how = ReadOptions {
         keep: Keep::Whole,
         edition,
     };
-    match line_at::<S, KEPT>(alloc, source, begin, how, None) {
+    match line_at::<S, WITH_TREE>(alloc, source, begin, how, None) {
         Ok(told) => {
             // The line of a delimiter may end with the source.
             let ended = told.newline && ends_in_newline(source, at, told.len);

@@ -19,7 +19,7 @@ use crate::first_fault::first_fault_of;
 use crate::one_line::line_from;
 use shast::List;
 use shgrammar::{Edition, Fault, Script};
-use shline::SEEN;
+use shline::NO_TREE;
 use shtext::Source;
 use std::alloc::Global;
 
@@ -184,7 +184,7 @@ impl Reader {
         ensures err { IfErr result (λ e. meter_of self.new ≡ meter_of self.old) }
         ensures empty { length (S.bytes source.now) ≡ 0 → IsOk result }
         // Where no `<` stands, it succeeds, whatever memory is left.
-        ensures memory { IfErr result (λ e. wants_memory SEEN (S.bytes source.now) ≡ true) }
+        ensures memory { IfErr result (λ e. wants_memory NO_TREE (S.bytes source.now) ≡ true) }
     {
         let fault = first_fault_of(self.alloc, self.edition, source)?;
         self.count(source.len());

@@ -20,10 +20,10 @@ returns-clause-value g c =
     let inner = at_place c.open_line.new.self in
     let es = map view_entry c.in_ok-entries.entries.items in
     let newline = c.in_ok-entries.newline in
-    let inside : does (an_open_line (level most_open) c.args.begin.blank) (kept g.row.KEEP c.args.how.keep) here
+    let inside : does (an_open_line (level most_open) c.args.begin.blank) (kept g.row.TREE c.args.how.keep) here
     (standing 0) ≡ Ok ((es, newline), inner) =
     rw (at_line.0, at_line.1, at_line.2, at_line.3, at_line.4) at c.in_ok-entries.ensures.value.0 in
-    line_read (kept g.row.KEEP c.args.how.keep) here (standing 0)
+    line_read (kept g.row.TREE c.args.how.keep) here (standing 0)
     (level most_open) c.args.begin.blank newline es inner inside
     ∙ ap (λ (zs : Row AnEntry). Ok ((zs, newline), standing inner.at)) (sym c.filled_entries.ensures)
 
@@ -35,17 +35,17 @@ returns-clause-spans g c =
     let inner = at_place c.open_line.new.self in
     let es = map view_entry c.in_ok-entries.entries.items in
     let newline = c.in_ok-entries.newline in
-    let inside : does (an_open_line (level most_open) c.args.begin.blank) (kept g.row.KEEP c.args.how.keep) here
+    let inside : does (an_open_line (level most_open) c.args.begin.blank) (kept g.row.TREE c.args.how.keep) here
     (standing 0) ≡ Ok ((es, newline), inner) =
     rw (at_line.0, at_line.1, at_line.2, at_line.3, at_line.4) at c.in_ok-entries.ensures.value.0 in
     let told : line_told c.args.how.edition bytes
-    (kept g.row.KEEP c.args.how.keep) c.args.begin.blank c.args.begin.at c.args.begin.origin
+    (kept g.row.TREE c.args.how.keep) c.args.begin.blank c.args.begin.at c.args.begin.origin
     ≡ Ok ((map view_entry c.filled_entries.result.items, newline), standing inner.at) =
-    line_read (kept g.row.KEEP c.args.how.keep) here (standing 0)
+    line_read (kept g.row.TREE c.args.how.keep) here (standing 0)
     (level most_open) c.args.begin.blank newline es inner inside
     ∙ ap (λ (zs : Row AnEntry). Ok ((zs, newline), standing inner.at)) (sym c.filled_entries.ensures) in
     line_within c.args.how.edition (drop c.args.begin.at bytes) c.args.begin.origin
-    (kept g.row.KEEP c.args.how.keep) c.args.begin.blank _ _ (standing inner.at) told
+    (kept g.row.TREE c.args.how.keep) c.args.begin.blank _ _ (standing inner.at) told
 
 pub returns-clause-newline : goal.returns-clause-newline
 returns-clause-newline g c =

@@ -152,7 +152,7 @@ redirect-document-requires g t c =
       (
         (target.place.0, rw (behind.0, behind.1, behind.2) operator.start),
         λ takes. rw (behind.0, behind.1, same.0, same.1)
-            (here_wants g.row.KEEP (text_of before) before.next.token
+            (here_wants g.row.TREE (text_of before) before.next.token
             (start_of before) c.in-Some.operator before.shows is takes),
       ),
     )

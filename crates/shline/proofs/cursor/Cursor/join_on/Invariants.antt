@@ -9,7 +9,7 @@ abbrev pub invariant-turns : goal.invariant-turns
 invariant-turns g l =
     Rests l.fn.self (many join_turn (join_so (view_join l.fn.join) l.fn.self.next)) (at_token l.fn.self)
     (many join_turn (join_so (view_join l.join) l.self.next)) (at_token l.self) l.self
-    × GrowsNone g.row.KEEP l.fn.join l.join
+    × GrowsNone g.row.TREE l.fn.join l.join
 
 abbrev pub decreases-turns : goal.decreases-turns
 decreases-turns g l = length (text_of l.self) - start_of l.self
