@@ -7,7 +7,7 @@ use Rattle.shast.specs.declared.tree.Span.{Span}
 use Rattle.shast.specs.Tree.{AJoin, AHere, Entries, no_entry, more_entries, AnEntry, entry, AContent, command, remark, AnAndOr, and_or, AndOrParts, no_and_or, more_and_or, APipeline, pipeline, PipelineParts, no_pipe, more_pipes, ACommand, simple, compound, function, ACompound, formed, AForm, brace, subshell, if_then, while_do, until_do, for_in, case_in, ABranch, branch, Branches, no_branch, more_branches, Otherwise, no_else, otherwise, ForWords, no_in, in_words, CaseItems, no_case, more_cases, ACaseItem, case_item, Patterns, no_pattern, more_patterns, Items, no_item, more_items, AnItem, item, AnItemContent, assign, argument, redirect, AWord, word, Substs, no_subst, more_substs, ASubst, subst}
 use Rattle.shast.specs.Nodes.{IsSpanWithin, placed_span}
 use Rattle.shast.specs.Moved.{carried, carried_and_or, carried_and_or_parts, carried_branch, carried_branches, carried_case, carried_cases, carried_command, carried_compound, carried_content, carried_else, carried_entry, carried_for_words, carried_form, carried_here, carried_item, carried_item_content, carried_items, carried_join, carried_patterns, carried_pipeline, carried_pipes, carried_subst, carried_substs, carried_word, moved, body_by, placed_body}
-use Rattle.shast.specs.Everywhere.{AllWithin, OfSome, OfEach, OfHere, Throughout, InEntry, InContent, InAndOr, InAndOrParts, InPipeline, InPipes, InCommand, InCompound, InForm, InBranch, InBranches, InElse, InForWords, InCases, InCase, InPatterns, InItems, InItem, InItemContent, InWord, InSubsts, InSubst}
+use Rattle.shast.specs.Everywhere.{SpansWithin, OfSome, OfEach, OfHere, Throughout, InEntry, InContent, InAndOr, InAndOrParts, InPipeline, InPipes, InCommand, InCompound, InForm, InBranch, InBranches, InElse, InForWords, InCases, InCase, InPatterns, InItems, InItem, InItemContent, InWord, InSubsts, InSubst}
 use Rattle.shast.specs.Capped.{capped, capped_body, capped_by}
 
 -- ---- what f makes of what h makes of a span, where g makes it of each span of which P holds; and fb, hb and
@@ -446,7 +446,7 @@ capped_body_is base s zero fits so is = ap (capped_by base s) is ∙ sym (body_u
 capped_body_is base s (suc n) fits so is = ap (capped_by base s) is ∙ capped_is base s fits so
     ∙ sym (body_read base s n is)
 
-pub capped_moved : (base : ℕ) (es : Entries) → base ≤ 2 ^ 64 - 1 → AllWithin (2 ^ 64 - 1 - base) es →
+pub capped_moved : (base : ℕ) (es : Entries) → base ≤ 2 ^ 64 - 1 → SpansWithin (2 ^ 64 - 1 - base) es →
     carried (capped base) (capped_body base) true es ≡ moved base es
 capped_moved base es fits so =
     ap (carried (capped base) (capped_body base) true) (sym (same (λ s. s) (λ s. s) (λ s. refl) (λ s. refl) es))

@@ -9,7 +9,7 @@ use Rattle.shast.specs.declared.node.NodeKind.{NodeKind}
 use Rattle.shast.specs.declared.node.NodeLine.{NodeLine}
 use Rattle.shast.specs.declared.tree.Span.{Span}
 use Rattle.shast.specs.Tree.{Entries, no_entry, more_entries, AnEntry, entry, AContent, command, remark, AnAndOr, and_or, AndOrParts, no_and_or, more_and_or, APipeline, pipeline, PipelineParts, no_pipe, more_pipes, ACommand, simple, compound, function, ACompound, formed, AForm, brace, subshell, if_then, while_do, until_do, for_in, case_in, ABranch, branch, Branches, no_branch, more_branches, Otherwise, no_else, otherwise, ForWords, no_in, in_words, CaseItems, no_case, more_cases, ACaseItem, case_item, Patterns, no_pattern, more_patterns, Items, no_item, more_items, AnItem, item, assign, argument, redirect, AWord, word, Substs, no_subst, more_substs, ASubst, subst}
-use Rattle.shast.specs.Nodes.{AreWithin, IsSpanWithin, IsWithin, and_or_node, and_or_nodes, and_or_parts_nodes, and_or_span, branch_nodes, branches_nodes, case_nodes, cases_nodes, command_nodes, command_span, comment_node, compound_nodes, compound_span, content_nodes, else_nodes, entries_nodes, entry_nodes, for_words_nodes, form_node, form_nodes, holds, in_outline, item_nodes, item_span, items_nodes, items_span, last_command, last_item, last_pipeline, named_node, node, nodes_at, nodes_of, outline, patterns_nodes, pipeline_node, pipeline_nodes, pipeline_span, pipes_nodes, placed, placed_span, subst_nodes, substs_nodes, through, word_nodes, word_span}
+use Rattle.shast.specs.Nodes.{IsSpanWithin, IsWithin, NodesWithin, and_or_node, and_or_nodes, and_or_parts_nodes, and_or_span, branch_nodes, branches_nodes, case_nodes, cases_nodes, command_nodes, command_span, comment_node, compound_nodes, compound_span, content_nodes, else_nodes, entries_nodes, entry_nodes, for_words_nodes, form_node, form_nodes, holds, in_outline, item_nodes, item_span, items_nodes, items_span, last_command, last_item, last_pipeline, named_node, node, nodes_at, nodes_of, outline, patterns_nodes, pipeline_node, pipeline_nodes, pipeline_span, pipes_nodes, placed, placed_span, subst_nodes, substs_nodes, through, word_nodes, word_span}
 use Rattle.shast.specs.Moved.{carried, carried_and_or, carried_and_or_parts, carried_branch, carried_branches, carried_case, carried_cases, carried_command, carried_compound, carried_content, carried_else, carried_entry, carried_for_words, carried_form, carried_item, carried_items, carried_patterns, carried_pipeline, carried_pipes, carried_subst, carried_substs, carried_word, moved, placed_body}
 use Rattle.shast.specs.Everywhere.{HaveItems, IsSome, InEntry, InContent, InAndOr, InAndOrParts, InPipeline, InPipes, InCommand, InCompound, InForm, InBranch, InBranches, InElse, InForWords, InCases, InCase, InPatterns, InItems, InItem, InWord, InSubsts, InSubst, Throughout}
 
@@ -339,8 +339,8 @@ node_up limit base n so = record {
   name = name_up limit base n.name so.name;
 }
 
-pub within_moved : (limit base : ℕ) (es : Entries) → HaveItems es → AreWithin limit es →
-    AreWithin (base + limit) (moved base es)
+pub within_moved : (limit base : ℕ) (es : Entries) → HaveItems es → NodesWithin limit es →
+    NodesWithin (base + limit) (moved base es)
 within_moved limit base es some so =
     All-same (IsWithin (base + limit)) _ _ (nodes_moved base es some)
     (All-map (IsWithin (base + limit)) (placed base) (entries_nodes es)

@@ -7,7 +7,7 @@ use Rattle.shast.specs.Shape.{Shape, Text}
 use Rattle.shast.specs.Tree.{Entries, AnEntry, AContent, AnAndOr, AndOrParts, APipeline, PipelineParts, ACommand, ACompound, AForm, ABranch, Branches, Otherwise, CaseItems, ACaseItem, Items, AnItem, EntriesOf, no_entry, more_entries, AnEntryOf, entry, command, remark, AnAndOrOf, and_or, AndOrPartsOf, no_and_or, more_and_or, APipelineOf, pipeline, PipelinePartsOf, no_pipe, more_pipes, ACommandOf, simple, compound, function, ACompoundOf, formed, AFormOf, brace, subshell, if_then, while_do, until_do, for_in, case_in, ABranchOf, branch, BranchesOf, no_branch, more_branches, OtherwiseOf, no_else, otherwise, CaseItemsOf, no_case, more_cases, ACaseItemOf, case_item, ItemsOf, no_item, more_items, AnItemOf, item, AnItemContentOf, assign, argument, redirect, word}
 use Rattle.shast.specs.Bodies.{filled}
 use Rattle.shast.specs.Opened.{open_item_content, open_item, open_items, opened, open_entry, open_content, open_and_or, open_and_or_parts, open_pipeline, open_pipes, open_command, open_compound, open_form, open_branch, open_branches, open_else, open_cases, open_case}
-use Rattle.shast.specs.Nodes.{item_span, last_item, items_span, compound_span, command_span, last_command, pipeline_span, last_pipeline, and_or_span, command_end, commands_end, and_or_node, pipeline_node, form_node, entries_nodes, entry_nodes, content_nodes, and_or_nodes, and_or_parts_nodes, pipeline_nodes, pipes_nodes, command_nodes, compound_nodes, form_nodes, branch_nodes, branches_nodes, else_nodes, cases_nodes, case_nodes, items_nodes, item_nodes, AreWithin, IsWithin}
+use Rattle.shast.specs.Nodes.{item_span, last_item, items_span, compound_span, command_span, last_command, pipeline_span, last_pipeline, and_or_span, command_end, commands_end, and_or_node, pipeline_node, form_node, entries_nodes, entry_nodes, content_nodes, and_or_nodes, and_or_parts_nodes, pipeline_nodes, pipes_nodes, command_nodes, compound_nodes, form_nodes, branch_nodes, branches_nodes, else_nodes, cases_nodes, case_nodes, items_nodes, item_nodes, NodesWithin, IsWithin}
 use Rattle.shast.specs.Normal.{first_not_blank, first_not_broken, is_command, holds_command, is_whole, are_normal, is_normal_entry, is_normal_and_or, are_normal_and_ors, is_normal_pipeline, are_normal_pipes, is_normal_command, is_normal_compound, is_normal_form, is_normal_branch, are_normal_branches, is_normal_else, are_normal_cases, is_normal_case, are_normal_items, is_normal_item, is_normal_content, is_normal}
 use Rattle.shast.specs.Spelling.{spelling, spell_entry, spell_and_or, spell_and_or_parts, spell_pipeline, spell_pipes, spell_command, spell_compound, spell_form, spell_branch, spell_branches, spell_else, spell_loop, spell_cases, spell_case, spell_items, spell_item}
 use Rattle.shast.proofs.FilledBlind.{filled_blind}
@@ -208,7 +208,7 @@ filled_nodes bs es =
     rw (← nodes_open nothing (filled bs es), filled_blind nothing bs es) (nodes_open nothing es)
 
 -- no node of a filled list names an offset that the list did not name
-pub filled_within : (limit : ℕ) (bs : Row Span) (es : Entries) → AreWithin limit es → AreWithin limit (filled bs es)
+pub filled_within : (limit : ℕ) (bs : Row Span) (es : Entries) → NodesWithin limit es → NodesWithin limit (filled bs es)
 filled_within limit bs es so = All-same (IsWithin limit) _ _ (filled_nodes bs es) so
 
 pub filled_ends : (bs : Row Span) (es : Entries) (before : ℕ) →

@@ -7,7 +7,7 @@ use Rattle.shast.specs.declared.node.NodeKind.{NodeKind}
 use Rattle.shast.specs.declared.node.NodeLine.{NodeLine}
 use Rattle.shast.specs.declared.tree.RedirectOperator.{RedirectOperator}
 use Rattle.shast.specs.declared.tree.Span.{Span}
-use Rattle.shast.specs.Nodes.{word_nodes, AreWithin, IsSpanWithin, IsWithin, and_or_nodes, and_or_parts_nodes, and_or_span, branch_nodes, branches_nodes, command_nodes, command_span, comment_node, entries_nodes, entry_nodes, form_node, form_nodes, item_nodes, item_span, items_nodes, items_span, last_command, last_item, last_pipeline, node, pipeline_nodes, pipeline_span, pipes_nodes, subst_nodes, substs_nodes, compound_nodes, compound_span, through, case_nodes, cases_nodes, patterns_nodes, commands_end}
+use Rattle.shast.specs.Nodes.{word_nodes, NodesWithin, IsSpanWithin, IsWithin, and_or_nodes, and_or_parts_nodes, and_or_span, branch_nodes, branches_nodes, command_nodes, command_span, comment_node, entries_nodes, entry_nodes, form_node, form_nodes, item_nodes, item_span, items_nodes, items_span, last_command, last_item, last_pipeline, node, pipeline_nodes, pipeline_span, pipes_nodes, subst_nodes, substs_nodes, compound_nodes, compound_span, through, case_nodes, cases_nodes, patterns_nodes, commands_end}
 use Rattle.shast.specs.Tree.{ACaseMark, AHere, ABranch, ACommand, AForm, APipeline, APipelinePart, ASubst, AWord, AnAndOr, AnAndOrPart, AnEntry, AnItem, Entries, and_or, and_or_parts_of, argument, assign, brace, branches_of, case_in, command, compound, entries_of, entry, for_in, formed, if_then, item, items_of, pipeline, pipeline_parts_of, redirect, remark, simple, subshell, subst, substs_of, until_do, while_do, word, ACompound, function, ACaseItem, case_item, cases_of, patterns_of, more_and_or, more_pipes, no_and_or, no_pipe}
 
 nodes_append : (es ls : Row AnEntry) →
@@ -99,7 +99,7 @@ module _ (limit : ℕ) where
       (both _ (pipeline_nodes p.pipeline) (fits_comments p.join.comments one.0) one.1.1)
       (fits_parts ps (All-tail PartFits p ps so))
 
-  pub fits_entries : (es : Row AnEntry) → All EntryFits es → AreWithin limit (entries_of es)
+  pub fits_entries : (es : Row AnEntry) → All EntryFits es → NodesWithin limit (entries_of es)
   fits_entries [] so = All-nil (IsWithin limit)
   fits_entries (e ∷ es) so = both (entry_nodes e) (entries_nodes (entries_of es)) (All-head EntryFits e es so)
       (fits_entries es (All-tail EntryFits e es so))
@@ -148,7 +148,7 @@ module _ (limit : ℕ) where
   pub fits_word : (w : AWord) → WordFits w → Nodes (word_nodes w)
   fits_word (word s ss) so = first (node NodeKind.Word s) (substs_nodes ss) (fits_node NodeKind.Word s so.0) so.1
 
-  pub fits_subst : (es : Entries) (s : Span) → IsSpanWithin limit s → AreWithin limit es → SubstFits (subst es s)
+  pub fits_subst : (es : Entries) (s : Span) → IsSpanWithin limit s → NodesWithin limit es → SubstFits (subst es s)
   fits_subst es s one all = first (node NodeKind.Subst s) (entries_nodes es) (fits_node NodeKind.Subst s one) all
 
   pub fits_simple : (is : Row AnItem) → All ItemFits is → CommandFits (simple (items_of is))
@@ -251,7 +251,7 @@ module _ (limit : ℕ) where
       (fits_word w (All-head WordFits w ws so)) (fits_patterns ws (All-tail WordFits w ws so))
 
   pub fits_case : (cs : Row Span) (ws : Row AWord) (es : Entries) (s : ACaseMark) → All CommentFits cs → All WordFits ws
-      → AreWithin limit es → IsSpanWithin limit s.mark
+      → NodesWithin limit es → IsSpanWithin limit s.mark
       → CaseFits (case_item cs (patterns_of ws) es s)
   fits_case cs ws es s comments patterns body span =
       first (node NodeKind.Item s.mark) _ (fits_node NodeKind.Item s.mark span)
@@ -311,8 +311,8 @@ module _ (limit : ℕ) where
 
   -- ---- two rows of entries, one after the other
 
-  pub within_append : (es ls : Row AnEntry) → AreWithin limit (entries_of es) → AreWithin limit (entries_of ls) →
-      AreWithin limit (entries_of (es ++ ls))
+  pub within_append : (es ls : Row AnEntry) → NodesWithin limit (entries_of es) → NodesWithin limit (entries_of ls) →
+      NodesWithin limit (entries_of (es ++ ls))
   within_append es ls one two =
       All-same (IsWithin limit) _ _ (nodes_append es ls) (both (entries_nodes (entries_of es)) _ one two)
 

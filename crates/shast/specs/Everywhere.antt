@@ -112,8 +112,8 @@ module _ (P : Span → Type 0) (Q : Items → Type 0) where
     InSubst (subst entries span) = Throughout entries × P span
 
 -- no span of a list, that of the body of a here-document among them, names an offset above this one
-abbrev pub AllWithin : ℕ → Entries → Type 0
-AllWithin limit es = Throughout (IsSpanWithin limit) (λ items. Unit {0}) es
+abbrev pub SpansWithin : ℕ → Entries → Type 0
+SpansWithin limit es = Throughout (IsSpanWithin limit) (λ items. Unit {0}) es
 
 abbrev pub IsSome : Items → Type 0
 IsSome no_item = ⊥

@@ -269,5 +269,5 @@ pub record IsWithin (limit : ℕ) (n : NodeLine) : Type 0 where
   pub name : MatchOption n.name (Unit {0}) (IsSpanWithin limit)
 
 -- no node of a list names an offset above this one
-abbrev pub AreWithin : ℕ → Entries → Type 0
-AreWithin limit es = All (IsWithin limit) (entries_nodes es)
+abbrev pub NodesWithin : ℕ → Entries → Type 0
+NodesWithin limit es = All (IsWithin limit) (entries_nodes es)

@@ -7,7 +7,7 @@ use Rattle.shast.specs.declared.tree.Span.{Span}
 use Rattle.shast.specs.Tree.{AHere, Entries, no_entry, more_entries, AnEntry, entry, AContent, command, remark, AnAndOr, and_or, AnAndOrPart, AndOrParts, no_and_or, more_and_or, APipeline, pipeline, APipelinePart, PipelineParts, no_pipe, more_pipes, ACommand, simple, compound, function, ACompound, formed, AForm, brace, subshell, if_then, while_do, until_do, for_in, case_in, ABranch, branch, Branches, no_branch, more_branches, Otherwise, no_else, otherwise, ForWords, no_in, in_words, CaseItems, no_case, more_cases, ACaseItem, case_item, Patterns, no_pattern, more_patterns, Items, no_item, more_items, AnItem, item, AnItemContent, assign, argument, redirect, AWord, word, Substs, no_subst, more_substs, ASubst, subst, entries_of, and_or_parts_of, pipeline_parts_of, branches_of, cases_of, patterns_of, items_of, substs_of}
 use Rattle.shast.specs.Bodies.{fill_here, fill_item_content, fill_item, fill_items, fill_entries, fill_entry, fill_content, fill_and_or, fill_and_or_parts, fill_pipeline, fill_pipes, fill_command, fill_compound, fill_form, fill_branch, fill_branches, fill_else, fill_cases, fill_case, filled}
 use Rattle.shast.specs.Nodes.{IsSpanWithin, and_or_span, command_span, commands_end, compound_span, item_span, items_span, last_command, last_item, last_pipeline, pipeline_span, word_span}
-use Rattle.shast.specs.Everywhere.{AllWithin, HaveItems, OfSome, OfEach, OfHere, Throughout, InEntry, InContent, InAndOr, InAndOrParts, InPipeline, InPipes, InCommand, InCompound, InForm, InBranch, InBranches, InElse, InForWords, InCases, InCase, InPatterns, InItems, InItem, InItemContent, InWord, InSubsts, InSubst, IsSome}
+use Rattle.shast.specs.Everywhere.{SpansWithin, HaveItems, OfSome, OfEach, OfHere, Throughout, InEntry, InContent, InAndOr, InAndOrParts, InPipeline, InPipes, InCommand, InCompound, InForm, InBranch, InBranches, InElse, InForWords, InCases, InCase, InPatterns, InItems, InItem, InItemContent, InWord, InSubsts, InSubst, IsSome}
 use Rattle.shast.proofs.Reach.{span_fits_more}
 
 -- ---- no span above a limit, and an item in each simple command: each kind of part, and rows of them
@@ -224,7 +224,7 @@ module _ (P R : Span → Type 0) (Q S : Items → Type 0) (p : (s : Span) → P 
     subst_so (subst entries span) so = (throughout_so entries so.0, p span so.1)
 
 -- what is within a limit is within each greater one
-pub all_within_more : (limit more : ℕ) (es : Entries) → limit ≤ more → AllWithin limit es → AllWithin more es
+pub all_within_more : (limit more : ℕ) (es : Entries) → limit ≤ more → SpansWithin limit es → SpansWithin more es
 all_within_more limit more es le so =
     throughout_so (IsSpanWithin limit) (IsSpanWithin more) (λ items. Unit {0}) (λ items. Unit {0})
     (span_fits_more limit more le) (λ items one. one) es so
@@ -390,7 +390,7 @@ pub bodies_in : (limit : ℕ) (bs : Row Span) (es : Entries) → AreIn limit bs 
 bodies_in limit bs es all so = throughout_filled (IsSpanWithin limit) IsSome some_filled bs es all so
 
 -- the two, one by one
-pub all_within : (limit : ℕ) (es : Entries) → EntriesIn limit es → AllWithin limit es
+pub all_within : (limit : ℕ) (es : Entries) → EntriesIn limit es → SpansWithin limit es
 all_within limit es so = throughout_so (IsSpanWithin limit) (IsSpanWithin limit) IsSome (λ items. Unit {0})
     (λ s within. within) (λ items some. tt) es so
 

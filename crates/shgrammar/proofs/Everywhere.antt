@@ -24,7 +24,7 @@ use Rattle.shgrammar.specs.Lists.{list_so, none_listed, Listed}
 use Rattle.shgrammar.specs.Compounds.{held_apart, Branched, branched, Closed, is_closing, is_open_paren, is_close_paren, reserved_or_paren, closing, a_branch, elif_turn, an_else, an_if, a_loop, a_group, a_for_name, a_sequential_sep, Headed, word_turn, for_words, a_for_head, after_remarks, a_for, a_form, a_compound, a_function, under_name, a_case_word, begins_pattern, Patterned, a_pattern, one_pattern, pattern_turn, a_pattern_list, a_body, body_end, ItemEnd, an_ender, an_item_end, CasesSo, cases_so, one_case, case_turn, a_case_head, a_case}
 use Rattle.shgrammar.specs.Substitutions.{substitution_list, a_substitution, one_substitution}
 use Rattle.shgrammar.specs.Levels.{most_open, level}
-use Rattle.shgrammar.specs.Lines.{AKind, an_open_line, a_line, ALine, IsLine, blank_line, entries_line, end_line, faulty_line, line_read, line_stops, kind_of, EntriesEverywhere}
+use Rattle.shgrammar.specs.Lines.{AKind, an_open_line, a_line, ALine, IsLine, blank_line, entries_line, end_line, faulty_line, line_read, line_stops, kind_of, EntrySpansWithin}
 use Rattle.shgrammar.specs.Scripts.{the_line}
 use Rattle.shast.specs.Everywhere.{IsSome, Throughout}
 use Rattle.shgrammar.proofs.OneOutcome.{is}
@@ -339,15 +339,15 @@ line_throughout edition T o blank newline es t is limit le =
     Throughout (IsSpanWithin limit) IsSome (entries_of x.0))) is told le
 
 kind_everywhere : (limit : ℕ) (es : Row AnEntry) (newline : Bool) →
-    Throughout (IsSpanWithin limit) IsSome (entries_of es) → EntriesEverywhere limit (kind_of es newline)
+    Throughout (IsSpanWithin limit) IsSome (entries_of es) → EntrySpansWithin limit (kind_of es newline)
 kind_everywhere limit [] true so = tt
 kind_everywhere limit [] false so = tt
 kind_everywhere limit (e ∷ es) newline so =
     (all_within limit (entries_of (e ∷ es)) so, have_items limit (entries_of (e ∷ es)) so)
 
 -- what is within a limit is within each greater one
-pub everywhere_more : (limit more : ℕ) (kind : AKind) → limit ≤ more → EntriesEverywhere limit kind →
-    EntriesEverywhere more kind
+pub everywhere_more : (limit more : ℕ) (kind : AKind) → limit ≤ more → EntrySpansWithin limit kind →
+    EntrySpansWithin more kind
 everywhere_more limit more (entries_line es) le so = (all_within_more limit more es le so.0, so.1)
 everywhere_more limit more blank_line le so = tt
 everywhere_more limit more end_line le so = tt
@@ -355,7 +355,7 @@ everywhere_more limit more (faulty_line fault) le so = tt
 
 -- those of a line, as far as the line goes
 pub line_everywhere : (edition : Edition) → (T : List ℕ) (l : ALine) → IsLine edition T l →
-    EntriesEverywhere l.next l.kind
+    EntrySpansWithin l.next l.kind
 line_everywhere edition T l (line_read es newline t k part) =
     kind_everywhere t.at es newline
     (line_throughout edition T 0 false newline es t

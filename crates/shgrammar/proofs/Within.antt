@@ -19,7 +19,7 @@ use Rattle.shgrammar.specs.declared.token.Separator.{Separator}
 use Rattle.shast.specs.declared.tree.AndOrOperator.{AndOrOperator}
 use Rattle.shast.specs.declared.tree.RedirectOperator.{RedirectOperator}
 use Rattle.shast.specs.declared.tree.Span.{Span}
-use Rattle.shast.specs.Nodes.{AreWithin, IsSpanWithin, and_or_nodes, branch_nodes, branches_nodes, else_nodes, entries_nodes, entry_nodes, for_words_nodes, form_nodes, word_nodes, word_span}
+use Rattle.shast.specs.Nodes.{IsSpanWithin, NodesWithin, and_or_nodes, branch_nodes, branches_nodes, else_nodes, entries_nodes, entry_nodes, for_words_nodes, form_nodes, word_nodes, word_span}
 use Rattle.shast.specs.Tree.{ACommand, AForm, ASubst, AWord, AnEntry, AnItem, Entries, branches_of, entries_of, entry, formed, item, items_of, remark, simple, compound, function, with_redirects, word}
 use Rattle.shast.specs.Bodies.{filled}
 use Rattle.shast.proofs.Going.{row_filled}
@@ -38,7 +38,7 @@ use Rattle.shgrammar.specs.Lists.{ListSo, list_so, none_listed, is_blank_next, o
 use Rattle.shgrammar.specs.Compounds.{Branched, branched, Closed, is_closing, is_open_paren, is_close_paren, reserved_or_paren, closing, a_branch, elif_turn, an_else, an_if, a_loop, a_group, a_for_name, a_linebreak, a_sequential_sep, Headed, word_turn, for_words, a_for_head, after_remarks, a_for, a_form, held_apart, a_compound, a_function, under_name, a_case_word, begins_pattern, Patterned, a_pattern, one_pattern, pattern_turn, a_pattern_list, a_body, body_end, ItemEnd, an_ender, an_item_end, CasesSo, cases_so, one_case, case_turn, a_case_head, a_case}
 use Rattle.shgrammar.specs.Substitutions.{substitution_list, a_substitution, one_substitution}
 use Rattle.shgrammar.specs.Levels.{most_open, level}
-use Rattle.shgrammar.specs.Lines.{an_open_line, a_line, ALine, IsLine, line_read, line_stops, kind_of, EntriesWithin}
+use Rattle.shgrammar.specs.Lines.{an_open_line, a_line, ALine, IsLine, line_read, line_stops, kind_of, EntryNodesWithin}
 use Rattle.shgrammar.specs.Scripts.{SoFar, the_line, with_line}
 use Rattle.shgrammar.proofs.OneOutcome.{is}
 use Rattle.shgrammar.proofs.Ahead.{behind_is}
@@ -499,7 +499,7 @@ module _ (keep : Keep) (g : Given) (limit : ℕ) where
     unfolding list_turn
     list_turn_fits l s so = first (on_line_fits l s so) (λ m t all. after (λ x u. gives (stepped ListFits x.0 _ all)))
 
-    list_fits : (n : Next) (s : State) → R (a_list inner n) (λ l. AreWithin limit l.0) s
+    list_fits : (n : Next) (s : State) → R (a_list inner n) (λ l. NodesWithin limit l.0) s
     unfolding a_list
     list_fits n s =
         first (repeats ListFits (list_turn inner) list_turn_fits (list_so (none_listed false) n) s
@@ -513,11 +513,11 @@ module _ (keep : Keep) (g : Given) (limit : ℕ) where
         (λ l u all. after (λ newline v. gives all.0)))
 
     -- the entries of a line, with the bodies of its here-documents
-    pub line_fits : (blank : Bool) (s : State) → R (a_line inner blank) (λ x. AreWithin limit (entries_of x.0)) s
+    pub line_fits : (blank : Bool) (s : State) → R (a_line inner blank) (λ x. NodesWithin limit (entries_of x.0)) s
     unfolding a_line
     line_fits blank s =
         first (in_level (open_line_fits blank (own_level s)))
-        (λ l t all. gives (subst (AreWithin limit) (sym (row_filled l.1 l.0.0))
+        (λ l t all. gives (subst (NodesWithin limit) (sym (row_filled l.1 l.0.0))
         (filled_within limit l.1 (entries_of l.0.0) (fits_entries limit l.0.0 all))))
 
     -- ---- compound commands
@@ -587,7 +587,7 @@ module _ (keep : Keep) (g : Given) (limit : ℕ) where
         (λ e w last. gives (fits_both limit (entries_nodes c.0) (entries_nodes b.0) one two, last)))))
 
     group_fits : (c : Closing) (n : Next) (s : State) →
-        R (a_group inner c n) (λ x. AreWithin limit x.what × IsSpanWithin limit x.closer) s
+        R (a_group inner c n) (λ x. NodesWithin limit x.what × IsSpanWithin limit x.closer) s
     unfolding a_group
     group_fits c n s = first (list_fits n s) (λ l t so. first (closing_fits c l.1 t) (λ k u last. gives (so, last)))
 
@@ -629,8 +629,8 @@ module _ (keep : Keep) (g : Given) (limit : ℕ) where
         after (λ x t. first (linebreak_fits [] x.1 t (All-nil (CommentFits limit)))
         (λ l u so. picks _ (for_words_fit l.join.comments u so) (gives (All-nil _, so))))
 
-    remarks_fit : (cs : Row Span) (es : Entries) → All (CommentFits limit) cs → AreWithin limit es →
-        AreWithin limit (after_remarks cs es)
+    remarks_fit : (cs : Row Span) (es : Entries) → All (CommentFits limit) cs → NodesWithin limit es →
+        NodesWithin limit (after_remarks cs es)
     remarks_fit [] es all so = so
     remarks_fit (c ∷ cs) es all so =
         fits_both limit (entry_nodes (entry (remark c) false false None)) (entries_nodes (after_remarks cs es))
@@ -775,7 +775,7 @@ module _ (keep : Keep) (g : Given) (limit : ℕ) where
 
     -- The list of a substitution fits within the limit, and so do the substitutions with one more.
 
-    substitution_list_fits : (s : State) → R (substitution_list inner) (AreWithin limit) s
+    substitution_list_fits : (s : State) → R (substitution_list inner) (NodesWithin limit) s
     unfolding substitution_list
     substitution_list_fits s =
         after (λ n t. first (repeats ListFits (list_turn inner) list_turn_fits (list_so (none_listed false) n) t
@@ -788,9 +788,9 @@ module _ (keep : Keep) (g : Given) (limit : ℕ) where
     unfolding one_substitution
     substitution_fits b ss s from so =
         let body = a_level (ends_as UnclosedSubst b (substitution_list inner)) in
-        tells_then keep g {P = λ es t. (Before t → AreWithin limit es.0) × (s.at ≤ t.at)}
+        tells_then keep g {P = λ es t. (Before t → NodesWithin limit es.0) × (s.at ≤ t.at)}
         (record {
-          told = holds_and (λ es t. Before t → AreWithin limit es.0) (λ es t. s.at ≤ t.at) (does body keep g s)
+          told = holds_and (λ es t. Before t → NodesWithin limit es.0) (λ es t. s.at ≤ t.at) (does body keep g s)
               (in_level (tells_ending keep g (substitution_list_fits (own_level s)))).told (low body keep g s).told;
         })
         (λ es t one. tells_seen keep g
@@ -843,22 +843,24 @@ level_fits keep g limit (suc room) =
 pub line_within : (edition : Edition) →
     (T : List ℕ) (o : ℕ) (keep : Keep) (blank newline : Bool) (es : Row AnEntry) (t : State) →
     does (the_line blank) keep (given edition T o) (standing 0) ≡ Ok ((es, newline), t)
-    → (limit : ℕ) → o + t.at ≤ limit → AreWithin limit (entries_of es)
+    → (limit : ℕ) → o + t.at ≤ limit → NodesWithin limit (entries_of es)
 line_within edition T o keep blank newline es t is limit le =
     let g = given edition T o in
     let told = (line_fits keep g limit (level most_open) (level_fits keep g limit most_open) blank (standing 0)).told in
-    subst (Holds (λ (x : Row AnEntry × Bool) (u : State). o + u.at ≤ limit → AreWithin limit (entries_of x.0))) is told
+    subst (Holds (λ (x : Row AnEntry × Bool) (u : State). o + u.at ≤ limit → NodesWithin limit (entries_of x.0)))
+    is told
     le
 
 -- and so do those in what the line is
-kind_within : (limit : ℕ) (es : Row AnEntry) (newline : Bool) → AreWithin limit (entries_of es) →
-    EntriesWithin limit (kind_of es newline)
+kind_within : (limit : ℕ) (es : Row AnEntry) (newline : Bool) → NodesWithin limit (entries_of es) →
+    EntryNodesWithin limit (kind_of es newline)
 kind_within limit [] true so = tt
 kind_within limit [] false so = tt
 kind_within limit (e ∷ es) newline so = so
 
 -- those of a line, as far as the line goes
-pub entries_within : (edition : Edition) → (T : List ℕ) (l : ALine) → IsLine edition T l → EntriesWithin l.next l.kind
+pub entries_within : (edition : Edition) → (T : List ℕ) (l : ALine) → IsLine edition T l →
+    EntryNodesWithin l.next l.kind
 entries_within edition T l (line_read es newline t k part) =
     kind_within t.at es newline (line_within edition T 0 Whole false newline es t
     (sym ((is (the_line false) (given edition T 0) (standing 0)).only _ _ part)) t.at (omega arith))
@@ -868,7 +870,8 @@ entries_within edition T l (line_stops f k part) = tt
 
 -- one more line
 pub more_within : (limit : ℕ) (so then : SoFar) (es : Row AnEntry) → then ≡ with_line so es →
-    AreWithin limit (entries_of so.entries) → AreWithin limit (entries_of es)
-    → AreWithin limit (entries_of then.entries)
+    NodesWithin limit (entries_of so.entries) → NodesWithin limit (entries_of es)
+    → NodesWithin limit (entries_of then.entries)
 more_within limit so then es is all line =
-    subst (λ (s : SoFar). AreWithin limit (entries_of s.entries)) (sym is) (within_append limit so.entries es all line)
+    subst (λ (s : SoFar). NodesWithin limit (entries_of s.entries)) (sym is)
+    (within_append limit so.entries es all line)

@@ -7,8 +7,8 @@ use Rattle.shgrammar.specs.declared.token.Next.{Next}
 use Rattle.shgrammar.specs.declared.token.Position.TheVariants.{Command}
 use Rattle.shgrammar.specs.Standing.{raw_stands}
 use Rattle.shast.specs.Bodies.{filled_row}
-use Rattle.shast.specs.Everywhere.{AllWithin, HaveItems}
-use Rattle.shast.specs.Nodes.{AreWithin}
+use Rattle.shast.specs.Everywhere.{SpansWithin, HaveItems}
+use Rattle.shast.specs.Nodes.{NodesWithin}
 use Rattle.shast.specs.Tree.{AnEntry, Entries, entries_of}
 use Rattle.shgrammar.specs.HereDocuments.{bodies_here}
 use Rattle.shgrammar.specs.Sights.{one_byte, given, standing, State}
@@ -86,14 +86,14 @@ NoFurther edition T line = (other : List ℕ) (q : ℕ) → take line.next (drop
     IsLine edition (drop q other) line
 
 -- no node of a line's entries names an offset above this one
-abbrev pub EntriesWithin : ℕ → AKind → Type 0
-EntriesWithin limit (entries_line es) = AreWithin limit es
-EntriesWithin limit _ = Unit {0}
+abbrev pub EntryNodesWithin : ℕ → AKind → Type 0
+EntryNodesWithin limit (entries_line es) = NodesWithin limit es
+EntryNodesWithin limit _ = Unit {0}
 
 -- the same of the entries of a line, where it has some
-abbrev pub EntriesEverywhere : ℕ → AKind → Type 0
-EntriesEverywhere limit (entries_line es) = AllWithin limit es × HaveItems es
-EntriesEverywhere limit _ = Unit {0}
+abbrev pub EntrySpansWithin : ℕ → AKind → Type 0
+EntrySpansWithin limit (entries_line es) = SpansWithin limit es × HaveItems es
+EntrySpansWithin limit _ = Unit {0}
 
 -- the fault of a line, where it has one, stands at no offset above this one
 abbrev pub FaultWithin : ℕ → AKind → Type 0

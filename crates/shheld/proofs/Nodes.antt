@@ -4,13 +4,13 @@ use Rattle.std.specs.Prelude.{All, ◌&&◌}
 use Rattle.std.proofs.lemmas.List.Elements.{All-append, All-nil, All-same}
 use Rattle.shast.specs.declared.node.NodeLine.{NodeLine}
 use Rattle.shast.specs.Moved.{appended, moved}
-use Rattle.shast.specs.Nodes.{AreWithin, IsWithin, entries_nodes, entry_nodes, placed}
+use Rattle.shast.specs.Nodes.{IsWithin, NodesWithin, entries_nodes, entry_nodes, placed}
 use Rattle.shast.specs.Tree.{Entries, entry, more_entries, no_entry}
 use Rattle.shast.proofs.NodesMoved.{nodes_moved, within_moved}
 use Rattle.shast.proofs.Reach.{within_more}
 use Rattle.shgrammar.specs.declared.edition.Edition.{Edition}
 use Rattle.shgrammar.specs.Joined.{blanked, has_entry}
-use Rattle.shgrammar.specs.Lines.{AKind, EntriesEverywhere, EntriesWithin, blank_line, entries_line, end_line, faulty_line}
+use Rattle.shgrammar.specs.Lines.{AKind, EntrySpansWithin, EntryNodesWithin, blank_line, entries_line, end_line, faulty_line}
 use Rattle.shgrammar.proofs.Everywhere.{line_everywhere}
 use Rattle.shgrammar.proofs.Within.{entries_within}
 use Rattle.shwindow.specs.Lines.{IsRow, extent, last_line, more_lines}
@@ -47,7 +47,7 @@ abbrev pub lines_nodes : ℕ → Row (HeldLine AKind) → Row NodeLine
 lines_nodes base [] = []
 lines_nodes base (l ∷ ls) = line_nodes base l ++ lines_nodes (base + l.len) ls
 
-nodes_with : (n : ℕ) (so : Walk) (k : AKind) → EntriesEverywhere n k →
+nodes_with : (n : ℕ) (so : Walk) (k : AKind) → EntrySpansWithin n k →
     entries_nodes (entries_with so k) ≡ entries_nodes so.entries ++ map (placed so.at) (kind_nodes k)
 nodes_with n so blank_line all = sym (append-nil (entries_nodes so.entries))
 nodes_with n so (entries_line xs) all =
@@ -85,7 +85,7 @@ lines_nodes_append base (x ∷ xs) ys =
 
 -- ---- their places
 
-kind_places : (base n : ℕ) (k : AKind) → EntriesEverywhere n k → EntriesWithin n k →
+kind_places : (base n : ℕ) (k : AKind) → EntrySpansWithin n k → EntryNodesWithin n k →
     All (IsWithin (base + n)) (map (placed base) (kind_nodes k))
 kind_places base n blank_line all so = All-nil (IsWithin (base + n))
 kind_places base n (entries_line xs) all so =
@@ -116,7 +116,7 @@ row_places edition T _ (more_lines {h = h} {hs = hs} is ended row) base =
 
 -- no node of the script names an offset above its length
 pub row_are_within : (edition : Edition) (B : List ℕ) (row : Row (HeldLine AKind)) → IsRow (IsTopLine edition) B row →
-    AreWithin (length B) (script_of row).entries
+    NodesWithin (length B) (script_of row).entries
 row_are_within edition B row is =
     All-same (IsWithin (length B)) _ _ (row_nodes edition B row is)
     (within_more (0 + extent row) (length B) (lines_nodes 0 row)

@@ -1,7 +1,7 @@
 -- A line of a row where it stands in the text: its bytes, its spans and its nodes.
 use Rattle.std.proofs.Common.{◌≡◌, ℕ, ◌+◌, ◌-◌, ◌^◌, ◌<◌, ◌≤◌, List, List as Row, ◌∷◌, ◌++◌, drop, length, subst, arith}
-use Rattle.shast.specs.Everywhere.{AllWithin}
-use Rattle.shast.specs.Nodes.{AreWithin}
+use Rattle.shast.specs.Everywhere.{SpansWithin}
+use Rattle.shast.specs.Nodes.{NodesWithin}
 use Rattle.shast.specs.Tree.{Entries}
 use Rattle.shgrammar.specs.declared.edition.Edition.{Edition}
 use Rattle.shgrammar.specs.Lines.{AKind, entries_line}
@@ -31,10 +31,10 @@ module _ (edition : Edition) (B : List ℕ) (before : Row (HeldLine AKind)) (l :
   )
 
   module _ (xs : Entries) (kind_is : l.kind ≡ entries_line xs) (small : length B < 2 ^ 64) where
-    pub row_all_fit : AllWithin (2 ^ 64 - 1 - extent before) xs
+    pub row_all_fit : SpansWithin (2 ^ 64 - 1 - extent before) xs
     row_all_fit = line_all_fit edition (drop (extent before) B) l xs row_line kind_is (extent before)
         (omega (arith, row_line_within, small))
 
-    pub row_nodes_fit : AreWithin (2 ^ 64 - 1 - extent before) xs
+    pub row_nodes_fit : NodesWithin (2 ^ 64 - 1 - extent before) xs
     row_nodes_fit = line_nodes_fit edition (drop (extent before) B) l xs row_line kind_is (extent before)
         (omega (arith, row_line_within, small))

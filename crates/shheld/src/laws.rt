@@ -1,6 +1,6 @@
 //! Laws of the definitions alone, which no code stands behind.
 ghost use Rattle.std.specs.Prelude.{◌≡◌, ◌+◌, ◌<◌, ◌≤◌, [], ◌∷◌, ◌++◌, ℕ, List, List as Row, length};
-ghost use Rattle.shast.specs.Nodes.{AreWithin, nodes_at, outline};
+ghost use Rattle.shast.specs.Nodes.{NodesWithin, nodes_at, outline};
 ghost use Rattle.shgrammar.specs.declared.edition.Edition.{Edition};
 ghost use Rattle.shgrammar.specs.Lines.{AKind};
 ghost use Rattle.shgrammar.specs.Scripts.{FirstFault, Outcome};
@@ -44,7 +44,7 @@ pub fn script_of_lines()
         IsRow (IsTopLine edition) bytes (before ++ last ∷ []) →
         FirstFault edition bytes (fault_at (extent before) last.kind) }
     ensures within { (edition : Edition) (bytes : List ℕ) (row : Row (HeldLine AKind)) →
-        IsRow (IsTopLine edition) bytes row → AreWithin (length bytes) (script_of row).entries }
+        IsRow (IsTopLine edition) bytes row → NodesWithin (length bytes) (script_of row).entries }
 {}
 
 /// The nodes that hold a byte are those of the line that holds it, and the outline of

@@ -4,7 +4,7 @@ ghost use Rattle.shline.specs.Clauses.{Gives, kept, Onward, view_told};
 ghost use Rattle.shline.specs.Limits.{limits};
 ghost use Rattle.shgrammar.specs.Scripts.{line_told};
 ghost use Rattle.shgrammar.specs.Standing.{raw_stands};
-ghost use Rattle.shast.specs.Nodes.{AreWithin};
+ghost use Rattle.shast.specs.Nodes.{NodesWithin};
 ghost use Rattle.shast.specs.Tree.{entries_of};
 ghost use Rattle.shast.specs.View.{view_entry};
 
@@ -59,7 +59,7 @@ pub fn line_at<'a, S: Source, const TREE: u8>(
         result (line_told how.edition (S.bytes source.now) (kept TREE how.keep) begin.blank begin.at
         begin.origin) }
     // No node of its entries names an offset past it.
-    ensures spans { IfOk result (λ x. (limit : ℕ) → begin.origin + x.len ≤ limit → AreWithin limit
+    ensures spans { IfOk result (λ x. (limit : ℕ) → begin.origin + x.len ≤ limit → NodesWithin limit
         (entries_of (map view_entry x.entries.items))) }
     ensures onward { IfOk result (λ x. Onward 0 x.len x.newline) }
     ensures within { IfOk result (λ x. begin.at + x.len ≤ length (S.bytes source.now)) }

@@ -3,7 +3,7 @@
 use Rattle.std.proofs.Common.{◌≡◌, ℕ, zero, suc, ◌+◌, ◌-◌, Bool, true, false, Ok, List, List as Row, [], ◌∷◌, map, take, drop, refl, sym, ap, subst, ◌∙◌, arith}
 use Rattle.std.proofs.Math.Seq.{drop-drop}
 use Rattle.shast.specs.declared.tree.Span.{Span}
-use Rattle.shast.specs.Everywhere.{AllWithin}
+use Rattle.shast.specs.Everywhere.{SpansWithin}
 use Rattle.shast.specs.Moved.{blanked_row, body_by, moved, moved_entry, placed_body}
 use Rattle.shast.specs.Nodes.{IsSpanWithin, placed_span}
 use Rattle.shast.specs.Shape.{shape_of, text_at}
@@ -37,7 +37,7 @@ module _ (base : ℕ) (B : List ℕ) where
       ap (λ (k : ℕ). take k (drop s.start B)) none ∙ sym (ap (λ (k : ℕ). take k (drop s.start (drop base B))) none)
   body_placed s (suc n) ends = text_placed s
 
-  pub shape_placed : (limit : ℕ) (xs : Entries) → AllWithin limit xs →
+  pub shape_placed : (limit : ℕ) (xs : Entries) → SpansWithin limit xs →
       shape_of B (moved base xs) ≡ shape_of (drop base B) xs
   shape_placed limit xs within =
       shape_same B (drop base B) (placed_span base) (placed_body base) (λ items. Unit {0}) xs

@@ -3,7 +3,7 @@
 use Rattle.std.proofs.Common.{◌≡◌, ℕ, suc, ◌&&◌, Bool, true, false, nat_lt, List, [], ◌∷◌, ◌++◌, None, length, drop, refl, sym, ap, ◌∙◌, arith, append_assoc}
 use Rattle.std.proofs.lemmas.Bool.Decides.{nat_tests}
 use Rattle.shgrammar.specs.declared.edition.Edition.{Edition}
-use Rattle.shast.specs.Everywhere.{AllWithin}
+use Rattle.shast.specs.Everywhere.{SpansWithin}
 use Rattle.shast.specs.Moved.{appended, moved}
 use Rattle.shast.specs.Shape.{Shape, Text, shape_of, shape_of_entry}
 use Rattle.shast.specs.Tree.{AnEntryOf, Entries, EntriesOf, entry, more_entries, no_entry}
@@ -46,7 +46,7 @@ module _ (y : Layout) (B : List ℕ) where
       (marks es)
       ∙ ap (λ xs. print_blank blank ++ marks xs) is.plain
 
-  marks_more : (before : Entries) (gap : Bool) (base limit : ℕ) (xs : Entries) → BeginsPlain xs → AllWithin limit xs
+  marks_more : (before : Entries) (gap : Bool) (base limit : ℕ) (xs : Entries) → BeginsPlain xs → SpansWithin limit xs
       → marks (more_entries_at before gap base xs) ≡ marks before
       ++ (print_blank (gap && has_entry before) ++ print_entries y [] (shape_of (drop base B) xs))
   marks_more before gap base limit xs plain within =

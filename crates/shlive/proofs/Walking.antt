@@ -2,7 +2,7 @@
 use Rattle.std.proofs.Common.{◌≡◌, ℕ, ◌+◌, ◌-◌, ◌^◌, ◌<◌, ◌≤◌, [], ◌∷◌, ◌++◌, true, List, List as Row, Option, None, Some, Result, Ok, Err, drop, length, refl, sym, ap, subst, ◌∙◌, arith, append_assoc}
 use Rattle.std.specs.Prelude.{OnErr, OnOk}
 use Rattle.shast.specs.declared.node.NodeLine.{NodeLine}
-use Rattle.shast.specs.Nodes.{AreWithin}
+use Rattle.shast.specs.Nodes.{NodesWithin}
 use Rattle.shast.specs.Tree.{Entries}
 use Rattle.shgrammar.specs.declared.edition.Edition.{Edition}
 use Rattle.shgrammar.specs.Lines.{AKind, blank_line, end_line, entries_line, faulty_line}
@@ -53,8 +53,8 @@ module _ (row left : Row (HeldLine AKind)) (begin : ℕ) (l : HeldLine AKind) (r
         (row_line edition B so.done l rest (row_top edition B (so.done ++ l ∷ rest) here))
 
     module _ (xs : Entries) (kind_is : l.kind ≡ entries_line xs) (small : length B < 2 ^ 64) where
-      pub walked_nodes_fit : AreWithin (2 ^ 64 - 1 - begin) xs
-      walked_nodes_fit = subst (λ n. AreWithin (2 ^ 64 - 1 - n) xs) (sym so.begins)
+      pub walked_nodes_fit : NodesWithin (2 ^ 64 - 1 - begin) xs
+      walked_nodes_fit = subst (λ n. NodesWithin (2 ^ 64 - 1 - n) xs) (sym so.begins)
           (row_nodes_fit edition B so.done l rest (row_top edition B (so.done ++ l ∷ rest) here) xs kind_is small)
 
 -- ---- the line that holds a byte

@@ -1,6 +1,6 @@
 -- The top-level lines of a script as a session holds them, and what is read of a script that is edited.
 use Rattle.std.specs.Prelude.{◌≡◌, ℕ, ◌-◌, ◌<◌, ◌^◌, List, List as Row, Option, None, Some, length, min}
-use Rattle.shast.specs.Nodes.{AreWithin}
+use Rattle.shast.specs.Nodes.{NodesWithin}
 use Rattle.shast.specs.Tree.{Entries}
 use Rattle.shgrammar.specs.declared.edition.Edition.{Edition}
 use Rattle.shgrammar.specs.declared.fault.Fault.{Fault}
@@ -32,7 +32,7 @@ fault_in _ = None
 
 -- no offset in the tree of a line that begins there, where it has a tree, is beyond the numbers of a usize
 abbrev pub FitsAt : ℕ → AKind → Type 0
-FitsAt begin kind = (list : Entries) → kind ≡ entries_line list → AreWithin (2 ^ 64 - 1 - begin) list
+FitsAt begin kind = (list : Entries) → kind ≡ entries_line list → NodesWithin (2 ^ 64 - 1 - begin) list
 
 -- ---- what an edit reads
 

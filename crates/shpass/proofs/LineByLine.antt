@@ -16,7 +16,7 @@ use Rattle.std.proofs.lemmas.List.{map-append}
 use Rattle.shgrammar.specs.declared.keep.Keep.TheVariants.{Outer, Whole}
 use Rattle.shline.specs.declared.parsed_line.ParsedLine.{ParsedLine}
 use Rattle.shpass.specs.declared.script_lines.ScriptLines.{ScriptLines}
-use Rattle.shast.specs.Nodes.{AreWithin}
+use Rattle.shast.specs.Nodes.{NodesWithin}
 use Rattle.shpass.specs.declared.script_lines.LinesBefore.{LinesBefore}
 use Rattle.shpass.specs.LineByLine.{Before, IsReadBy, LineReads, OuterReads, Rest, Stands, is_blank_after}
 use Rattle.shgrammar.proofs.Within.{more_within}
@@ -160,8 +160,8 @@ module _ {S : Type 0} (edition : Edition) (B : Row ℕ) (before all line : Row E
       (sym (all_is before all line all_are)) (from _ rest)
 
 pub all_within : (limit : ℕ) (before all line : Row Entry) → all ≡ before ++ line →
-    AreWithin limit (entries_of (map view_entry line))
-    → AreWithin limit (entries_of (map view_entry before)) → AreWithin limit (entries_of (map view_entry all))
+    NodesWithin limit (entries_of (map view_entry line))
+    → NodesWithin limit (entries_of (map view_entry before)) → NodesWithin limit (entries_of (map view_entry all))
 all_within limit before all line all_are line_low low =
     more_within limit (so_far before false) (so_far all (is_empty (map view_entry line))) (map view_entry line)
     (ap (λ es. record { entries = es; gap = is_empty (map view_entry line) }) (all_is before all line all_are)) low

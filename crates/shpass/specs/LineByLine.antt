@@ -10,7 +10,7 @@ use Rattle.shline.specs.Clauses.{Onward, view_told}
 use Rattle.shpass.specs.declared.script_lines.LinesBefore.{LinesBefore}
 use Rattle.shpass.specs.declared.script_lines.ScriptLines.{ScriptLines}
 use Rattle.shast.specs.declared.tree.Entry.{Entry}
-use Rattle.shast.specs.Nodes.{AreWithin}
+use Rattle.shast.specs.Nodes.{NodesWithin}
 use Rattle.shast.specs.Tree.{AnEntry, entries_of}
 use Rattle.shast.specs.View.{view_entry}
 use Rattle.shgrammar.specs.Characters.{newline_char}
@@ -39,7 +39,7 @@ IsReadBy reads (Err Memory) = Unit {0}
 
 -- no node of a line's entries names an offset above this one, nor does its fault
 abbrev pub LineWithin : ℕ → Result ParsedLine Stop → Type 0
-LineWithin limit (Ok told) = AreWithin limit (entries_of (map view_entry told.entries.items))
+LineWithin limit (Ok told) = NodesWithin limit (entries_of (map view_entry told.entries.items))
 LineWithin limit (Err (Wrong f)) = f.at ≤ limit
 LineWithin limit (Err Memory) = Unit {0}
 

@@ -2,7 +2,7 @@
 ghost use Rattle.std.specs.Prelude.{◌≡◌, ◌≤◌, length, IfOk, IfSome, IsOk};
 ghost use Rattle.shgrammar.specs.Scripts.{view_script};
 ghost use Rattle.shgrammar.specs.Scripts.{script_at};
-ghost use Rattle.shast.specs.Nodes.{AreWithin};
+ghost use Rattle.shast.specs.Nodes.{NodesWithin};
 
 use crate::error::ReadError;
 use shast::make::list_of;
@@ -21,7 +21,7 @@ pub(crate) fn script_from<S: Source>(
     ensures value { IfOk result
         (λ script. view_script script ≡ script_at edition (S.bytes source.now)) }
     ensures spans { IfOk result
-        (λ script. AreWithin (length (S.bytes source.now)) (view_script script).entries) }
+        (λ script. NodesWithin (length (S.bytes source.now)) (view_script script).entries) }
     ensures fault { IfOk result
         (λ script. IfSome script.fault (λ f. f.at ≤ length (S.bytes source.now))) }
     ensures empty { length (S.bytes source.now) ≡ 0 → IsOk result }

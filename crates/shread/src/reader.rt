@@ -5,10 +5,10 @@ ghost use Rattle.shline.specs.Limits.{wants_memory};
 ghost use Rattle.shtext.specs.Meter.{raised};
 ghost use Rattle.shgrammar.specs.Scripts.{view_script};
 ghost use Rattle.shgrammar.specs.Form.{Spelled};
-ghost use Rattle.shgrammar.specs.Lines.{ALine, EntriesEverywhere, EntriesWithin, FaultWithin, IsLine, NoFurther, SameBytes};
+ghost use Rattle.shgrammar.specs.Lines.{ALine, EntryNodesWithin, EntrySpansWithin, FaultWithin, IsLine, NoFurther, SameBytes};
 ghost use Rattle.shgrammar.specs.Scripts.{AScript, FirstFault, Outcome, Passes};
 ghost use Rattle.shgrammar.specs.declared.edition.Edition.TheVariants.{Y2017};
-ghost use Rattle.shast.specs.Nodes.{AreWithin};
+ghost use Rattle.shast.specs.Nodes.{NodesWithin};
 ghost use Rattle.shast.specs.Normal.{is_normal};
 ghost use Rattle.shast.specs.Shape.{shape_of};
 ghost use Rattle.shast.specs.Spelling.{spelling};
@@ -110,11 +110,11 @@ impl Reader {
             (λ line. line.ended ≡ false → line.next ≡ length (S.bytes source.now)) }
         // No node of its entries names an offset above the line's length.
         ensures within { IfOk result
-            (λ line. EntriesWithin (line.next - at) (view_kind line.kind)) }
+            (λ line. EntryNodesWithin (line.next - at) (view_kind line.kind)) }
         // Nor does any span of theirs, and each simple command has an item.
         ensures everywhere { IfOk result
             (λ line. (limit : ℕ) → line.next - at ≤ limit →
-            EntriesEverywhere limit (view_kind line.kind)) }
+            EntrySpansWithin limit (view_kind line.kind)) }
         // Its fault lies within it.
         ensures fault { IfOk result (λ line. FaultWithin (line.next - at) (view_kind line.kind)) }
         ensures edition { edition_of self.new ≡ edition_of self.old }
@@ -147,7 +147,7 @@ impl Reader {
             k ≡ spelling (shape_of (S.bytes source.now) (view_script script).entries)) }
         // No node of the list names an offset above the length.
         ensures within { IfOk result
-            (λ script. AreWithin (length (S.bytes source.now)) (view_script script).entries) }
+            (λ script. NodesWithin (length (S.bytes source.now)) (view_script script).entries) }
         ensures fault { IfOk result
             (λ script. IfSome script.fault (λ f. f.at ≤ length (S.bytes source.now))) }
         ensures edition { edition_of self.new ≡ edition_of self.old }

@@ -1,7 +1,7 @@
 //! The list of a whole text, joined from the lists of its lines.
 ghost use Rattle.std.specs.Prelude.{◌≡◌, ℕ, ◌-◌, ◌<◌, ◌≤◌, ◌^◌, OnErr, OnOk};
 ghost use Rattle.shast.specs.View.{view_list};
-ghost use Rattle.shgrammar.specs.Lines.{EntriesEverywhere};
+ghost use Rattle.shgrammar.specs.Lines.{EntrySpansWithin};
 ghost use Rattle.shread.specs.Answers.{view_kind};
 ghost use Rattle.shtests.specs.Joined.{with_line_at};
 
@@ -13,7 +13,7 @@ use std::alloc::{AllocError, Global};
 pub fn append_line(alloc: Global, line: &Line, at: usize, list: &mut List) -> Result<(), AllocError>
     requires place { (at ≤ line.now.next) × (line.now.next < 2 ^ 64) }
     requires spans { (limit : ℕ) → line.now.next - at ≤ limit →
-        EntriesEverywhere limit (view_kind line.now.kind) }
+        EntrySpansWithin limit (view_kind line.now.kind) }
     ensures ok { OnOk result
         (view_list list.new ≡ with_line_at at (view_list list.old) (view_kind line.now.kind)) }
     ensures err { OnErr result (view_list list.new ≡ view_list list.old) }

@@ -1,7 +1,7 @@
 //! Each growth of a reading refused in turn: `growths.rt` says how.
 ghost use Rattle.std.specs.Prelude.{◌≤◌, length};
 ghost use Rattle.shpass.specs.LineByLine.{bytes_of, place_of};
-ghost use Rattle.shast.specs.Nodes.{AreWithin};
+ghost use Rattle.shast.specs.Nodes.{NodesWithin};
 ghost use Rattle.shast.specs.View.{view_list};
 
 use shline::Stop;
@@ -196,7 +196,7 @@ fn add(
     asked: Asked,
     lines: &mut Vec<NodeLine>,
 ) -> Result<(), AllocError>
-    requires { AreWithin usize.MAX (view_list list.now) }
+    requires { NodesWithin usize.MAX (view_list list.now) }
 {
     match asked {
         Asked::Outline => shtree::outline_of(alloc, list, 0, lines),
@@ -207,7 +207,7 @@ fn add(
 /// Adds nodes with each growth refused in turn: after a refusal the vector is as it was, and the same call
 /// adds them. Answers how many they are.
 fn adds(rt: &impl Abort, alloc: Global, list: &List, asked: Asked) -> Result<usize, Fail>
-    requires { AreWithin usize.MAX (view_list list.now) }
+    requires { NodesWithin usize.MAX (view_list list.now) }
 {
     let mut wanted = vec![in alloc; EARLIER; 1]?;
     add(alloc, list, asked, &mut wanted)?;

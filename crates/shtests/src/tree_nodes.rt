@@ -1,7 +1,7 @@
 //! The nodes of scripts that are read, at a base above 0. A row is a node: its kind, its text, and the text
 //! of its name. The rows of a script stand in the order of the nodes, so they tell both calls' answers.
 ghost use Rattle.std.specs.Prelude.{◌-◌};
-ghost use Rattle.shast.specs.Nodes.{AreWithin};
+ghost use Rattle.shast.specs.Nodes.{NodesWithin};
 ghost use Rattle.shast.specs.View.{view_list};
 
 use shread::Reader;
@@ -64,7 +64,7 @@ fn is_shown(kind: NodeKind) -> bool {
 }
 
 fn judge_outline(rt: &impl Abort, script: Script, list: &List, rows: &[Row]) -> Result<(), Fail>
-    requires { AreWithin (usize.MAX - BASE) (view_list list.now) }
+    requires { NodesWithin (usize.MAX - BASE) (view_list list.now) }
 {
     let mut wanted = Vec::new(script.alloc);
     let mut lines = Vec::new(script.alloc);
@@ -92,7 +92,7 @@ fn judge_at(
     at: usize,
     rows: &[Row],
 ) -> Result<(), Fail>
-    requires { AreWithin (usize.MAX - BASE) (view_list list.now) }
+    requires { NodesWithin (usize.MAX - BASE) (view_list list.now) }
 {
     let mut wanted = Vec::new(script.alloc);
     let mut lines = Vec::new(script.alloc);
@@ -116,7 +116,7 @@ fn judge_at(
 
 /// Both calls, the second at each byte of the script and at some before and after it.
 fn judge_list(rt: &impl Abort, script: Script, list: &List, rows: &[Row]) -> Result<(), Fail>
-    requires { AreWithin (usize.MAX - BASE) (view_list list.now) }
+    requires { NodesWithin (usize.MAX - BASE) (view_list list.now) }
 {
     judge_outline(rt, script, list, rows)?;
     for at in 0..BASE.saturating_add(script.text.len()).saturating_add(3) {

@@ -6,7 +6,7 @@
 
 ghost use Rattle.std.specs.Prelude.{◌≡◌, ◌-◌, IfOk, map, option_map, OnErr, OnOk};
 ghost use Rattle.shast.specs.Capped.{capped, capped_body};
-ghost use Rattle.shast.specs.Everywhere.{AllWithin};
+ghost use Rattle.shast.specs.Everywhere.{SpansWithin};
 ghost use Rattle.shast.specs.Moved.{appended, carried, carried_and_or, carried_and_or_part, carried_branch, carried_case, carried_command, carried_compound, carried_content, carried_else, carried_entry, carried_form, carried_here, carried_item, carried_item_content, carried_join, carried_pipe, carried_pipeline, carried_subst, carried_word, moved};
 ghost use Rattle.shtree.specs.Carried.{Carries, CarriesAll};
 ghost use Rattle.shast.specs.Tree.{argument, assign, command, entry, item, remark};
@@ -32,7 +32,7 @@ use std::alloc::{AllocError, Global};
 ///
 /// [`AllocError`], where memory runs out. `into` then holds what it held before.
 pub fn append_at(alloc: Global, list: &List, base: usize, into: &mut List) -> Result<(), AllocError>
-    requires { AllWithin (usize.MAX - base) (view_list list.now) }
+    requires { SpansWithin (usize.MAX - base) (view_list list.now) }
     ensures ok { OnOk result
         (view_list into.new ≡ appended (view_list into.old) (moved base (view_list list.now))) }
     ensures err { OnErr result (view_list into.new ≡ view_list into.old) }

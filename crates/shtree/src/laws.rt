@@ -3,7 +3,7 @@ ghost use Rattle.std.specs.Prelude.{◌≡◌, ◌∷◌, ◌++◌, ◌+◌, ◌
 ghost use Rattle.shast.specs.declared.tree.Span.{Span};
 ghost use Rattle.shast.specs.Everywhere.{HaveItems};
 ghost use Rattle.shast.specs.Moved.{moved};
-ghost use Rattle.shast.specs.Nodes.{AreWithin, commands_end, entries_nodes, nodes_at, outline};
+ghost use Rattle.shast.specs.Nodes.{NodesWithin, commands_end, entries_nodes, nodes_at, outline};
 ghost use Rattle.shast.specs.Normal.{alone, is_normal, joined, of_command};
 ghost use Rattle.shast.specs.Shape.{Shape, Text, shape_of, text_at};
 ghost use Rattle.shast.specs.Spelling.{spelling};
@@ -36,8 +36,8 @@ pub fn normal_form()
 /// lists is what [`outline_of`](crate::outline_of) and [`nodes_at`](crate::nodes_at) ask for.
 #[tactic(auto, using(shast::proofs::Reach::within_more))]
 pub fn greater_limit()
-    ensures { (limit more : ℕ) (list : Entries) → limit ≤ more → AreWithin limit list →
-        AreWithin more list }
+    ensures { (limit more : ℕ) (list : Entries) → limit ≤ more → NodesWithin limit list →
+        NodesWithin more list }
 {}
 
 /// A list and its shape over any bytes are alike in normal form: this looks at no text and at no mark.
@@ -73,8 +73,8 @@ pub fn bodies_unseen()
         entries_nodes (opened nothing list) ≡ entries_nodes list }
     ensures nodes { (bodies : Row Span) (list : Entries) →
         entries_nodes (filled bodies list) ≡ entries_nodes list }
-    ensures within { (limit : ℕ) (bodies : Row Span) (list : Entries) → AreWithin limit list →
-        AreWithin limit (filled bodies list) }
+    ensures within { (limit : ℕ) (bodies : Row Span) (list : Entries) → NodesWithin limit list →
+        NodesWithin limit (filled bodies list) }
     ensures ends { (bodies : Row Span) (list : Entries) (before : ℕ) →
         commands_end before (filled bodies list) ≡ commands_end before list }
     ensures open_normal { (nothing : Span) (list : Entries) →
@@ -141,8 +141,8 @@ pub fn nodes_moved()
         outline more (moved base list) ≡ outline (base + more) list }
     ensures nodes_at { (base more at : ℕ) (list : Entries) → HaveItems list →
         nodes_at more at (moved base list) ≡ nodes_at (base + more) at list }
-    ensures within { (limit base : ℕ) (list : Entries) → HaveItems list → AreWithin limit list →
-        AreWithin (base + limit) (moved base list) }
+    ensures within { (limit base : ℕ) (list : Entries) → HaveItems list → NodesWithin limit list →
+        NodesWithin (base + limit) (moved base list) }
 {}
 
 /// A list is in normal form wherever it stands.

@@ -1,7 +1,7 @@
 //! The nodes of a script's tree, as an editor asks for them: what stands where in the text.
 ghost use Rattle.std.specs.Prelude.{◌≡◌, ◌-◌, ◌++◌, All, filter, map, OnErr, OnOk};
 ghost use Rattle.shast.specs.declared.node.NodeLine.{NodeLine};
-ghost use Rattle.shast.specs.Nodes.{AreWithin, by_place, entries_nodes, holds, in_order, in_outline, IsWithin, nodes_at, outline, placed};
+ghost use Rattle.shast.specs.Nodes.{by_place, entries_nodes, holds, in_order, in_outline, IsWithin, nodes_at, NodesWithin, outline, placed};
 ghost use Rattle.shast.specs.View.{view_list};
 
 use crate::visit::{Wanted, visit_list};
@@ -24,7 +24,7 @@ pub fn outline_of(
     base: usize,
     lines: &mut Vec<NodeLine>,
 ) -> Result<(), AllocError>
-    requires { AreWithin (usize.MAX - base) (view_list list.now) }
+    requires { NodesWithin (usize.MAX - base) (view_list list.now) }
     ensures ok { OnOk result
         (lines.new.items ≡ lines.old.items ++ outline base (view_list list.now)) }
     ensures err { OnErr result (lines.new.items ≡ lines.old.items) }
@@ -47,7 +47,7 @@ pub fn nodes_at(
     at: usize,
     lines: &mut Vec<NodeLine>,
 ) -> Result<(), AllocError>
-    requires { AreWithin (usize.MAX - base) (view_list list.now) }
+    requires { NodesWithin (usize.MAX - base) (view_list list.now) }
     ensures ok { OnOk result
         (lines.new.items ≡ lines.old.items ++ nodes_at base at (view_list list.now)) }
     ensures err { OnErr result (lines.new.items ≡ lines.old.items) }
@@ -93,7 +93,7 @@ fn add_nodes<W: Wanted>(
     wanted: W,
     lines: &mut Vec<NodeLine>,
 ) -> Result<(), AllocError>
-    requires { AreWithin (usize.MAX - base) (view_list list.now) }
+    requires { NodesWithin (usize.MAX - base) (view_list list.now) }
     ensures ok { OnOk result
         (lines.new.items ≡ lines.old.items
         ++ map (placed base) (in_order

@@ -2,7 +2,7 @@
 //! stays so.
 ghost use Rattle.std.specs.Prelude.{◌≡◌, ◌≤◌, ℕ, false, IfOk, None, Some};
 ghost use Rattle.shast.specs.declared.tree.RedirectOperator.TheVariants.{Here};
-ghost use Rattle.shast.specs.Everywhere.{AllWithin};
+ghost use Rattle.shast.specs.Everywhere.{SpansWithin};
 ghost use Rattle.shast.specs.Tree.{item, no_subst, redirect, word};
 ghost use Rattle.shast.specs.View.{view_item, view_list};
 
@@ -36,7 +36,7 @@ fn list(alloc: Global, start: usize, body: Span) -> Result<List, AllocError>
     requires start { start ≤ 100 }
     requires from { body.start ≤ 100 }
     requires to { body.«end» ≤ 100 }
-    ensures { IfOk result (λ made. (limit : ℕ) → 200 ≤ limit → AllWithin limit (view_list made)) }
+    ensures { IfOk result (λ made. (limit : ℕ) → 200 ≤ limit → SpansWithin limit (view_list made)) }
 {
     let span = Span {
         start,

@@ -1,6 +1,6 @@
 //! A list at another base, whose items of a case fall through where they did.
 ghost use Rattle.std.specs.Prelude.{◌≡◌, ◌≤◌, ℕ, [], false, IfOk, None};
-ghost use Rattle.shast.specs.Everywhere.{AllWithin};
+ghost use Rattle.shast.specs.Everywhere.{SpansWithin};
 ghost use Rattle.shast.specs.Tree.{case_in, case_item, compound, formed, more_cases, no_case, no_entry, no_item, no_pattern, no_subst, word};
 ghost use Rattle.shast.specs.View.{view_case_item, view_command, view_list};
 
@@ -39,7 +39,7 @@ fn case(alloc: Global, span: Span, falls: bool) -> Result<Command, AllocError>
 /// A list of that case alone.
 fn list(alloc: Global, start: usize, falls: bool) -> Result<List, AllocError>
     requires { start ≤ 100 }
-    ensures { IfOk result (λ made. (limit : ℕ) → 200 ≤ limit → AllWithin limit (view_list made)) }
+    ensures { IfOk result (λ made. (limit : ℕ) → 200 ≤ limit → SpansWithin limit (view_list made)) }
 {
     let span = Span {
         start,

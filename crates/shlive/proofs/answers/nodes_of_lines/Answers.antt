@@ -1,5 +1,5 @@
 use Rattle.std.proofs.Common.{◌-◌, ◌^◌, ◌++◌, ◌∷◌, ◌∙◌, ap, subst, sym}
-use Rattle.shast.specs.Nodes.{AreWithin}
+use Rattle.shast.specs.Nodes.{NodesWithin}
 use Rattle.shheld.specs.Walk.{line_nodes_at}
 use Rattle.shheld.proofs.NodesAt.{row_has_nodes}
 use Rattle.shheld.proofs.Places.{row_nodes_fit}
@@ -13,7 +13,7 @@ add_nodes_at-requires c = λ xs kind_is.
     let so = c.line_at-begin.ensures in
     let row = line_there c.requires.0 c.requires.1.0 c.args.lines.now c.args.at l c.line_at-begin.result.1
     c.requires.1.1 so in
-    subst (λ n. AreWithin (2 ^ 64 - 1 - n) xs) (sym so.begins)
+    subst (λ n. NodesWithin (2 ^ 64 - 1 - n) xs) (sym so.begins)
     (row_nodes_fit c.requires.0 c.requires.1.0 so.before l so.after
     (row_top c.requires.0 c.requires.1.0 (so.before ++ l ∷ so.after) row) xs kind_is c.requires.1.2)
 

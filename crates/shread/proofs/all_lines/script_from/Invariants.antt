@@ -1,5 +1,5 @@
 use Rattle.std.proofs.Common.{◌≡◌, ◌≤◌, ◌-◌, length, map}
-use Rattle.shast.specs.Nodes.{AreWithin}
+use Rattle.shast.specs.Nodes.{NodesWithin}
 use Rattle.shast.specs.Tree.{entries_of}
 use Rattle.shast.specs.View.{view_entry}
 use Rattle.shpass.specs.LineByLine.{Rest, Stands, bytes_of, edition_of, place_of}
@@ -11,7 +11,7 @@ invariant-lines g l =
     let bytes = g.S.Source.bytes l.source in
     let so : SoFar = record { entries = map view_entry l.entries.items; gap = l.lines.before.gap } in
     Stands l.lines so × ((s : AScript) → Rest l.fn.edition bytes so (place_of l.lines) s → Outcome l.fn.edition bytes s)
-    × AreWithin (length bytes) (entries_of so.entries)
+    × NodesWithin (length bytes) (entries_of so.entries)
     × (bytes_of g.S.Source.bytes l.lines ≡ bytes) × (place_of l.lines ≤ length bytes)
     × (edition_of l.lines ≡ l.fn.edition)
 
