@@ -72,7 +72,7 @@ module _ (edition : Edition) (layout : Layout) (name : List ℕ) (had has : Opti
       faultless : FirstFault edition read None
       faultless = (
         is.script.entries,
-        subst (λ wrong. Outcome edition read (record { entries = is.script.entries; wrong = wrong })) is.faultless
+        subst (λ fault. Outcome edition read (record { entries = is.script.entries; fault = fault })) is.faultless
             is.outcome,
       )
 

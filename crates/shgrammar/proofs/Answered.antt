@@ -24,11 +24,11 @@ pub fault_answered : (edition : Edition) → (B : List ℕ) (f : _) → f ≡ fi
 unfolding first_fault_from script_at
 fault_answered edition B f is = (
   (script_at edition B).entries,
-  subst (λ z. Outcome edition B (record { entries = (script_at edition B).entries; wrong = z })) (sym is)
+  subst (λ z. Outcome edition B (record { entries = (script_at edition B).entries; fault = z })) (sym is)
       (script_is edition B),
 )
 
 pub fault_alone : (edition : Edition) → (B : List ℕ) (f : _) → f ≡ first_fault_from edition B 0 → (a : AScript) →
-    Outcome edition B a → a.wrong ≡ f
+    Outcome edition B a → a.fault ≡ f
 unfolding first_fault_from script_at
-fault_alone edition B f is a other = ap (λ (s : AScript). s.wrong) (script_only edition B a other) ∙ sym is
+fault_alone edition B f is a other = ap (λ (s : AScript). s.fault) (script_only edition B a other) ∙ sym is

@@ -19,11 +19,11 @@ module _ (edition : Edition) (B : List ℕ) where
 
   module _ (f h : SoFar → ℕ → AScript) (so to : SoFar) (p : ℕ)
       (rest : (es fs : Row AnEntry) (t : State) →
-      (f (with_line so es) (p + t.at)).wrong ≡ (h (with_line to fs) (p + t.at)).wrong) where
+      (f (with_line so es) (p + t.at)).fault ≡ (h (with_line to fs) (p + t.at)).fault) where
     same_by : (x y z : Read (Row AnEntry × Bool)) → Like SameEnd x z → Like SameEnd y z →
-        (script_by f so p x).wrong ≡ (script_by h to p y).wrong
+        (script_by f so p x).fault ≡ (script_by h to p y).fault
     same_by (Ok ((es, true), s)) (Ok ((fs, true), t)) (Ok ((gs, c), u)) one two =
-        ap (λ (v : State). (f (with_line so es) (p + v.at)).wrong) (one.0 ∙ sym two.0) ∙ rest es fs t
+        ap (λ (v : State). (f (with_line so es) (p + v.at)).fault) (one.0 ∙ sym two.0) ∙ rest es fs t
     same_by (Ok ((es, true), s)) (Ok ((fs, false), t)) (Ok ((gs, c), u)) one two = let no : true ≡ false = one.1
         ∙ sym two.1 in absurd cc
     same_by (Ok ((es, false), s)) (Ok ((fs, true), t)) (Ok ((gs, c), u)) one two = let no : false ≡ true = one.1
@@ -37,7 +37,7 @@ module _ (edition : Edition) (B : List ℕ) where
 
   -- the first fault does not depend on what the lines before gave
   whatever : (n : ℕ) (so to : SoFar) (p : ℕ) →
-      (script_below edition B n so p).wrong ≡ (script_below edition B n to p).wrong
+      (script_below edition B n so p).fault ≡ (script_below edition B n to p).fault
   unfolding script_below
   whatever zero so to p = refl
   whatever (suc n) so to p =
@@ -46,7 +46,7 @@ module _ (edition : Edition) (B : List ℕ) where
       (line_from edition B Whole (is_blank_line so) p) (line_from edition B Whole (is_blank_line to) p)
       (line_from edition B Nothing false p) (like (is_blank_line so) p) (like (is_blank_line to) p)
 
-  whatever_on : (so to : SoFar) (p : ℕ) → (script_on edition B so p).wrong ≡ (script_on edition B to p).wrong
+  whatever_on : (so to : SoFar) (p : ℕ) → (script_on edition B so p).fault ≡ (script_on edition B to p).fault
   unfolding script_on
   whatever_on so to p = whatever (suc (length B - p)) so to p
 
@@ -54,7 +54,7 @@ module _ (edition : Edition) (B : List ℕ) where
   pub beyond_kept : (p : ℕ) (es : Row AnEntry) (t : State) → line_from edition B Whole false p ≡ Ok ((es, true), t) →
       first_fault_from edition B p ≡ first_fault_from edition B (p + t.at)
   unfolding first_fault_from
-  beyond_kept p es t is = ap (λ (y : AScript). y.wrong)
+  beyond_kept p es t is = ap (λ (y : AScript). y.fault)
       (line_more edition B nothing_yet p false refl es t (with_line nothing_yet es) is refl) ∙ whatever_on _ _ _
 
   beyond_by : (p : ℕ) (t : State) (x z : Read (Row AnEntry × Bool)) (fs : Row AnEntry) →
@@ -78,7 +78,7 @@ module _ (edition : Edition) (B : List ℕ) where
       first_fault_from edition B p ≡ None
   unfolding first_fault_from
   nowhere_by p t (Ok ((es, false), s)) z fs is z_is one =
-      ap (λ (y : AScript). y.wrong)
+      ap (λ (y : AScript). y.fault)
       (line_last edition B nothing_yet p false refl es s (with_line nothing_yet es) is refl)
   nowhere_by p t (Ok ((es, true), s)) z fs is z_is one = let same = rw z_is at one in let no : true ≡ false = same.1 in
       absurd cc
@@ -96,7 +96,7 @@ module _ (edition : Edition) (B : List ℕ) where
   here_by p f (Ok (x, s)) z is z_is one = let same = rw z_is at one in absurd same
   here_by p f (Err e) z is z_is one =
       let same = rw z_is at one in
-      ap (λ (y : AScript). y.wrong) (line_faulty edition B nothing_yet p false refl e is) ∙ ap Some same
+      ap (λ (y : AScript). y.fault) (line_faulty edition B nothing_yet p false refl e is) ∙ ap Some same
 
   pub here : (p : ℕ) (f : Fault) → line_from edition B Nothing false p ≡ Err f → first_fault_from edition B p ≡ Some f
   here p f is = here_by p f (line_from edition B Whole false p) (line_from edition B Nothing false p) refl is

@@ -47,12 +47,12 @@ added p so es =
 module _ (edition : Edition) (B : List ℕ) where
   -- after the last byte nothing is read
   at_end : (so : SoFar) (p : ℕ) → length B ≤ p →
-      script_on edition B so p ≡ record { entries = entries_of so.entries; wrong = None }
+      script_on edition B so p ≡ record { entries = entries_of so.entries; fault = None }
   at_end so p le =
       line_last edition B so p (is_blank_line so) refl [] (standing 0) (with_line so [])
       (ap (λ T. does (the_line (is_blank_line so)) Whole (given edition T p) (standing 0)) (drop_all p B le)
       ∙ nothing edition (is_blank_line so) Whole p) refl
-      ∙ ap (λ es. record { entries = entries_of es; wrong = None }) (append-nil so.entries)
+      ∙ ap (λ es. record { entries = entries_of es; fault = None }) (append-nil so.entries)
 
   -- ---- one line
 
@@ -75,10 +75,10 @@ module _ (edition : Edition) (B : List ℕ) where
   empty_there p blank (e ∷ es) = refl
 
   line_at_last : (p : ℕ) (so : SoFar) (es : Row AnEntry) (q : ℕ)
-      → record { entries = entries_of (so.entries ++ there p (is_blank_line so) es); wrong = None }
+      → record { entries = entries_of (so.entries ++ there p (is_blank_line so) es); fault = None }
       ≡ line_joined_by (λ es gap. lines_joined [] es gap q) (kind_of es false) (entries_of so.entries) so.gap p
-  line_at_last p so [] q = ap (λ es. record { entries = entries_of es; wrong = None }) (append-nil so.entries)
-  line_at_last p so (e ∷ es) q = ap (λ es. record { entries = es; wrong = None }) (sym (added p so (e ∷ es)))
+  line_at_last p so [] q = ap (λ es. record { entries = entries_of es; fault = None }) (append-nil so.entries)
+  line_at_last p so (e ∷ es) q = ap (λ es. record { entries = es; fault = None }) (sym (added p so (e ∷ es)))
 
   module _ (p : ℕ) (so : SoFar) where
     abbrev blank : Bool
@@ -103,7 +103,7 @@ module _ (edition : Edition) (B : List ℕ) where
         (entries_of so.entries) so.gap p
     ends fs u es t entries_are read q =
         line_last edition B so p blank refl es t (with_line so es) read refl
-        ∙ ap (λ zs. record { entries = entries_of (so.entries ++ zs); wrong = None }) entries_are
+        ∙ ap (λ zs. record { entries = entries_of (so.entries ++ zs); fault = None }) entries_are
         ∙ line_at_last p so fs q
 
     -- the last line of the row
@@ -119,7 +119,7 @@ module _ (edition : Edition) (B : List ℕ) where
     last_by (Ok ((es, false), t)) (Ok ((fs, true), u)) read (entries_are, flag, at_is) not_ended whole = absurd cc
     last_by (Err f) (Err h) read is not_ended whole =
         line_faulty edition B so p blank refl f read
-        ∙ ap (λ (z : Fault). record { entries = entries_of so.entries; wrong = Some z }) is
+        ∙ ap (λ (z : Fault). record { entries = entries_of so.entries; fault = Some z }) is
     last_by (Ok x) (Err h) read is not_ended whole = absurd is
     last_by (Err f) (Ok x) read is not_ended whole = absurd is
 

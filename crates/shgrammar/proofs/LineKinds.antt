@@ -46,7 +46,7 @@ pub nothing_left : (edition : Edition) → (B : List ℕ) (at : ℕ) → at ≡ 
     line_of_text edition (drop at B) ≡ record { kind = end_line; next = 0; ended = false }
 nothing_left edition B at e = rw (e, drop-length B) (nothing edition)
 
-nothing_at_all : (edition : Edition) → script_at edition [] ≡ record { entries = entries_of []; wrong = None }
+nothing_at_all : (edition : Edition) → script_at edition [] ≡ record { entries = entries_of []; fault = None }
 unfolding script_at script_on script_below a_line an_open_line nothing_waits filled_row next_token on_line many turns
     turns_below entry_turn a_remark a_comment end_of_line token_at comment_at raw_stands past count_front past_blanks
     past_continuations count_joined past_below
@@ -54,6 +54,6 @@ nothing_at_all edition = refl
 
 -- a script without a byte has no entry and no fault
 pub nothing_read : (edition : Edition) → (B : List ℕ) → length B ≡ 0 →
-    script_at edition B ≡ record { entries = entries_of []; wrong = None }
+    script_at edition B ≡ record { entries = entries_of []; fault = None }
 nothing_read edition [] e = nothing_at_all edition
 nothing_read edition (b ∷ B) e = absurd (omega arith)

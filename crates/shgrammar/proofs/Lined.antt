@@ -163,12 +163,12 @@ module _ (edition : Edition) (B : List ℕ) (so : SoFar) (p : ℕ) (blank : Bool
 
   pub line_last : (es : Row AnEntry) (t : State) (then : SoFar) →
       line_from edition B Whole blank p ≡ Ok ((es, false), t) → then ≡ with_line so es →
-      script_on edition B so p ≡ record { entries = entries_of then.entries; wrong = None }
+      script_on edition B so p ≡ record { entries = entries_of then.entries; fault = None }
   unfolding script_on script_below
   line_last es t then is same =
-      rw (the_next _ is) (ap (λ (z : SoFar). record { entries = entries_of z.entries; wrong = None }) (sym same))
+      rw (the_next _ is) (ap (λ (z : SoFar). record { entries = entries_of z.entries; fault = None }) (sym same))
 
   pub line_faulty : (f : Fault) → line_from edition B Whole blank p ≡ Err f →
-      script_on edition B so p ≡ record { entries = entries_of so.entries; wrong = Some f }
+      script_on edition B so p ≡ record { entries = entries_of so.entries; fault = Some f }
   unfolding script_on script_below
   line_faulty f is = rw (the_next _ is) refl

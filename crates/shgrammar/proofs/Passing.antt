@@ -138,11 +138,11 @@ twice n p f g h one two =
 
 module _ (n : ℕ) (f h : SoFar → ℕ → AScript) (so to : SoFar) (p : ℕ)
     (rest : (es fs : Row AnEntry) (t : State) →
-    (f (with_line so es) (n + p + t.at)).wrong ≡ later n (h (with_line to fs) (p + t.at)).wrong) where
+    (f (with_line so es) (n + p + t.at)).fault ≡ later n (h (with_line to fs) (p + t.at)).fault) where
   shift_by : (blank pale : Bool) (x y z : Read (Row AnEntry × Bool)) → Same (n + p) blank x z → Same p pale y z →
-      (script_by f so (n + p) x).wrong ≡ later n (script_by h to p y).wrong
+      (script_by f so (n + p) x).fault ≡ later n (script_by h to p y).fault
   shift_by blank pale (Ok ((es, true), s)) (Ok ((fs, true), t)) (Ok ((gs, c), u)) one two =
-      ap (λ (i : ℕ). (f (with_line so es) (n + p + i)).wrong) (one.2 ∙ sym two.2) ∙ rest es fs t
+      ap (λ (i : ℕ). (f (with_line so es) (n + p + i)).fault) (one.2 ∙ sym two.2) ∙ rest es fs t
   shift_by blank pale (Ok ((es, true), s)) (Ok ((fs, false), t)) (Ok ((gs, c), u)) one two = let no : true ≡ false =
       one.1 ∙ sym two.1 in absurd cc
   shift_by blank pale (Ok ((es, false), s)) (Ok ((fs, true), t)) (Ok ((gs, c), u)) one two = let no : false ≡ true =
@@ -156,7 +156,7 @@ module _ (n : ℕ) (f h : SoFar → ℕ → AScript) (so to : SoFar) (p : ℕ)
 
 module _ (edition : Edition) (n : ℕ) (B : List ℕ) where
   shift : (m : ℕ) (so to : SoFar) (p : ℕ) →
-      (script_below edition B m so (n + p)).wrong ≡ later n (script_below edition (drop n B) m to p).wrong
+      (script_below edition B m so (n + p)).fault ≡ later n (script_below edition (drop n B) m to p).fault
   unfolding script_below
   shift zero so to p = refl
   shift (suc m) so to p =
@@ -169,7 +169,7 @@ module _ (edition : Edition) (n : ℕ) (B : List ℕ) where
       (line_from edition D Whole (is_blank_line to) p) z) (sym same) (line_moved edition D p (is_blank_line to)) in
       shift_by n (script_below edition B m) (script_below edition D m) so to p
       (λ es fs t. let sum : n + p + t.at ≡ n + (p + t.at) = omega arith in
-      ap (λ (q : ℕ). (script_below edition B m (with_line so es) q).wrong) sum
+      ap (λ (q : ℕ). (script_below edition B m (with_line so es) q).fault) sum
       ∙ shift m (with_line so es) (with_line to fs) (p + t.at))
       (is_blank_line so) (is_blank_line to) (line_from edition B Whole (is_blank_line so) (n + p))
       (line_from edition D Whole (is_blank_line to) p) (line_told edition B Whole false (n + p) 0)
@@ -181,16 +181,16 @@ module _ (edition : Edition) (n : ℕ) (B : List ℕ) where
   behind_is =
       let start : n ≡ n + 0 = omega arith in
       let size : length B - n ≡ length (drop n B) - 0 = omega (arith, length-drop n B) in
-      ap (λ (q : ℕ). (script_below edition B (suc (length B - n)) nothing_yet q).wrong) start
+      ap (λ (q : ℕ). (script_below edition B (suc (length B - n)) nothing_yet q).fault) start
       ∙ shift (suc (length B - n)) nothing_yet nothing_yet 0
-      ∙ ap (λ (m : ℕ). later n (script_below edition (drop n B) (suc m) nothing_yet 0).wrong) size
+      ∙ ap (λ (m : ℕ). later n (script_below edition (drop n B) (suc m) nothing_yet 0).fault) size
 
 -- bytes that are passed may be passed
 pub may_pass : (edition : Edition) → (bytes : List ℕ) (n : ℕ) → ArePassed edition bytes n → MayPass edition bytes n
 may_pass edition bytes n so script f same first =
     let D = drop n script in
     let is : f ≡ first_fault_from edition D 0 =
-    fault_alone edition D (first_fault_from edition D 0) refl (record { entries = first.0; wrong = f }) first.1 in
+    fault_alone edition D (first_fault_from edition D 0) refl (record { entries = first.0; fault = f }) first.1 in
     let whole : first_fault_from edition script 0 ≡ later n f = so script same ∙ behind_is edition n script
     ∙ ap (later n) (sym is) in
     fault_answered edition script (later n f) (sym whole)

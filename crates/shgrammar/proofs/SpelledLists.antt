@@ -488,7 +488,7 @@ module _ (edition : Edition) (B : List ℕ) where
       (pass_line (pass_level B g refl most_open) blank (standing 0)).passing
       (Ok ((es, newline), t)) k part
 
-  lines_spelled : (so : SoFar) (p : ℕ) (s : AScript) (k : Row Spelled) → Lines edition B so p s k → s.wrong ≡ None →
+  lines_spelled : (so : SoFar) (p : ℕ) (s : AScript) (k : Row Spelled) → Lines edition B so p s k → s.fault ≡ None →
       spelling (shape_of B s.entries) ≡ spelling (shape_of B (entries_of so.entries)) ++ k
   lines_spelled so p s m (line_ended {l = l} es t k part rest) none =
       lines_spelled _ _ s l rest none
@@ -500,6 +500,6 @@ module _ (edition : Edition) (B : List ℕ) where
   lines_spelled so p s m (faulty f k part) none = absurd cc
 
 -- the tokens passed in a faultless script are those that the shape of its tree spells
-pub script_spelled : (edition : Edition) → (B : List ℕ) (s : AScript) → s.wrong ≡ None → (k : Row Spelled) →
+pub script_spelled : (edition : Edition) → (B : List ℕ) (s : AScript) → s.fault ≡ None → (k : Row Spelled) →
     Passes edition B s k → k ≡ spelling (shape_of B s.entries)
 script_spelled edition B s none k passes = sym (lines_spelled edition B nothing_yet 0 s k passes none)

@@ -22,12 +22,12 @@ abbrev pub line_joined_by : (Entries → Bool → AScript) → AKind → Entries
 line_joined_by rest blank_line es gap base = rest es true
 line_joined_by rest (entries_line xs) es gap base =
     rest (appended es (blanked (gap && has_entry es) (moved base xs))) false
-line_joined_by rest end_line es gap base = record { entries = es; wrong = None }
-line_joined_by rest (faulty_line f) es gap base = record { entries = es; wrong = Some (moved_fault base f) }
+line_joined_by rest end_line es gap base = record { entries = es; fault = None }
+line_joined_by rest (faulty_line f) es gap base = record { entries = es; fault = Some (moved_fault base f) }
 
 -- the lines from the base on, after these entries
 abbrev pub lines_joined : Row ALine → Entries → Bool → ℕ → AScript
-lines_joined [] es gap base = record { entries = es; wrong = None }
+lines_joined [] es gap base = record { entries = es; fault = None }
 lines_joined (l ∷ ls) es gap base = line_joined_by (λ es gap. lines_joined ls es gap (base + l.next)) l.kind es gap base
 
 -- The lines of B from p on: ended ones, and one that is not ended, which is the rest.

@@ -16,7 +16,7 @@ use Rattle.shgrammar.specs.Lines.{a_line, ALine, kind_of, faulty_line, is_ended}
 -- the entries of a script, and its first fault; with a fault the entries of the lines before the faulty one
 pub record AScript : Type 0 where
   pub entries : Entries
-  pub wrong : Option Fault
+  pub fault : Option Fault
 
 -- What the lines so far gave. `gap` tells that a line without entries follows the last entry.
 pub record SoFar : Type 0 where
@@ -42,10 +42,10 @@ pub data Lines (edition : Edition) (B : List ℕ) : SoFar → ℕ → AScript �
       Lines edition B (with_line so es) (p + t.at) s l → Lines edition B so p s (k ++ l)
   last_line : {so : SoFar} {p : ℕ} (es : Row AnEntry) (t : State) (k : Row Spelled) →
       may (the_line (is_blank_line so)) (given edition (drop p B) p) (standing 0) (Ok ((es, false), t)) k
-      → Lines edition B so p (record { entries = entries_of (so.entries ++ es); wrong = None }) k
+      → Lines edition B so p (record { entries = entries_of (so.entries ++ es); fault = None }) k
   faulty : {so : SoFar} {p : ℕ} (f : Fault) (k : Row Spelled) →
       may (the_line (is_blank_line so)) (given edition (drop p B) p) (standing 0) (Err f) k
-      → Lines edition B so p (record { entries = entries_of so.entries; wrong = Some f }) k
+      → Lines edition B so p (record { entries = entries_of so.entries; fault = Some f }) k
 
 abbrev pub nothing_yet : SoFar
 nothing_yet = record { entries = []; gap = false }
@@ -59,7 +59,7 @@ Outcome edition B s = (k : Row Spelled) × Passes edition B s k
 
 -- the first fault of a script, or that it has none
 abbrev pub FirstFault : Edition → List ℕ → Option Fault → Type 0
-FirstFault edition B f = (es : Entries) × Outcome edition B (record { entries = es; wrong = f })
+FirstFault edition B f = (es : Entries) × Outcome edition B (record { entries = es; fault = f })
 
 -- ---- what is computed
 
@@ -72,12 +72,12 @@ line_from edition B keep blank p = line_told edition B keep blank p p
 
 abbrev pub script_by : (SoFar → ℕ → AScript) → SoFar → ℕ → Read (Row AnEntry × Bool) → AScript
 script_by rest so p (Ok ((es, true), t)) = rest (with_line so es) (p + t.at)
-script_by rest so p (Ok ((es, false), t)) = record { entries = entries_of (so.entries ++ es); wrong = None }
-script_by rest so p (Err f) = record { entries = entries_of so.entries; wrong = Some f }
+script_by rest so p (Ok ((es, false), t)) = record { entries = entries_of (so.entries ++ es); fault = None }
+script_by rest so p (Err f) = record { entries = entries_of so.entries; fault = Some f }
 
 -- with less than n bytes left
 unfoldable pub script_below : Edition → List ℕ → ℕ → SoFar → ℕ → AScript
-script_below edition B zero so p = record { entries = entries_of so.entries; wrong = None }
+script_below edition B zero so p = record { entries = entries_of so.entries; fault = None }
 script_below edition B (suc n) so p =
     script_by (script_below edition B n) so p (line_from edition B Whole (is_blank_line so) p)
 
@@ -98,8 +98,8 @@ unfoldable pub line_of_text : Edition → List ℕ → ALine
 line_of_text edition T = as_line T (does (the_line false) Whole (given edition T 0) (standing 0))
 
 unfoldable pub first_fault_from : Edition → List ℕ → ℕ → Option Fault
-first_fault_from edition B p = (script_on edition B nothing_yet p).wrong
+first_fault_from edition B p = (script_on edition B nothing_yet p).fault
 
 -- a script that was read
 abbrev pub view_script : the_script.Script → AScript
-view_script script = record { entries = view_list script.list; wrong = script.fault }
+view_script script = record { entries = view_list script.list; fault = script.fault }

@@ -71,11 +71,11 @@ line_on edition T l is ended ls so =
 
 -- and so is the last one
 pub line_last : (l : HeldLine AKind) (so : Walk) →
-    from_walk so (l ∷ []) ≡ record { entries = (with_line so l).entries; wrong = fault_at so.at l.kind }
+    from_walk so (l ∷ []) ≡ record { entries = (with_line so l).entries; fault = fault_at so.at l.kind }
 line_last l so = by_kind l.kind
   where
     by_kind : (k : AKind) → line_joined_by (λ es gap. lines_joined [] es gap (so.at + l.len)) k so.entries so.gap so.at
-        ≡ record { entries = entries_with so k; wrong = fault_at so.at k }
+        ≡ record { entries = entries_with so k; fault = fault_at so.at k }
     by_kind blank_line = refl
     by_kind (entries_line xs) = refl
     by_kind end_line = refl
@@ -97,16 +97,16 @@ row_entries edition B row is = entries_from edition B row is no_line
 
 fault_from : (edition : Edition) (T : List ℕ) (ended : Row (HeldLine AKind)) (last : HeldLine AKind) →
     IsRow (IsTopLine edition) T (ended ++ last ∷ []) → (so : Walk)
-    → (from_walk so (ended ++ last ∷ [])).wrong ≡ fault_at (so.at + extent ended) last.kind
+    → (from_walk so (ended ++ last ∷ [])).fault ≡ fault_at (so.at + extent ended) last.kind
 unfolding extent
 fault_from edition T [] last row so =
     let here : so.at ≡ so.at + 0 = omega arith in
-    ap (λ (s : AScript). s.wrong) (line_last last so) ∙ ap (λ n. fault_at n last.kind) here
+    ap (λ (s : AScript). s.fault) (line_last last so) ∙ ap (λ n. fault_at n last.kind) here
 fault_from edition T (h ∷ hs) last row so =
     let is = row_head (IsTopLine edition) T h (hs ++ last ∷ []) row in
     let ended = row_ended (IsTopLine edition) T h hs last [] row in
     let there : so.at + h.len + extent hs ≡ so.at + (h.len + extent hs) = omega arith in
-    ap (λ (s : AScript). s.wrong) (line_on edition T h is ended (hs ++ last ∷ []) so)
+    ap (λ (s : AScript). s.fault) (line_on edition T h is ended (hs ++ last ∷ []) so)
     ∙ fault_from edition (drop h.len T) hs last (row_rest (IsTopLine edition) T h (hs ++ last ∷ []) row ended)
     (with_line so h)
     ∙ ap (λ n. fault_at n last.kind) there
@@ -119,7 +119,7 @@ last_at edition B ended last row = sym (extent_push ended last)
 
 pub row_wrong : (edition : Edition) (B : List ℕ) (ended : Row (HeldLine AKind)) (last : HeldLine AKind) →
     IsRow (IsTopLine edition) B (ended ++ last ∷ []) →
-    (script_of (ended ++ last ∷ [])).wrong ≡ fault_at (extent ended) last.kind
+    (script_of (ended ++ last ∷ [])).fault ≡ fault_at (extent ended) last.kind
 row_wrong edition B ended last row =
     let here : 0 + extent ended ≡ extent ended = omega arith in
     fault_from edition B ended last row no_line ∙ ap (λ n. fault_at n last.kind) here
@@ -130,7 +130,7 @@ pub row_fault : (edition : Edition) (B : List ℕ) (ended : Row (HeldLine AKind)
 row_fault edition B ended last row =
     let all = row_outcome edition B (ended ++ last ∷ []) row in (
       (script_of (ended ++ last ∷ [])).entries,
-      subst (λ w. Outcome edition B (record { entries = (script_of (ended ++ last ∷ [])).entries; wrong = w }))
+      subst (λ w. Outcome edition B (record { entries = (script_of (ended ++ last ∷ [])).entries; fault = w }))
           (row_wrong edition B ended last row) all,
     )
 
@@ -140,4 +140,4 @@ pub row_fault_only : (edition : Edition) (B : List ℕ) (ended : Row (HeldLine A
     f ≡ fault_at (extent ended) last.kind
 row_fault_only edition B ended last row f first =
     let same = script_only edition B _ first.1 ∙ sym (script_only edition B _ (row_fault edition B ended last row).1) in
-    ap (λ (s : AScript). s.wrong) same
+    ap (λ (s : AScript). s.fault) same

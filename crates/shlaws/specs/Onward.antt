@@ -54,9 +54,9 @@ pub data LinesOnward (edition : Edition) (B : List ℕ) : SoFar → ℕ → AScr
       → LinesOnward edition B (with_line so es) (p + t.at) s l → LinesOnward edition B so p s (k ++ l)
   last_line : {so : SoFar} {p : ℕ} (es : Row AnEntry) (t : State) (k : Row Spelled)
       → LineOnward edition B so p (Ok ((es, false), t)) k
-      → LinesOnward edition B so p (record { entries = entries_of (so.entries ++ es); wrong = None }) k
+      → LinesOnward edition B so p (record { entries = entries_of (so.entries ++ es); fault = None }) k
   faulty : {so : SoFar} {p : ℕ} (f : Fault) (k : Row Spelled) → LineOnward edition B so p (Err f) k
-      → LinesOnward edition B so p (record { entries = entries_of so.entries; wrong = Some f }) k
+      → LinesOnward edition B so p (record { entries = entries_of so.entries; fault = Some f }) k
 
 -- what is read of the bytes of a script, and the tokens passed
 abbrev pub PassesOnward : Edition → List ℕ → AScript → Row Spelled → Type 0

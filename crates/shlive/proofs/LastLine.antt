@@ -75,7 +75,7 @@ module _ (edition : Edition) (B : List ℕ) (row : Row (HeldLine AKind)) (is : I
 pub one_fault : (edition : Edition) (B : List ℕ) (f g : Option Fault) → FirstFault edition B f → FirstFault edition B g
     → f ≡ g
 one_fault edition B f g one two =
-    ap (λ (s : AScript). s.wrong) (script_only edition B _ one.1 ∙ sym (script_only edition B _ two.1))
+    ap (λ (s : AScript). s.fault) (script_only edition B _ one.1 ∙ sym (script_only edition B _ two.1))
 
 pub none_is : (f : Option Fault) → is_some f ≡ false → f ≡ None
 none_is None e = refl
@@ -95,11 +95,11 @@ pub text_of_row : (edition : Edition) (y : Layout) (B : List ℕ) (row : Row (He
     text ≡ printed y (shape_of B (script_of row).entries) → IsTextOf edition y B text
 text_of_row edition y B row is none text text_is =
     let es = (script_of row).entries in
-    let script : AScript = record { entries = es; wrong = None } in
+    let script : AScript = record { entries = es; fault = None } in
     let all = row_outcome edition B row (row_top edition B row is) in
     let outcome : Outcome edition B script =
-    subst (λ w. Outcome edition B (record { entries = es; wrong = w }))
-    (one_fault edition B (script_of row).wrong None (es, all) none) all in
+    subst (λ w. Outcome edition B (record { entries = es; fault = w }))
+    (one_fault edition B (script_of row).fault None (es, all) none) all in
     record {
       script = script;
       outcome = outcome;

@@ -16,7 +16,7 @@ module _ (edition : Edition) (B : List ℕ) where
   one_script s t p q = script_only edition B s p ∙ sym (script_only edition B t q)
 
   pub one_fault : (x y : Option Fault) → FirstFault edition B x → FirstFault edition B y → x ≡ y
-  one_fault x y p q = ap (λ (s : AScript). s.wrong) (one_script _ _ p.1 q.1)
+  one_fault x y p q = ap (λ (s : AScript). s.fault) (one_script _ _ p.1 q.1)
 
   pub one_status : (x y : ℕ) → HasStatus edition B x → HasStatus edition B y → x ≡ y
   one_status x y p q = p.2 ∙ ap status_of (one_fault p.0 q.0 p.1 q.1) ∙ sym q.2
@@ -28,9 +28,9 @@ module _ (edition : Edition) (B : List ℕ) where
   one_row_of_nodes at x y p q = p.2 ∙ ap (λ (s : AScript). nodes_at 0 at s.entries) (one_script p.0 q.0 p.1 q.1)
       ∙ sym q.2
 
-  no_text : (s : AScript) (f : Fault) → Outcome edition B s → s.wrong ≡ None → FirstFault edition B (Some f) → ⊥
+  no_text : (s : AScript) (f : Fault) → Outcome edition B s → s.fault ≡ None → FirstFault edition B (Some f) → ⊥
   no_text s f p none first =
-      let wrong : Some f ≡ None = ap (λ (t : AScript). t.wrong) (one_script _ _ first.1 p) ∙ none in absurd cc
+      let wrong : Some f ≡ None = ap (λ (t : AScript). t.fault) (one_script _ _ first.1 p) ∙ none in absurd cc
 
 module _ (how : SessionOptions) (B : List ℕ) where
   pub one_text : (x y : Option (List ℕ)) → HasText how B x → HasText how B y → x ≡ y

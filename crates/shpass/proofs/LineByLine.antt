@@ -99,7 +99,7 @@ told_in reads B other edition by r same is told =
 abbrev pub LeadsOn : Edition → Row ℕ → SoFar → ℕ → Row AnEntry → Bool → ℕ → Type 0
 LeadsOn edition B so p es true q = (s : AScript) → Rest edition B (with_line so es) q s → Rest edition B so p s
 LeadsOn edition B so p es false q =
-    Rest edition B so p (record { entries = entries_of (so.entries ++ es); wrong = None })
+    Rest edition B so p (record { entries = entries_of (so.entries ++ es); fault = None })
 
 line_leads : (edition : Edition) (B : Row ℕ) (so : SoFar) (p n : ℕ) (es : Row AnEntry) (newline : Bool)
     → LineReads edition B so p (Ok ((es, newline), standing n)) → LeadsOn edition B so p es newline (p + n)
@@ -116,7 +116,7 @@ leads_on edition B so p told newline is read =
 
 pub leads_nowhere : (edition : Edition) (B : Row ℕ) (so : SoFar) (p : ℕ) (stop : Stop) (f : Fault) → stop ≡ Wrong f
     → IsReadBy (LineReads edition B so p) (Err stop) →
-    Rest edition B so p (record { entries = entries_of so.entries; wrong = Some f })
+    Rest edition B so p (record { entries = entries_of so.entries; fault = Some f })
 leads_nowhere edition B so p stop f is told =
     let read = subst (λ z. IsReadBy (LineReads edition B so p) (Err z)) is told in (read.0, faulty f read.0 read.1)
 
@@ -154,9 +154,9 @@ module _ {S : Type 0} (edition : Edition) (B : Row ℕ) (before all line : Row E
       )
 
   pub last_on : Rest edition B (so_far before old.before.gap) old.at
-      (record { entries = entries_of (map view_entry before ++ map view_entry line); wrong = None })
-      → Outcome edition B (record { entries = entries_of (map view_entry all); wrong = None })
-  last_on rest = subst (λ es. Outcome edition B (record { entries = entries_of es; wrong = None }))
+      (record { entries = entries_of (map view_entry before ++ map view_entry line); fault = None })
+      → Outcome edition B (record { entries = entries_of (map view_entry all); fault = None })
+  last_on rest = subst (λ es. Outcome edition B (record { entries = entries_of es; fault = None }))
       (sym (all_is before all line all_are)) (from _ rest)
 
 pub all_within : (limit : ℕ) (before all line : Row Entry) → all ≡ before ++ line →

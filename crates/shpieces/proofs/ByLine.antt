@@ -108,7 +108,7 @@ module _ (edition : Edition) (y : Layout) (H S : List ℕ) (q n : ℕ) (so : SoF
       Rest edition S so n (record {
         entries =
             entries_of (so.entries ++ blanked_row (is_blank_line so) (map (moved_entry n) es));
-        wrong = None;
+        fault = None;
       })
   rest_last there =
       let line = blanked_row (is_blank_line so) (map (moved_entry n) es) in
@@ -318,7 +318,7 @@ module _ {S : Type 0} (edition : Edition) (y : Layout) (H front : List ℕ) wher
         let p = placed false (map view_entry told.entries.items) (standing told.len)
         (line_here other told false same newline read) is in
         let all = entries_of (b.so.entries ++ blanked_row (is_blank_line b.so) (map (moved_entry n) p.es)) in
-        let script : AScript = record { entries = all; wrong = None } in
+        let script : AScript = record { entries = all; fault = None } in
         let outcome : Outcome edition (front ++ H) script =
         b.from script (rest_last edition y H (front ++ H) q n b.so p.es p.t p.there) in
         let told : then.so_far ≡ printed y (shape_of (front ++ H) all) =

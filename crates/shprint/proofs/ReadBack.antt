@@ -29,7 +29,7 @@ module _ (edition : Edition) (y : Layout) (B : List ℕ) where
   record ScriptRead (so : SoFar) (p : ℕ) (es : Shape EntriesOf) : Type 0 where
     value : Row AnEntry
     told : Row Spelled
-    reads : Lines edition B so p (record { entries = entries_of (so.entries ++ value); wrong = None }) told
+    reads : Lines edition B so p (record { entries = entries_of (so.entries ++ value); fault = None }) told
     shape : shape_of B (entries_of value) ≡ es
 
   abbrev At : ℕ → Marks → Type 0
@@ -58,7 +58,7 @@ module _ (edition : Edition) (y : Layout) (B : List ℕ) where
       record {
         value = v ∷ others.value;
         told = one.line.reads.passes ++ others.told;
-        reads = subst (λ all. Lines edition B so p (record { entries = entries_of all; wrong = None })
+        reads = subst (λ all. Lines edition B so p (record { entries = entries_of all; fault = None })
             (one.line.reads.passes ++ others.told)) (append_assoc so.entries (v ∷ []) others.value) all;
         shape = shapes v others.value x es one.shape others.shape;
       }
@@ -110,7 +110,7 @@ module _ (edition : Edition) (y : Layout) (B : List ℕ) where
       record {
         value = others.value;
         told = line.reads.passes ++ others.told;
-        reads = subst (λ all. Lines edition B so p (record { entries = entries_of (all ++ others.value); wrong = None })
+        reads = subst (λ all. Lines edition B so p (record { entries = entries_of (all ++ others.value); fault = None })
             (line.reads.passes ++ others.told)) (append-nil so.entries) all;
         shape = others.shape;
       }
@@ -146,7 +146,7 @@ reads_back edition y B s is =
     ∙ script_in_normal_form edition B s (script_only edition B s is)) in
     let r = lines_read edition y T es nothing_yet 0 (script_readable edition B s is) normal.1
     (λ none. normal.0) refl refl in
-    let found : AScript = record { entries = entries_of r.value; wrong = None } in
+    let found : AScript = record { entries = entries_of r.value; fault = None } in
     let outcome : Outcome edition T found = (r.told, r.reads) in
     record {
       script = found;

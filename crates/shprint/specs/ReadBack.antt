@@ -15,7 +15,7 @@ IsOutcome bytes script = (edition : Edition) × Outcome edition bytes script
 pub record ReadsBack (edition : Edition) (text : List ℕ) (shape : Shape EntriesOf) : Type 0 where
   pub script : AScript
   pub outcome : Outcome edition text script
-  pub faultless : script.wrong ≡ None
+  pub faultless : script.fault ≡ None
   pub same : shape_of text script.entries ≡ shape
   pub only : (other : AScript) → Outcome edition text other → other ≡ script
 
@@ -24,6 +24,6 @@ pub record ReadsBack (edition : Edition) (text : List ℕ) (shape : Shape Entrie
 pub record IsTextOf (edition : Edition) (layout : Layout) (bytes text : List ℕ) : Type 0 where
   pub script : AScript
   pub outcome : Outcome edition bytes script
-  pub faultless : script.wrong ≡ None
+  pub faultless : script.fault ≡ None
   pub is : text ≡ printed layout (shape_of bytes script.entries)
   pub reads_back : ReadsBack edition text (shape_of bytes script.entries)

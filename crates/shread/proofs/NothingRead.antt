@@ -6,4 +6,4 @@ use Rattle.shgrammar.proofs.LineKinds.{nothing_read}
 
 pub no_fault : (edition : Edition) (B : List ℕ) → length B ≡ 0 → first_fault_from edition B 0 ≡ None
 unfolding first_fault_from script_at
-no_fault edition B e = ap (λ (s : AScript). s.wrong) (nothing_read edition B e)
+no_fault edition B e = ap (λ (s : AScript). s.fault) (nothing_read edition B e)

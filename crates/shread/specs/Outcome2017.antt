@@ -42,10 +42,10 @@ pub data Lines_2017 (B : List ℕ) : SoFar → ℕ → AScript → Row Spelled �
       Lines_2017 B (with_line so es) (p + t.at) s l → Lines_2017 B so p s (k ++ l)
   last_line : {so : SoFar} {p : ℕ} (es : Row AnEntry) (t : State) (k : Row Spelled) →
       may_2017 (the_line (is_blank_line so)) (given Y2017 (drop p B) p) (standing 0) (Ok ((es, false), t)) k
-      → Lines_2017 B so p (record { entries = entries_of (so.entries ++ es); wrong = None }) k
+      → Lines_2017 B so p (record { entries = entries_of (so.entries ++ es); fault = None }) k
   faulty : {so : SoFar} {p : ℕ} (f : Fault) (k : Row Spelled) →
       may_2017 (the_line (is_blank_line so)) (given Y2017 (drop p B) p) (standing 0) (Err f) k
-      → Lines_2017 B so p (record { entries = entries_of so.entries; wrong = Some f }) k
+      → Lines_2017 B so p (record { entries = entries_of so.entries; fault = Some f }) k
 
 -- what a script is
 abbrev pub Outcome_2017 : List ℕ → AScript → Type 0

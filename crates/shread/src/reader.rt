@@ -174,7 +174,7 @@ impl Reader {
             (λ fault. FirstFault (edition_of self.old) (S.bytes source.now) fault) }
         ensures only { IfOk result
             (λ fault. (a : AScript) → Outcome (edition_of self.old) (S.bytes source.now) a →
-            a.wrong ≡ fault) }
+            a.fault ≡ fault) }
         ensures within { IfOk result
             (λ fault. IfSome fault (λ f. f.at ≤ length (S.bytes source.now))) }
         ensures edition { edition_of self.new ≡ edition_of self.old }

@@ -34,7 +34,7 @@ returns-then-not-told-clause-value g c =
     let before = so_far c.lines.entries.items c.lines.lines.before.gap in
     let read = told_in (λ e B. LineReads e B before c.lines.lines.at) bytes _ c.args.edition _ (Ok line) inv.3 inv.5
     (c.in-Ok.ensures.line before inv.0) in
-    ap (λ es. record { entries = es; wrong = None }) c.list_of-then-not-told.ensures
+    ap (λ es. record { entries = es; fault = None }) c.list_of-then-not-told.ensures
     ∙ script_only c.args.edition bytes _
     (last_on c.args.edition bytes c.lines.entries.items c.append.new.self.items line.entries.items
     c.in_ok-append-in-Ok.ensures.items c.lines.lines c.read_next.new.self inv.1
@@ -56,7 +56,7 @@ returns-in-Err-clause-value g c =
     let before = so_far c.lines.entries.items c.lines.lines.before.gap in
     let read = told_in (λ e B. LineReads e B before c.lines.lines.at) bytes _ c.args.edition _
     (Err c.in-Err.stop) inv.3 inv.5 (c.in-Err.ensures.line before inv.0) in
-    ap (λ es. record { entries = es; wrong = Some fault }) c.list_of-in-Err.ensures
+    ap (λ es. record { entries = es; fault = Some fault }) c.list_of-in-Err.ensures
     ∙ script_only c.args.edition bytes _
     (inv.1 _ (leads_nowhere c.args.edition bytes before c.lines.lines.at c.in-Err.stop fault
     c.in_ok-fault-in-Err.ensures.wrong read))
