@@ -19,7 +19,7 @@ use Rattle.shgrammar.specs.Sights.{Given, the_piece, Move}
 use Rattle.shgrammar.specs.HereDocuments.{ADelimiter}
 use Rattle.shgrammar.specs.Form.{Spelled, Telling, move, token, step_if}
 use Rattle.shgrammar.specs.Words.{single, escaped_turn, backquoted_text, Inner, WordSoFar, having, opened, piece_row, a_piece, contents, a_word, dollar_single}
-use Rattle.shgrammar.specs.Commands.{is_newline_token, is_semicolon, a_semicolon, a_join_of, is_pipe, is_bang, begins_simple, begins_word, begins_redirect, opener_of, compound_by, and_or_operator_of, next_token, Items, so_many, breaks, after_word, is_number_token, redirect_operator_of, takes_here, is_long, is_strip, document_by, a_document, none_waits, nothing_waits, a_number, an_operator, operator_by, a_target, one_redirect, after_redirect, redirect_turn, with_redirect_list, an_item, item_by, item_turn, a_simple, comment_by, a_comment, a_newline, what_is_wrong, unexpected, JoinSo, join_so, with_comment, join_turn, a_join, a_command, a_bang, Piped, piped, one_command, pipe_turn, a_pipeline, Joined, joined_so, one_pipeline, joined_by, join_pipeline, an_and_or, separator_of, separator_by, a_separator, Entered, an_entry, a_word_command, is_word, is_paren, named_function, ASeparator, past_separator}
+use Rattle.shgrammar.specs.Commands.{is_newline_token, is_semicolon, a_semicolon, a_join_of, is_pipe, is_bang, begins_simple, begins_word, begins_redirect, opener_of, compound_by, and_or_operator_of, next_token, Items, so_many, breaks, after_word, is_number_token, redirect_operator_of, takes_here, is_long, is_strip, document_by, a_document, none_waits, nothing_waits, a_number, an_operator, operator_by, a_target, one_redirect, after_redirect, redirect_turn, with_redirect_list, an_item, item_by, item_turn, a_simple, comment_by, a_comment, a_newline, what_is_wrong, unexpected, JoinSo, join_so, with_comment, join_turn, a_join, a_command, a_bang, Piped, piped, one_command, pipe_turn, a_pipeline, Joined, joined_so, one_pipeline, joined_by, and_or_turn, an_and_or, separator_of, separator_by, a_separator, Entered, an_entry, a_word_command, is_word, is_paren, named_function, ASeparator, past_separator}
 use Rattle.shgrammar.specs.Compounds.{a_linebreak}
 use Rattle.shast.specs.Nodes.{word_span}
 use Rattle.shgrammar.proofs.Alike.{SameStep, SameHeld, All, Alike, alike_give, alike_push, alike_move, alike_stop_at, alike_stop, alike_then, alike_see, alike_same, alike_on, alike_pushed, alike_pick, alike_at, alike_when, alike_token, alike_change, alike_with_bytes, alike_many}
@@ -424,10 +424,10 @@ module _ {g : Given} {inner : Inner} (fits : Fits g inner) where
   alike_joined_by a b (Some o) same = alike_one_pipeline a b o same
   alike_joined_by a b None same = alike_give same
 
-  alike_join_pipeline : (a b : Joined) → SameJoined a b →
-      Alike g (SameStep SameJoined) (join_pipeline inner a) (join_pipeline inner b)
-  unfolding join_pipeline
-  alike_join_pipeline a b same =
+  alike_and_or_turn : (a b : Joined) → SameJoined a b →
+      Alike g (SameStep SameJoined) (and_or_turn inner a) (and_or_turn inner b)
+  unfolding and_or_turn
+  alike_and_or_turn a b same =
       subst (λ (n : Next). Alike g (SameStep SameJoined) (joined_by inner a (and_or_operator_of a.next.token))
       (joined_by inner b (and_or_operator_of n.token))) same
       (alike_joined_by a b (and_or_operator_of a.next.token) same)
@@ -436,8 +436,8 @@ module _ {g : Given} {inner : Inner} (fits : Fits g inner) where
   unfolding an_and_or
   alike_and_or n =
       alike_then (alike_pipeline n)
-      (λ p q same. alike_then (alike_many SameJoined (join_pipeline inner)
-      (join_pipeline inner) alike_join_pipeline (joined_so [] p.1) (joined_so [] q.1) same)
+      (λ p q same. alike_then (alike_many SameJoined (and_or_turn inner)
+      (and_or_turn inner) alike_and_or_turn (joined_so [] p.1) (joined_so [] q.1) same)
       (λ a b so. alike_give so))
 
   pub alike_entry : (blank pale : Bool) (n : Next) →

@@ -14,7 +14,7 @@ use Rattle.shast.specs.Shape.{shape_of_here, bare, bare_at, text_at, shape_of_en
 use Rattle.shgrammar.specs.Sights.{here, is_a_name, the_delimiter}
 use Rattle.shgrammar.specs.Form.{change, Form, Spelled}
 use Rattle.shgrammar.specs.Words.{Inner, a_word}
-use Rattle.shgrammar.specs.Commands.{is_strip, document, document_by, a_document, is_pipe, is_bang, begins_simple, begins_redirect, opener_of, compound_by, and_or_operator_of, Items, so_many, breaks, after_word, is_number_token, redirect_operator_of, takes_here, is_long, a_number, an_operator, operator_by, a_target, one_redirect, after_redirect, redirect_turn, with_redirect_list, as_item, an_item, item_by, item_turn, a_simple, a_command, a_bang, Piped, piped, one_command, pipe_turn, a_pipeline, Joined, joined_so, one_pipeline, joined_by, join_pipeline, an_and_or, is_background, ASeparator, past_separator, Entered, an_entry, is_word, is_paren, named_function, a_word_command}
+use Rattle.shgrammar.specs.Commands.{is_strip, document, document_by, a_document, is_pipe, is_bang, begins_simple, begins_redirect, opener_of, compound_by, and_or_operator_of, Items, so_many, breaks, after_word, is_number_token, redirect_operator_of, takes_here, is_long, a_number, an_operator, operator_by, a_target, one_redirect, after_redirect, redirect_turn, with_redirect_list, as_item, an_item, item_by, item_turn, a_simple, a_command, a_bang, Piped, piped, one_command, pipe_turn, a_pipeline, Joined, joined_so, one_pipeline, joined_by, and_or_turn, an_and_or, is_background, ASeparator, past_separator, Entered, an_entry, is_word, is_paren, named_function, a_word_command}
 use Rattle.shgrammar.proofs.Alike.{SameStep}
 use Rattle.shgrammar.proofs.Ahead.{ListEnds, same_name}
 use Rattle.shgrammar.specs.HereDocuments.{ADelimiter, waits}
@@ -383,8 +383,8 @@ module _ {edition : Edition} {T U : List ℕ} {a M : ℕ} {to : ℕ → ℕ} {li
   joined_by_same x y None same = gives same
 
   part_on : (x y : Joined) → SameParts x y →
-      Goes2 (SameStep SameParts) (join_pipeline inner x) (join_pipeline inner y)
-  unfolding join_pipeline
+      Goes2 (SameStep SameParts) (and_or_turn inner x) (and_or_turn inner y)
+  unfolding and_or_turn
   part_on x y same =
       subst (λ (n : Next). Goes2 (SameStep SameParts) (joined_by inner x (and_or_operator_of x.next.token))
       (joined_by inner y (and_or_operator_of n.token))) same.1
@@ -404,7 +404,7 @@ module _ {edition : Edition} {T U : List ℕ} {a M : ℕ} {to : ℕ → ℕ} {li
           (an_and_or inner n) (an_and_or inner n)
       one n =
           then (pipeline_same n n refl)
-          (λ p q so. then (repeats SameParts (join_pipeline inner) (join_pipeline inner) part_on
+          (λ p q so. then (repeats SameParts (and_or_turn inner) (and_or_turn inner) part_on
           (joined_so [] p.1) (joined_so [] q.1) (refl, so.1))
           (λ x y same. gives (rw (so.0, parts_same x y same) refl, same.1)))
 

@@ -23,7 +23,7 @@ use Rattle.shgrammar.specs.Sights.{Given, State}
 use Rattle.shgrammar.specs.HereDocuments.{ADelimiter}
 use Rattle.shgrammar.specs.Form.{Spelled, push, many}
 use Rattle.shgrammar.specs.Words.{Inner, WordSoFar, having, opened, piece_row, a_piece, contents, a_word}
-use Rattle.shgrammar.specs.Commands.{is_pipe, is_bang, begins_simple, begins_redirect, begins_pipeline, after_word, opener_of, compound_by, and_or_operator_of, breaks, Items, so_many, is_number_token, redirect_operator_of, is_strip, takes_here, document_by, a_document, a_number, an_operator, operator_by, a_target, one_redirect, after_redirect, redirect_turn, with_redirect_list, as_item, an_item, item_by, item_turn, a_simple, a_bang, a_comment, comment_by, unexpected, with_comment, JoinSo, join_turn, a_join, a_command, Piped, piped, one_command, pipe_turn, a_pipeline, Joined, joined_so, one_pipeline, joined_by, join_pipeline, an_and_or, an_entry, a_word_command, is_word, is_paren, separator_of, separator_by, a_separator, past_separator}
+use Rattle.shgrammar.specs.Commands.{is_pipe, is_bang, begins_simple, begins_redirect, begins_pipeline, after_word, opener_of, compound_by, and_or_operator_of, breaks, Items, so_many, is_number_token, redirect_operator_of, is_strip, takes_here, document_by, a_document, a_number, an_operator, operator_by, a_target, one_redirect, after_redirect, redirect_turn, with_redirect_list, as_item, an_item, item_by, item_turn, a_simple, a_bang, a_comment, comment_by, unexpected, with_comment, JoinSo, join_turn, a_join, a_command, Piped, piped, one_command, pipe_turn, a_pipeline, Joined, joined_so, one_pipeline, joined_by, and_or_turn, an_and_or, an_entry, a_word_command, is_word, is_paren, separator_of, separator_by, a_separator, past_separator}
 use Rattle.shgrammar.specs.Lists.{ListSo, list_so, none_listed, one_entry, entry_turn, remark_by, a_remark, on_line, list_turn, a_list}
 use Rattle.shgrammar.specs.Compounds.{a_linebreak}
 use Rattle.shast.specs.Everywhere.{IsSome}
@@ -350,16 +350,16 @@ module _ {g : Given} {limit : ℕ} where
     joined_in_by a (Some o) s so = one_pipeline_in a o s so
     joined_in_by a None s so = gives so
 
-    join_pipeline_in : (a : Joined) (s : State) → PartsIn limit a →
-        UpTo g limit (join_pipeline inner a) (Stepped (PartsIn limit)) s
-    unfolding join_pipeline
-    join_pipeline_in a s so = joined_in_by a (and_or_operator_of a.next.token) s so
+    and_or_turn_in : (a : Joined) (s : State) → PartsIn limit a →
+        UpTo g limit (and_or_turn inner a) (Stepped (PartsIn limit)) s
+    unfolding and_or_turn
+    and_or_turn_in a s so = joined_in_by a (and_or_operator_of a.next.token) s so
 
     and_or_in : (n : Next) (s : State) → UpTo g limit (an_and_or inner n) (λ a. AndOrIn limit a.0) s
     unfolding an_and_or
     and_or_in n s =
         first (pipeline_in n s) (λ p t one. first
-        (repeats (PartsIn limit) (join_pipeline inner) join_pipeline_in (joined_so [] p.1) t
+        (repeats (PartsIn limit) (and_or_turn inner) and_or_turn_in (joined_so [] p.1) t
         (All-nil (PartIn limit)))
         (λ a u all. gives (one, parts_in limit a.parts all)))
 

@@ -16,7 +16,7 @@ use Rattle.shgrammar.specs.declared.token.Separator.{Separator}
 use Rattle.shgrammar.specs.HereDocuments.{ADelimiter}
 use Rattle.shgrammar.specs.Form.{Spelled, give, many, Step, again, done, step_if}
 use Rattle.shgrammar.specs.Words.{Inner}
-use Rattle.shgrammar.specs.Commands.{is_empty, begins_redirect, begins_simple, after_word, redirect_operator_of, Items, so_many, breaks, as_item, an_item, a_number, is_strip, an_operator, operator_by, a_target, document, document_by, a_document, one_redirect, after_redirect, item_by, item_turn, a_simple, a_newline, a_semicolon, none_waits, nothing_waits, JoinSo, join_so, a_join_of, with_comment, join_turn, a_join, redirect_turn, with_redirect_list, compound_by, opener_of, named_function, a_word_command, a_command, a_bang, Piped, piped, one_command, pipe_turn, a_pipeline, Joined, joined_so, one_pipeline, joined_by, join_pipeline, and_or_operator_of, an_and_or, ASeparator, separator_by, separator_of, a_separator}
+use Rattle.shgrammar.specs.Commands.{is_empty, begins_redirect, begins_simple, after_word, redirect_operator_of, Items, so_many, breaks, as_item, an_item, a_number, is_strip, an_operator, operator_by, a_target, document, document_by, a_document, one_redirect, after_redirect, item_by, item_turn, a_simple, a_newline, a_semicolon, none_waits, nothing_waits, JoinSo, join_so, a_join_of, with_comment, join_turn, a_join, redirect_turn, with_redirect_list, compound_by, opener_of, named_function, a_word_command, a_command, a_bang, Piped, piped, one_command, pipe_turn, a_pipeline, Joined, joined_so, one_pipeline, joined_by, and_or_turn, and_or_operator_of, an_and_or, ASeparator, separator_by, separator_of, a_separator}
 use Rattle.shgrammar.proofs.Moved.{Place, Any, same, each, first, of_first, step, of_step, Moves, moves_give, moves_move, moves_stop, moves_so, moves_then, moves_see, moves_here, moves_see_waiting, moves_on, moves_pushed, moves_push, moves_pick_by, moves_pick, moves_token, moves_with_bytes, moves_many, moves_waits, moves_newline}
 use Rattle.shgrammar.proofs.MovedTrees.{is_empty_map, pushed_some, span_to, join_to, here_to, word_to, item_to, command_to, pipe_to, pipeline_to, part_to, and_or_to, items_row, pipes_row, parts_row, redirects_to, word_span_to, CommandEnds, simple_ends, redirects_end, PipeEnds, PipelineEnds, pipeline_ends, PartEnds, AndOrEnds, and_or_ends}
 use Rattle.shgrammar.proofs.MovedWords.{Fits, moves_next, moves_mark, moves_comment, moves_word, moves_unexpected}
@@ -330,10 +330,10 @@ module _ (z : Place) where
     moves_joined_by a (Some o) all = moves_one_pipeline a o all
     moves_joined_by a None all = moves_give refl all
 
-    moves_join_pipeline : (a : Joined) → JoinedEnd a →
-        Moves z (step joined_to) (of_step JoinedEnd) (join_pipeline inner a) (join_pipeline inner (joined_to a))
-    unfolding join_pipeline
-    moves_join_pipeline a all = moves_joined_by a (and_or_operator_of a.next.token) all
+    moves_and_or_turn : (a : Joined) → JoinedEnd a →
+        Moves z (step joined_to) (of_step JoinedEnd) (and_or_turn inner a) (and_or_turn inner (joined_to a))
+    unfolding and_or_turn
+    moves_and_or_turn a all = moves_joined_by a (and_or_operator_of a.next.token) all
 
     pub moves_and_or : (n : Next) →
         Moves z (first {Y = Next} (and_or_to k deep)) (of_first (AndOrEnds k deep)) (an_and_or inner n)
@@ -341,8 +341,8 @@ module _ (z : Place) where
     unfolding an_and_or
     moves_and_or n =
         moves_then (moves_pipeline n)
-        (λ p ends. moves_then (moves_many joined_to JoinedEnd JoinedEnd (join_pipeline inner)
-        (join_pipeline inner) moves_join_pipeline (λ a all. all) (joined_so [] p.1) (All-nil (PartEnds k deep)))
+        (λ p ends. moves_then (moves_many joined_to JoinedEnd JoinedEnd (and_or_turn inner)
+        (and_or_turn inner) moves_and_or_turn (λ a all. all) (joined_so [] p.1) (All-nil (PartEnds k deep)))
         (λ a all. moves_give (ap (λ ps. (and_or (pipeline_to k deep p.0) ps, a.next)) (parts_row k deep a.parts))
         (and_or_ends k deep p.0 a.parts ends all)))
 

@@ -19,7 +19,7 @@ use Rattle.shast.specs.Normal.{is_blank_entry, is_broken, is_command, holds_comm
 use Rattle.shgrammar.specs.Sights.{Given, given, State, standing}
 use Rattle.shgrammar.specs.Form.{Read, Form, push, both, step_if}
 use Rattle.shgrammar.specs.Words.{Inner, WordSoFar, having, opened, piece_row, a_piece, contents, a_word}
-use Rattle.shgrammar.specs.Commands.{is_empty, pick, is_pipe, begins_simple, begins_word, begins_redirect, begins_pipeline, opener_of, compound_by, and_or_operator_of, breaks, Items, so_many, after_word, a_target, one_redirect, after_redirect, redirect_turn, with_redirect_list, as_item, an_item, item_by, item_turn, a_simple, unexpected, with_comment, JoinSo, join_turn, a_join, a_command, Piped, piped, one_command, pipe_turn, a_pipeline, Joined, joined_so, one_pipeline, joined_by, join_pipeline, an_and_or, an_entry, a_word_command, is_word, is_paren}
+use Rattle.shgrammar.specs.Commands.{is_empty, pick, is_pipe, begins_simple, begins_word, begins_redirect, begins_pipeline, opener_of, compound_by, and_or_operator_of, breaks, Items, so_many, after_word, a_target, one_redirect, after_redirect, redirect_turn, with_redirect_list, as_item, an_item, item_by, item_turn, a_simple, unexpected, with_comment, JoinSo, join_turn, a_join, a_command, Piped, piped, one_command, pipe_turn, a_pipeline, Joined, joined_so, one_pipeline, joined_by, and_or_turn, an_and_or, an_entry, a_word_command, is_word, is_paren}
 use Rattle.shgrammar.specs.Lists.{Listed, ListSo, list_so, none_listed, is_blank_next, with_command, with_remark, next_line, one_entry, entry_turn, remark_by, a_remark, on_line, list_turn, a_list}
 use Rattle.shgrammar.specs.Compounds.{Branched, branched, Closed, is_closing, a_branch, elif_turn, an_else, an_if, a_loop, a_group, a_for_name, word_turn, for_words, a_for_head, after_remarks, a_for, a_form, a_compound, a_function, under_name, a_case_word, begins_pattern, Patterned, a_pattern, one_pattern, pattern_turn, a_pattern_list, a_body, CasesSo, cases_so, one_case, case_turn, a_case_head, a_case}
 use Rattle.shgrammar.specs.Substitutions.{substitution_list, a_substitution, one_substitution}
@@ -469,17 +469,17 @@ module _ (g : Given) where
     normal_joined_by a (Some o) s so = normal_one_pipeline a o s so
     normal_joined_by a None s so = tells_give Whole g so
 
-    normal_join_pipeline : (a : Joined) (s : State) → JoinedHolds a s →
-        N (join_pipeline inner a) (Turned Whole g JoinedHolds) s
-    unfolding join_pipeline
-    normal_join_pipeline a s so = normal_joined_by a (and_or_operator_of a.next.token) s so
+    normal_and_or_turn : (a : Joined) (s : State) → JoinedHolds a s →
+        N (and_or_turn inner a) (Turned Whole g JoinedHolds) s
+    unfolding and_or_turn
+    normal_and_or_turn a s so = normal_joined_by a (and_or_operator_of a.next.token) s so
 
     normal_and_or : (n : Next) (s : State) → N (an_and_or inner n) (λ a t. is_normal_and_or a.0 ≡ true) s
     unfolding an_and_or
     normal_and_or n s =
         tells_then Whole g (normal_pipeline n s)
         (λ p t good. tells_then Whole g
-        (tells_many Whole g (join_pipeline inner) JoinedHolds normal_join_pipeline (joined_so [] p.1) t refl)
+        (tells_many Whole g (and_or_turn inner) JoinedHolds normal_and_or_turn (joined_so [] p.1) t refl)
         (λ a u all. tells_give Whole g (and_from _ _ good all)))
 
     normal_entry : (blank : Bool) (n : Next) (s : State) →

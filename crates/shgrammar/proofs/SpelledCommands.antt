@@ -17,7 +17,7 @@ use Rattle.shast.specs.Spelling.{Tokens, and_or_text, redirect_text, spell_numbe
 use Rattle.shgrammar.specs.Sights.{Given, State}
 use Rattle.shgrammar.specs.Form.{Spelled, tell}
 use Rattle.shgrammar.specs.Words.{Inner}
-use Rattle.shgrammar.specs.Commands.{is_pipe, is_bang, begins_simple, begins_redirect, opener_of, compound_by, and_or_operator_of, Items, so_many, after_word, is_number_token, redirect_operator_of, takes_here, is_strip, document_by, a_document, a_number, an_operator, operator_by, a_target, one_redirect, after_redirect, redirect_turn, with_redirect_list, as_item, breaks, an_item, item_by, item_turn, a_simple, a_command, a_bang, Piped, piped, one_command, pipe_turn, a_pipeline, Joined, joined_so, one_pipeline, joined_by, join_pipeline, an_and_or, separator_of, told_separator, separator_by, a_separator, is_background, an_entry, a_word_command, is_word, is_paren}
+use Rattle.shgrammar.specs.Commands.{is_pipe, is_bang, begins_simple, begins_redirect, opener_of, compound_by, and_or_operator_of, Items, so_many, after_word, is_number_token, redirect_operator_of, takes_here, is_strip, document_by, a_document, a_number, an_operator, operator_by, a_target, one_redirect, after_redirect, redirect_turn, with_redirect_list, as_item, breaks, an_item, item_by, item_turn, a_simple, a_command, a_bang, Piped, piped, one_command, pipe_turn, a_pipeline, Joined, joined_so, one_pipeline, joined_by, and_or_turn, an_and_or, separator_of, told_separator, separator_by, a_separator, is_background, an_entry, a_word_command, is_word, is_paren}
 use Rattle.shgrammar.specs.HereDocuments.{ADelimiter}
 use Rattle.shast.specs.Nodes.{word_span}
 use Rattle.shgrammar.proofs.Spelling.{Passing, pass_give, pass_stop, pass_so, pass_then, Silent, pass_on, pass_last, pass_see, pass_pushed, pass_token, pass_with_bytes, pass_change, OneText, pass_text, pass_pick, Grows, grows_none, pass_many, silent_next, silent_comment, silent_join, pass_unexpected, raw_at, pass_word}
@@ -270,9 +270,9 @@ module _ {B : List ℕ} {g : Given} {stands : g.text ≡ drop g.offset B} {inner
       (joined_last B a.parts (record { operator = o; join = j.0; pipeline = p.0 })
       ∙ ap (λ z. spelled_joined a ++ z) (rw (is, so) (ap (λ z. and_or_text o ∷ z) (sym (append-nil _)))))))))
 
-  pass_join_pipeline : (a : Joined) (s : State) → Passing g (join_pipeline inner a) (Grows g spelled_joined a) s
-  unfolding join_pipeline
-  pass_join_pipeline a s = by_operator (and_or_operator_of a.next.token)
+  pass_and_or_turn : (a : Joined) (s : State) → Passing g (and_or_turn inner a) (Grows g spelled_joined a) s
+  unfolding and_or_turn
+  pass_and_or_turn a s = by_operator (and_or_operator_of a.next.token)
     where
       by_operator : (o : Option AndOrOperator) → Passing g (joined_by inner a o) (Grows g spelled_joined a) s
       by_operator (Some o) = pass_one_pipeline a o s
@@ -283,7 +283,7 @@ module _ {B : List ℕ} {g : Given} {stands : g.text ≡ drop g.offset B} {inner
   unfolding an_and_or
   pass_and_or n s =
       pass_then g (pass_pipeline n s) (λ p t k is.
-      pass_last g (pass_many g spelled_joined (join_pipeline inner) pass_join_pipeline (joined_so [] p.1) t)
+      pass_last g (pass_many g spelled_joined (and_or_turn inner) pass_and_or_turn (joined_so [] p.1) t)
       (λ a m all. rw (is, ← all) refl))
 
   -- ---- entries

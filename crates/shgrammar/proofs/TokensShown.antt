@@ -25,7 +25,7 @@ use Rattle.shgrammar.specs.Tokens.{begins_assignment, first_word, is_number, res
 use Rattle.shgrammar.specs.Sights.{Given, State}
 use Rattle.shgrammar.specs.Form.{Spelled, Form, push, both, many, step_if}
 use Rattle.shgrammar.specs.Words.{Inner}
-use Rattle.shgrammar.specs.Commands.{pick, next_token, is_newline_token, is_semicolon, a_semicolon, is_pipe, is_bang, begins_simple, begins_word, begins_redirect, begins_pipeline, opener_of, compound_by, and_or_operator_of, Items, so_many, breaks, after_word, one_redirect, after_redirect, redirect_turn, with_redirect_list, an_item, item_by, item_turn, a_simple, unexpected, comment_by, a_comment, a_newline, with_comment, JoinSo, join_turn, a_join, a_command, a_bang, Piped, piped, one_command, pipe_turn, a_pipeline, Joined, joined_so, one_pipeline, joined_by, join_pipeline, an_and_or, separator_of, separator_by, a_separator, an_entry, is_paren, is_word, a_word_command, ends_item, falls_through}
+use Rattle.shgrammar.specs.Commands.{pick, next_token, is_newline_token, is_semicolon, a_semicolon, is_pipe, is_bang, begins_simple, begins_word, begins_redirect, begins_pipeline, opener_of, compound_by, and_or_operator_of, Items, so_many, breaks, after_word, one_redirect, after_redirect, redirect_turn, with_redirect_list, an_item, item_by, item_turn, a_simple, unexpected, comment_by, a_comment, a_newline, with_comment, JoinSo, join_turn, a_join, a_command, a_bang, Piped, piped, one_command, pipe_turn, a_pipeline, Joined, joined_so, one_pipeline, joined_by, and_or_turn, an_and_or, separator_of, separator_by, a_separator, an_entry, is_paren, is_word, a_word_command, ends_item, falls_through}
 use Rattle.shgrammar.specs.Lists.{ListSo, list_so, none_listed, one_entry, entry_turn, remark_by, a_remark, on_line, list_turn, a_list}
 use Rattle.shgrammar.specs.Compounds.{Branched, branched, Closed, is_closing, is_open_paren, is_close_paren, reserved_or_paren, closing, a_branch, elif_turn, an_else, an_if, a_loop, a_group, a_for_name, a_linebreak, a_sequential_sep, Headed, word_turn, for_words, a_for_head, a_for, a_form, a_compound, a_function, a_case_word, begins_pattern, Patterned, a_pattern, one_pattern, pattern_turn, a_pattern_list, a_body, ItemEnd, an_ender, an_item_end, CasesSo, cases_so, one_case, case_turn, a_case_head, a_case}
 use Rattle.shgrammar.specs.Levels.{level}
@@ -246,17 +246,17 @@ module _ (g : Given) where
         (λ p v good. pushed_on (tells_give Whole g good))))
     shown_joined_by a None s so = tells_give Whole g so
 
-    shown_join_pipeline : (a : Joined) (s : State) → Begins a.next s →
-        N (join_pipeline inner a) (Turned Whole g JoinedShown) s
-    unfolding join_pipeline
-    shown_join_pipeline a s so = shown_joined_by a (and_or_operator_of a.next.token) s so
+    shown_and_or_turn : (a : Joined) (s : State) → Begins a.next s →
+        N (and_or_turn inner a) (Turned Whole g JoinedShown) s
+    unfolding and_or_turn
+    shown_and_or_turn a s so = shown_joined_by a (and_or_operator_of a.next.token) s so
 
     shown_and_or : (n : Next) (s : State) → Begins n s → N (an_and_or inner n) Behind s
     unfolding an_and_or
     shown_and_or n s so =
         tells_then Whole g (shown_pipeline n s so)
         (λ p t one. tells_then Whole g
-        (tells_many Whole g (join_pipeline inner) JoinedShown shown_join_pipeline (joined_so [] p.1) t one)
+        (tells_many Whole g (and_or_turn inner) JoinedShown shown_and_or_turn (joined_so [] p.1) t one)
         (λ a u good. tells_give Whole g good))
 
     shown_entry : (blank : Bool) (n : Next) (s : State) → Begins n s →

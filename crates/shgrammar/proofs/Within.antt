@@ -33,7 +33,7 @@ use Rattle.shgrammar.specs.Sights.{Given, given, State, standing, here, one_byte
 use Rattle.shgrammar.specs.HereDocuments.{own_level}
 use Rattle.shgrammar.specs.Form.{with_bytes, a_level, Spelled, Telling, Read, Form, give, move, push, both, many, token, ends_as, does, Step, again, done, step_if, pushed, see, grows, inside}
 use Rattle.shgrammar.specs.Words.{Inner, WordSoFar, having, opened, piece_row, a_piece, contents, a_word}
-use Rattle.shgrammar.specs.Commands.{pick, is_pipe, is_bang, begins_simple, begins_word, begins_redirect, begins_pipeline, opener_of, compound_by, and_or_operator_of, breaks, Items, so_many, after_word, is_number_token, redirect_operator_of, is_strip, a_number, an_operator, operator_by, a_target, one_redirect, after_redirect, redirect_turn, with_redirect_list, as_item, an_item, item_by, item_turn, a_simple, a_bang, a_comment, comment_by, unexpected, with_comment, JoinSo, join_turn, a_join, a_command, Piped, piped, one_command, pipe_turn, a_pipeline, Joined, joined_so, one_pipeline, joined_by, join_pipeline, an_and_or, is_background, an_entry, a_word_command, is_word, is_paren, separator_of, separator_by, a_separator, past_separator, ends_item, falls_through}
+use Rattle.shgrammar.specs.Commands.{pick, is_pipe, is_bang, begins_simple, begins_word, begins_redirect, begins_pipeline, opener_of, compound_by, and_or_operator_of, breaks, Items, so_many, after_word, is_number_token, redirect_operator_of, is_strip, a_number, an_operator, operator_by, a_target, one_redirect, after_redirect, redirect_turn, with_redirect_list, as_item, an_item, item_by, item_turn, a_simple, a_bang, a_comment, comment_by, unexpected, with_comment, JoinSo, join_turn, a_join, a_command, Piped, piped, one_command, pipe_turn, a_pipeline, Joined, joined_so, one_pipeline, joined_by, and_or_turn, an_and_or, is_background, an_entry, a_word_command, is_word, is_paren, separator_of, separator_by, a_separator, past_separator, ends_item, falls_through}
 use Rattle.shgrammar.specs.Lists.{ListSo, list_so, none_listed, is_blank_next, one_entry, entry_turn, remark_by, a_remark, on_line, list_turn, a_list, Listed}
 use Rattle.shgrammar.specs.Compounds.{Branched, branched, Closed, is_closing, is_open_paren, is_close_paren, reserved_or_paren, closing, a_branch, elif_turn, an_else, an_if, a_loop, a_group, a_for_name, a_linebreak, a_sequential_sep, Headed, word_turn, for_words, a_for_head, after_remarks, a_for, a_form, held_apart, a_compound, a_function, under_name, a_case_word, begins_pattern, Patterned, a_pattern, one_pattern, pattern_turn, a_pattern_list, a_body, body_end, ItemEnd, an_ender, an_item_end, CasesSo, cases_so, one_case, case_turn, a_case_head, a_case}
 use Rattle.shgrammar.specs.Substitutions.{substitution_list, a_substitution, one_substitution}
@@ -432,15 +432,15 @@ module _ (keep : Keep) (g : Given) (limit : ℕ) where
     joined_fits_by a (Some o) s so = one_pipeline_fits a o s so
     joined_fits_by a None s so = gives so
 
-    join_pipeline_fits : (a : Joined) (s : State) → PartsFit a → R (join_pipeline inner a) (Stepped PartsFit) s
-    unfolding join_pipeline
-    join_pipeline_fits a s so = joined_fits_by a (and_or_operator_of a.next.token) s so
+    and_or_turn_fits : (a : Joined) (s : State) → PartsFit a → R (and_or_turn inner a) (Stepped PartsFit) s
+    unfolding and_or_turn
+    and_or_turn_fits a s so = joined_fits_by a (and_or_operator_of a.next.token) s so
 
     and_or_fits : (n : Next) (s : State) → R (an_and_or inner n) (λ a. Nodes limit (and_or_nodes a.0)) s
     unfolding an_and_or
     and_or_fits n s =
         first (pipeline_fits n s) (λ p t one. first
-        (repeats PartsFit (join_pipeline inner) join_pipeline_fits (joined_so [] p.1) t (All-nil (PartFits limit)))
+        (repeats PartsFit (and_or_turn inner) and_or_turn_fits (joined_so [] p.1) t (All-nil (PartFits limit)))
         (λ a u all. gives (fits_and_or limit p.0 a.parts one all)))
 
     -- the offset after a separator

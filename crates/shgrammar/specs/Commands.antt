@@ -414,12 +414,12 @@ joined_by inner a (Some o) = one_pipeline inner a o
 joined_by inner a None = give (done a)
 
 -- one more, or none
-unfoldable pub join_pipeline : Inner → Joined → Form (Step Joined)
-join_pipeline inner a = joined_by inner a (and_or_operator_of a.next.token)
+unfoldable pub and_or_turn : Inner → Joined → Form (Step Joined)
+and_or_turn inner a = joined_by inner a (and_or_operator_of a.next.token)
 
 unfoldable pub an_and_or : Inner → Next → Form (AnAndOr × Next)
 an_and_or inner n = a_pipeline inner n >>= λ p.
-    many (join_pipeline inner) (joined_so [] p.1) >>= λ a.
+    many (and_or_turn inner) (joined_so [] p.1) >>= λ a.
     give (and_or p.0 (and_or_parts_of a.parts), a.next)
 
 -- ---- entries of a list (XCU 2.9.3)

@@ -23,7 +23,7 @@ use Rattle.shgrammar.specs.declared.token.Token.TheVariants as tokens
 use Rattle.shgrammar.specs.Bytes.{past_byte}
 use Rattle.shgrammar.specs.Characters.{number_sign}
 use Rattle.shgrammar.specs.Classes.{is_digit, is_name}
-use Rattle.shgrammar.specs.Commands.{pick, next_token, is_newline_token, is_semicolon, a_semicolon, is_pipe, is_bang, begins_simple, begins_word, begins_redirect, begins_pipeline, opener_of, compound_by, and_or_operator_of, Items, so_many, breaks, after_word, one_redirect, after_redirect, redirect_turn, with_redirect_list, an_item, item_by, item_turn, a_simple, unexpected, comment_by, a_comment, a_newline, with_comment, JoinSo, join_turn, a_join, a_command, a_bang, Piped, piped, one_command, pipe_turn, a_pipeline, Joined, one_pipeline, joined_by, join_pipeline, an_and_or, separator_of, separator_by, a_separator, an_entry, is_paren, is_word, a_word_command, ends_item, falls_through, is_long, is_number_token, is_strip, redirect_operator_of, a_number, an_operator, operator_by, a_target, a_document, document_by, takes_here}
+use Rattle.shgrammar.specs.Commands.{pick, next_token, is_newline_token, is_semicolon, a_semicolon, is_pipe, is_bang, begins_simple, begins_word, begins_redirect, begins_pipeline, opener_of, compound_by, and_or_operator_of, Items, so_many, breaks, after_word, one_redirect, after_redirect, redirect_turn, with_redirect_list, an_item, item_by, item_turn, a_simple, unexpected, comment_by, a_comment, a_newline, with_comment, JoinSo, join_turn, a_join, a_command, a_bang, Piped, piped, one_command, pipe_turn, a_pipeline, Joined, one_pipeline, joined_by, and_or_turn, an_and_or, separator_of, separator_by, a_separator, an_entry, is_paren, is_word, a_word_command, ends_item, falls_through, is_long, is_number_token, is_strip, redirect_operator_of, a_number, an_operator, operator_by, a_target, a_document, document_by, takes_here}
 use Rattle.shgrammar.specs.Comments.{comment_at, past_comment}
 use Rattle.shgrammar.specs.Compounds.{Branched, branched, Closed, is_closing, is_open_paren, is_close_paren, past_opener, reserved_or_paren, closing, a_branch, elif_turn, an_else, an_if, a_loop, a_group, a_for_name, a_linebreak, a_sequential_sep, begins_words, Headed, word_turn, for_words, a_for_head, a_for, a_form, a_compound, a_function, a_case_word, begins_pattern, Patterned, a_pattern, one_pattern, pattern_turn, a_pattern_list, an_open_bracket, a_body, ItemEnd, an_ender, an_item_end, CasesSo, cases_so, one_case, case_turn, a_case_head, a_case}
 use Rattle.shgrammar.specs.Form.{Form, Spelled, Telling, give, see, move, push, both, change, many, step_if, token}
@@ -411,10 +411,10 @@ module _ (g : Given) where
     abbrev JoinedHanded : Joined → State → Type 0
     JoinedHanded a t = Handed a.next t
 
-    join_pipeline_in : (a : Joined) (s : State) → Handed a.next s
-        → N (join_pipeline inner a) (Turned Whole g JoinedHanded) s
-    unfolding join_pipeline one_pipeline
-    join_pipeline_in a s so = by_operator (and_or_operator_of a.next.token) refl
+    and_or_turn_in : (a : Joined) (s : State) → Handed a.next s
+        → N (and_or_turn inner a) (Turned Whole g JoinedHanded) s
+    unfolding and_or_turn one_pipeline
+    and_or_turn_in a s so = by_operator (and_or_operator_of a.next.token) refl
       where
         by_operator : (o : Option AndOrOperator) → and_or_operator_of a.next.token ≡ o
             → N (joined_by inner a o) (Turned Whole g JoinedHanded) s
@@ -428,7 +428,7 @@ module _ (g : Given) where
     unfolding an_and_or
     and_or_in n s so =
         pipeline_in n s so ▹ λ p t one.
-        tells_many Whole g (join_pipeline inner) JoinedHanded join_pipeline_in _ t one ▹ λ a u good.
+        tells_many Whole g (and_or_turn inner) JoinedHanded and_or_turn_in _ t one ▹ λ a u good.
         gives good
 
     entry_in : (blank : Bool) (n : Next) (s : State) → Handed n s

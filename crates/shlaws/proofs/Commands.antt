@@ -20,7 +20,7 @@ use Rattle.shgrammar.specs.Shows.{IsRead}
 use Rattle.shgrammar.specs.Sights.{Given, State, one_byte}
 use Rattle.shgrammar.specs.Tokens.{is_end}
 use Rattle.shgrammar.specs.Words.{Inner}
-use Rattle.shgrammar.specs.Commands.{ASeparator, Items, Joined, JoinSo, Piped, a_bang, a_command, a_comment, a_document, a_join, a_newline, a_number, a_pipeline, a_semicolon, a_separator, a_simple, a_target, a_word_command, an_and_or, an_entry, an_item, an_operator, and_or_operator_of, begins_redirect, begins_simple, begins_word, after_redirect, after_word, breaks, comment_by, compound_by, document_by, is_bang, is_long, is_newline_token, is_number_token, is_paren, is_pipe, is_semicolon, is_strip, is_word, item_by, item_turn, join_pipeline, join_turn, joined_by, joined_so, next_token, none_waits, nothing_waits, one_command, one_pipeline, one_redirect, opener_of, operator_by, past_separator, pipe_turn, piped, redirect_operator_of, redirect_turn, with_redirect_list, separator_by, separator_of, so_many, takes_here, unexpected, what_is_wrong, with_comment}
+use Rattle.shgrammar.specs.Commands.{ASeparator, Items, Joined, JoinSo, Piped, a_bang, a_command, a_comment, a_document, a_join, a_newline, a_number, a_pipeline, a_semicolon, a_separator, a_simple, a_target, a_word_command, an_and_or, an_entry, an_item, an_operator, and_or_operator_of, begins_redirect, begins_simple, begins_word, after_redirect, after_word, breaks, comment_by, compound_by, document_by, is_bang, is_long, is_newline_token, is_number_token, is_paren, is_pipe, is_semicolon, is_strip, is_word, item_by, item_turn, and_or_turn, join_turn, joined_by, joined_so, next_token, none_waits, nothing_waits, one_command, one_pipeline, one_redirect, opener_of, operator_by, past_separator, pipe_turn, piped, redirect_operator_of, redirect_turn, with_redirect_list, separator_by, separator_of, so_many, takes_here, unexpected, what_is_wrong, with_comment}
 use Rattle.shgrammar.proofs.Places.{after_low}
 use Rattle.shgrammar.proofs.Shown.{shown_in}
 use Rattle.shlaws.proofs.Forms.{Goes, Steps, ahead, beyond, changing, first, follows, gives, leads_byte, leads_far, leads_from, led, led_on, moves, moves_to, picks, picks_by, pushes, repeats, sees, step_by, stops, tokens as one_token, with_the_bytes}
@@ -315,16 +315,16 @@ module _ (g : Given) where
         (λ j u one. first g (pipeline_on j.1 u one) (λ p v good. pushes g (gives g good)))))
     joined_on_by a s so None is = gives g so
 
-    join_pipeline_on : (a : Joined) (s : State) → Begins g a.next s
-        → Goes g (join_pipeline inner a) (Steps g JoinedShown s) s
-    unfolding join_pipeline
-    join_pipeline_on a s so = joined_on_by a s so (and_or_operator_of a.next.token) refl
+    and_or_turn_on : (a : Joined) (s : State) → Begins g a.next s
+        → Goes g (and_or_turn inner a) (Steps g JoinedShown s) s
+    unfolding and_or_turn
+    and_or_turn_on a s so = joined_on_by a s so (and_or_operator_of a.next.token) refl
 
     and_or_on : (n : Next) (s : State) → Begins g n s → Goes g (an_and_or inner n) Behind s
     unfolding an_and_or
     and_or_on n s so =
         first g (pipeline_on n s so)
-        (λ p t one. first g (repeats g JoinedShown join_pipeline_on (joined_so [] p.1) t one)
+        (λ p t one. first g (repeats g JoinedShown and_or_turn_on (joined_so [] p.1) t one)
         (λ a u good. gives g good))
 
     -- ---- entries

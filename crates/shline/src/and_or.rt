@@ -2,7 +2,7 @@
 ghost use Rattle.std.specs.Prelude.{[]};
 ghost use Rattle.shgrammar.specs.Bytes.{past_byte};
 ghost use Rattle.shline.specs.Clauses.{Adds, IsLong, TokenToToken, Turns};
-ghost use Rattle.shgrammar.specs.Commands.{join_pipeline, joined_so, one_pipeline};
+ghost use Rattle.shgrammar.specs.Commands.{and_or_turn, joined_so, one_pipeline};
 ghost use Rattle.shgrammar.specs.Form.{many};
 ghost use Rattle.shgrammar.specs.Levels.{level};
 ghost use Rattle.shline.specs.Rows.{view_and_or_parts};
@@ -46,9 +46,9 @@ impl<'a, S: Source, const TREE: u8> Cursor<'a, S, TREE> {
     /// One more, if such an operator stands here. Answers whether there was one.
     #[cycle(commands)]
     #[inline(always)]
-    #[tactic(auto, unfolding(shgrammar::specs::Commands::join_pipeline, crate::specs::InHand::InHand))]
-    fn join_pipeline(&mut self, parts: &mut Vec<AndOrPart>, room: usize) -> Result<bool, Stop>
-        ensures { Turns self.old (join_pipeline (level room) (joined_so (view_and_or_parts
+    #[tactic(auto, unfolding(shgrammar::specs::Commands::and_or_turn, crate::specs::InHand::InHand))]
+    fn and_or_turn(&mut self, parts: &mut Vec<AndOrPart>, room: usize) -> Result<bool, Stop>
+        ensures { Turns self.old (and_or_turn (level room) (joined_so (view_and_or_parts
             parts.old) self.old.next)) result (joined_so (view_and_or_parts parts.new)
             self.new.next) self.new }
     {
@@ -65,11 +65,11 @@ impl<'a, S: Source, const TREE: u8> Cursor<'a, S, TREE> {
     #[tactic(auto, using(shgrammar::proofs::Turns::many_again, shgrammar::proofs::Turns::many_done, crate::proofs::Stops::many_stop))]
     pub(crate) fn joined_pipelines(&mut self, room: usize) -> Result<Vec<AndOrPart>, Stop>
         ensures { TokenToToken self.old
-            (many (join_pipeline (level room)) (joined_so [] self.old.next))
+            (many (and_or_turn (level room)) (joined_so [] self.old.next))
             result (λ parts. joined_so (view_and_or_parts parts) self.new.next) self.new }
     {
         let mut parts = Vec::new(self.alloc);
-        'turns: while self.join_pipeline(&mut parts, room)? {}
+        'turns: while self.and_or_turn(&mut parts, room)? {}
         Ok(parts)
     }
 }

@@ -18,7 +18,7 @@ use Rattle.shgrammar.specs.Form.{◌>>=◌, ◌>>◌, by, move, leads_on, again,
 use Rattle.shgrammar.specs.Levels.{level}
 use Rattle.shast.specs.Nodes.{word_span}
 use Rattle.shast.specs.Normal.{is_normal_and_or, are_normal_and_ors, is_normal_pipeline, are_normal_pipes, is_normal_join, is_normal_compound, is_normal_command}
-use Rattle.shgrammar.specs.Commands.{an_and_or, one_pipeline, join_pipeline, joined_so, a_bang, a_pipeline, begins_pipeline, and_or_operator_of, is_pipe, piped, one_command, pipe_turn, a_command, a_join, begins_simple, opener_of, is_newline_token, is_bang, with_redirect_list, is_word, is_paren, a_word_command, compound_by}
+use Rattle.shgrammar.specs.Commands.{an_and_or, one_pipeline, and_or_turn, joined_so, a_bang, a_pipeline, begins_pipeline, and_or_operator_of, is_pipe, piped, one_command, pipe_turn, a_command, a_join, begins_simple, opener_of, is_newline_token, is_bang, with_redirect_list, is_word, is_paren, a_word_command, compound_by}
 use Rattle.shgrammar.proofs.Anywhere.{word_span as spanned}
 use Rattle.shast.specs.Opened.{items_bodies, and_or_bodies, and_or_parts_bodies, pipeline_bodies, pipes_bodies, command_bodies, compound_bodies, open_items, open_and_or, open_and_or_parts, open_pipeline, open_pipes, open_command, open_compound, open_form}
 use Rattle.shast.specs.declared.tree.AndOrOperator.{AndOrOperator}
@@ -590,8 +590,8 @@ module _ {edition : Edition} {B T : List ℕ} {o : ℕ} {S : StandsIn edition B 
       first_move ⟫ second_move
 
   no_part : (h : Held) (acc : Row AnAndOrPart) (n : Next) (p : ℕ) → and_or_operator_of n.token ≡ None →
-      Gives (g S) (join_pipeline (level room) (joined_so acc n)) (state h p) (done (joined_so acc n)) (state h p)
-  unfolding join_pipeline
+      Gives (g S) (and_or_turn (level room) (joined_so acc n)) (state h p) (done (joined_so acc n)) (state h p)
+  unfolding and_or_turn
   no_part h acc n p none = rw none given_here
 
   -- the bytes of an operator are passed
@@ -614,7 +614,7 @@ module _ {edition : Edition} {B T : List ℕ} {o : ℕ} {S : StandsIn edition B 
     «end» : ℕ
     later : Held
     at : At S later «end» ms
-    reads : Gives (g S) (join_pipeline (level room) (joined_so acc n)) (state h p)
+    reads : Gives (g S) (and_or_turn (level room) (joined_so acc n)) (state h p)
         (again (joined_so (acc ++ part ∷ []) (asked S Command «end»))) (state later (past_blanks T «end»))
     on : leads_on (g S) (state h p) (state later (past_blanks T «end»)) ≡ true
     operator_is : part.operator ≡ k
@@ -638,7 +638,7 @@ module _ {edition : Edition} {B T : List ℕ} {o : ℕ} {S : StandsIn edition B 
       → is_pipe t ≡ false → and_or_operator_of n.token ≡ Some k → n.broken ≡ false →
       At S h q (text (and_or_text k) ∷ (join_rest y m j ++ (print_pipeline y d x ++ ms))) →
       PartRead h acc n q k j x ms
-  unfolding join_pipeline one_pipeline
+  unfolding and_or_turn one_pipeline
   one_part h m d k j x acc n q ms t blank blank_d normal_j good_j good normal f none no_pipe_it is_it unbroken
       at =
       let X = print_pipeline y d x ++ ms in
@@ -676,22 +676,22 @@ module _ {edition : Edition} {B T : List ℕ} {o : ℕ} {S : StandsIn edition B 
     «end» : ℕ
     later : Held
     at : At S later «end» rest
-    reads : Gives (g S) (many (join_pipeline (level room)) (joined_so acc n)) (state h p)
+    reads : Gives (g S) (many (and_or_turn (level room)) (joined_so acc n)) (state h p)
         (joined_so (acc ++ parts) (asked S Command «end»)) (state later (past_blanks T «end»))
     shape : shape_of_and_or_parts B (and_or_parts_of parts) ≡ open_and_or_parts [] xs
     texts : Adds S h later (and_or_parts_bodies xs)
 
   parts_more : (h k later : Held) (acc : Row AnAndOrPart) (n : Next) (p : ℕ) (q : AnAndOrPart) (next : Next)
       (r : ℕ) (qs : Row AnAndOrPart) (z : Next) (e : ℕ)
-      → Gives (g S) (join_pipeline (level room) (joined_so acc n)) (state h p) (again (joined_so (acc ++ q ∷ []) next))
+      → Gives (g S) (and_or_turn (level room) (joined_so acc n)) (state h p) (again (joined_so (acc ++ q ∷ []) next))
       (state k r) → leads_on (g S) (state h p) (state k r) ≡ true
-      → Gives (g S) (many (join_pipeline (level room)) (joined_so (acc ++ q ∷ []) next)) (state k r)
+      → Gives (g S) (many (and_or_turn (level room)) (joined_so (acc ++ q ∷ []) next)) (state k r)
       (joined_so ((acc ++ q ∷ []) ++ qs) z) (state later e)
-      → Gives (g S) (many (join_pipeline (level room)) (joined_so acc n)) (state h p) (joined_so (acc ++ (q ∷ qs)) z)
+      → Gives (g S) (many (and_or_turn (level room)) (joined_so acc n)) (state h p) (joined_so (acc ++ (q ∷ qs)) z)
       (state later e)
   parts_more h k later acc n p q next r qs z e one on rest =
-      subst (λ all. Gives (g S) (many (join_pipeline (level room)) (joined_so acc n)) (state h p) (joined_so all z)
-      (state later e)) (append_assoc acc (q ∷ []) qs) (one_turn (join_pipeline (level room)) one on rest)
+      subst (λ all. Gives (g S) (many (and_or_turn (level room)) (joined_so acc n)) (state h p) (joined_so all z)
+      (state later e)) (append_assoc acc (q ∷ []) qs) (one_turn (and_or_turn (level room)) one on rest)
 
   parts_shape : (q : AnAndOrPart) (qs : Row AnAndOrPart) (k : AndOrOperator) (j : AJoinOf Text)
       (x : Shape APipelineOf) (xs : Shape AndOrPartsOf) → q.operator ≡ k → shape_of_join B q.join ≡ j
@@ -719,7 +719,7 @@ module _ {edition : Edition} {B T : List ℕ} {o : ℕ} {S : StandsIn edition B 
     later = h;
     at = at;
     reads = rw (append-nil acc)
-        (last_turn (join_pipeline (level room))
+        (last_turn (and_or_turn (level room))
         (no_part h acc (asked S Command e) (past_blanks T e)
         (ap (λ (n : Next). and_or_operator_of n.token) (f.seen_as h e at Command) ∙ no_operator)));
     shape = refl;

@@ -21,7 +21,7 @@ use Rattle.shgrammar.specs.Sights.{Given, the_delimiter}
 use Rattle.shgrammar.specs.HereDocuments.{ADelimiter, delimiter_in}
 use Rattle.shgrammar.specs.Form.{Spelled, Form, see, give, ◌>>=◌, with_bytes, Step, again, done, raw}
 use Rattle.shgrammar.specs.Words.{Inner, a_word}
-use Rattle.shgrammar.specs.Commands.{pick, is_pipe, begins_simple, begins_word, begins_redirect, opener_of, compound_by, and_or_operator_of, Items, so_many, after_word, is_number_token, redirect_operator_of, takes_here, a_number, an_operator, operator_by, a_target, one_redirect, after_redirect, redirect_turn, with_redirect_list, as_item, breaks, an_item, item_by, item_turn, a_simple, a_command, Piped, piped, one_command, pipe_turn, a_pipeline, Joined, joined_so, one_pipeline, joined_by, join_pipeline, an_and_or, an_entry, is_word, is_paren, a_word_command, ASeparator, past_separator, a_document, document_by, open_document, is_long, is_strip}
+use Rattle.shgrammar.specs.Commands.{pick, is_pipe, begins_simple, begins_word, begins_redirect, opener_of, compound_by, and_or_operator_of, Items, so_many, after_word, is_number_token, redirect_operator_of, takes_here, a_number, an_operator, operator_by, a_target, one_redirect, after_redirect, redirect_turn, with_redirect_list, as_item, breaks, an_item, item_by, item_turn, a_simple, a_command, Piped, piped, one_command, pipe_turn, a_pipeline, Joined, joined_so, one_pipeline, joined_by, and_or_turn, an_and_or, an_entry, is_word, is_paren, a_word_command, ASeparator, past_separator, a_document, document_by, open_document, is_long, is_strip}
 use Rattle.shgrammar.specs.Levels.{level}
 use Rattle.shgrammar.proofs.BodiesAnywhere.{DocumentAnywhere}
 use Rattle.shgrammar.proofs.Spelling.{raw_at}
@@ -610,10 +610,10 @@ module _ (B : List ℕ) (g : Given) (here : g.text ≡ drop g.offset B) where
           (λ j f join. add_first g (reads_pipeline j.1 D f join.1) (λ x E h good.
           add_pushes g (add_gives g (part_more a.parts o j.0 x.0 join.0 good so)))))
 
-      reads_join_pipeline : (C : Row Due) (a : Joined) (D : Row Due) (p : ℕ) → JoinedGood C a D p →
-          Adds g D (join_pipeline inner a) (Turns g (JoinedGood C) (JoinedGood C)) p
-      unfolding join_pipeline
-      reads_join_pipeline C a D p so = by_operator (and_or_operator_of a.next.token)
+      reads_and_or_turn : (C : Row Due) (a : Joined) (D : Row Due) (p : ℕ) → JoinedGood C a D p →
+          Adds g D (and_or_turn inner a) (Turns g (JoinedGood C) (JoinedGood C)) p
+      unfolding and_or_turn
+      reads_and_or_turn C a D p so = by_operator (and_or_operator_of a.next.token)
         where
           by_operator : (o : Option AndOrOperator) →
               Adds g D (joined_by inner a o) (Turns g (JoinedGood C) (JoinedGood C)) p
@@ -634,8 +634,8 @@ module _ (B : List ℕ) (g : Given) (here : g.text ≡ drop g.offset B) where
       unfolding an_and_or
       reads_and_or n D p so =
           add_first g (reads_pipeline n D p so) (λ x C e good.
-          add_first g (add_repeats g (join_pipeline inner) (JoinedGood C) (JoinedGood C) (JoinedGood C)
-          (reads_join_pipeline C) (λ a E d all. all) (λ a E d all. all) (joined_so [] x.1) C e
+          add_first g (add_repeats g (and_or_turn inner) (JoinedGood C) (JoinedGood C) (JoinedGood C)
+          (reads_and_or_turn C) (λ a E d all. all) (λ a E d all. all) (joined_so [] x.1) C e
           (opens_none g fill_and_or_part tt))
           (λ a E d all. add_gives g (and_or_open x.0 a.parts good all)))
 

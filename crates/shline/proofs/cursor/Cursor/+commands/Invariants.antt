@@ -4,7 +4,7 @@
 use Rattle.std.proofs.Common.{◌≡◌, ◌≤◌, ◌+◌, ◌*◌, ◌-◌, [], length, map}
 use Rattle.shgrammar.specs.declared.token.Position.TheVariants.{Suffix, Command as AsCommand}
 use Rattle.shline.specs.Clauses.{at_place, at_token, here_of, Rests, start_of, text_of}
-use Rattle.shgrammar.specs.Commands.{item_turn, join_pipeline, joined_so, pipe_turn, piped, redirect_turn, so_many}
+use Rattle.shgrammar.specs.Commands.{and_or_turn, item_turn, joined_so, pipe_turn, piped, redirect_turn, so_many}
 use Rattle.shgrammar.specs.Compounds.{branched, elif_turn, pattern_turn, patterned, case_turn, word_turn}
 use Rattle.shgrammar.specs.Form.{many}
 use Rattle.shgrammar.specs.Levels.{level}
@@ -205,8 +205,8 @@ decreases-pattern_turn g l = 128 * l.room + 14
 abbrev pub decreases-pipe_turn : goal.decreases-pipe_turn
 decreases-pipe_turn g l = 128 * l.room + 34
 
-abbrev pub decreases-join_pipeline : goal.decreases-join_pipeline
-decreases-join_pipeline g l = 128 * l.room + 42
+abbrev pub decreases-and_or_turn : goal.decreases-and_or_turn
+decreases-and_or_turn g l = 128 * l.room + 42
 
 -- ---- loops
 
@@ -271,8 +271,8 @@ decreases-pipes-turns g l = length (text_of l.self) - start_of l.self
 
 abbrev pub invariant-joined_pipelines-turns : goal.invariant-joined_pipelines-turns
 invariant-joined_pipelines-turns g l =
-    Rests l.fn.self (many (join_pipeline (level l.room)) (joined_so [] l.fn.self.next)) (at_token l.fn.self)
-    (many (join_pipeline (level l.room)) (joined_so (map view_and_or_part l.parts.items) l.self.next))
+    Rests l.fn.self (many (and_or_turn (level l.room)) (joined_so [] l.fn.self.next)) (at_token l.fn.self)
+    (many (and_or_turn (level l.room)) (joined_so (map view_and_or_part l.parts.items) l.self.next))
     (at_token l.self) l.self
 
 abbrev pub decreases-joined_pipelines-turns : goal.decreases-joined_pipelines-turns
