@@ -17,9 +17,9 @@ use Rattle.shgrammar.proofs.SameBytes.{Kept, WordEnds, goes_on, Safe, at_limit, 
 use Rattle.shgrammar.specs.declared.edition.Edition.{Edition}
 
 -- the place after a byte is one past the continuations before it
-pub behind_is : (T : List ℕ) (p : ℕ) → past_byte T p ≡ past_continuations T p + 1
+pub past_byte_is : (T : List ℕ) (p : ℕ) → past_byte T p ≡ past_continuations T p + 1
 unfolding past_byte
-behind_is T p = refl
+past_byte_is T p = refl
 
 -- what ends a word is none of these
 pub ender : (b c : ℕ) → ends (Some b) ≡ true → ends (Some c) ≡ false → (b == c) ≡ false
@@ -265,7 +265,7 @@ module _ {edition : Edition} {T T2 : List ℕ} {a L : ℕ} {to : ℕ → ℕ} {c
     pub next_safe : {p : ℕ} → Safe T a L p → stands_in test T p ≡ true → Safe T a L (past_byte T p)
     next_safe {p = p} s e =
         let r = read_raw p e in
-        subst (Safe T a L) (sym (behind_is T p)) (raw_safe (place_safe s) (raw_on _ r) (not_there _ r))
+        subst (Safe T a L) (sym (past_byte_is T p)) (raw_safe (place_safe s) (raw_on _ r) (not_there _ r))
 
     past_below : (n p : ℕ) → length T - p < n → Safe T a L p → Safe T a L (past test T p)
         × (past test T2 (to p) ≡ to (past test T p))

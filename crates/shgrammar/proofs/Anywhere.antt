@@ -17,7 +17,7 @@ use Rattle.shgrammar.specs.Form.{moved_on, many, Spelled, as_it_stands, Read, �
 use Rattle.shgrammar.specs.Words.{WordSoFar, having, opened, piece_row, a_piece, single, escaped_turn, backquoted_text, Inner, contents, a_word, dollar_single}
 use Rattle.shgrammar.specs.Levels.{level, ReadsWord}
 use Rattle.shgrammar.proofs.Stretches.{get_drop}
-use Rattle.shgrammar.proofs.Holds.{tells_seen, tells_many, tells_level, tells_any, Holds, holds_then, Tells, Turned, tells_so, tells_then, tells_when, tells_token, Behind, low, tells_inside}
+use Rattle.shgrammar.proofs.Holds.{tells_seen, tells_many, tells_level, tells_any, Holds, holds_then, Tells, Turned, tells_so, tells_then, tells_when, tells_token, AtOrAfter, low, tells_inside}
 use Rattle.shgrammar.proofs.SameBytes.{Kept}
 use Rattle.shgrammar.proofs.Inside.{there}
 use Rattle.shgrammar.proofs.PiecesInside.{word_in}
@@ -354,7 +354,7 @@ pub word_read : (room : ℕ) (g : Given) (p : ℕ) (w : AWord) (t : State) (told
     → may (a_word (level room)) g (standing p) (Ok (w, standing (p + (t.at - p)))) (raw g.text p (p + (t.at - p)) ∷ [])
 word_read room g p w t told part =
     let is_read = (is (a_word (level room)) g (standing p)).only _ _ part in
-    let on = subst (Holds (Behind (standing p))) (sym is_read) (low (a_word (level room)) Whole g (standing p)).told in
+    let on = subst (Holds (AtOrAfter (standing p))) (sym is_read) (low (a_word (level room)) Whole g (standing p)).told in
     let stays = subst (Holds (Waits (standing p))) (sym is_read) (waits g room (standing p)).told in
     let told_is = word_told (level room) g (standing p) t w told part in
     let end : t.at ≡ p + (t.at - p) = omega (arith, on) in

@@ -19,7 +19,7 @@ use Rattle.shgrammar.specs.Form.{raw}
 use Rattle.shgrammar.proofs.Stretches.{place_low, joined_more, raw_more, get_drop, blanks_before, no_blanks_before}
 use Rattle.shgrammar.proofs.Places.{next_escaped_low, must_fail, place_same, after_low, raw_past_low, raw_past_stops, raw_past_all, next_of_low, next_newline_low, parameter_low, reserved_low, digits_low, blanks_low}
 use Rattle.shgrammar.proofs.SameBytes.{Safe, halts, one_byte, two_bytes, goes_on, safe_high, safe_low, safe_escape, safe_place, no_backslash, continued, raw_there, byte_other}
-use Rattle.shgrammar.proofs.Ahead.{ListEnds, ender, not_backslash, K, Goes, goes_name, goes_digit, goes_one, behind_is, same_if, same_and, seen, same_byte, same_after, same_stands, same_stands_in, same_place, next_safe, past_safe, past_back, blanks_safe, blanks_back, same_raw_in}
+use Rattle.shgrammar.proofs.Ahead.{ListEnds, ender, not_backslash, K, Goes, goes_name, goes_digit, goes_one, past_byte_is, same_if, same_and, seen, same_byte, same_after, same_stands, same_stands_in, same_place, next_safe, past_safe, past_back, blanks_safe, blanks_back, same_raw_in}
 use Rattle.shgrammar.specs.declared.edition.Edition.{Edition}
 
 -- what is looked for ahead from p on is found before the newline, or the `)`, at M, or at it
@@ -88,7 +88,7 @@ module _ {edition : Edition} {T U : List ℕ} {a M : ℕ} {to : ℕ → ℕ} {li
     omega (arith, after_low T p),
     λ low s.
         let g : G p = good_over p (past_continuations T p) low (omega (arith, place_low T p)) (none_there T p)
-        (subst G (behind_is T p) s) in
+        (subst G (past_byte_is T p) s) in
         (g, same_after E g),
   )
 
@@ -315,7 +315,7 @@ module _ {edition : Edition} {T U : List ℕ} {a M : ℕ} {to : ℕ → ℕ} {li
   -- after a byte that is not that of the limit
   escape_in : (p b : ℕ) → G p → byte_at T p ≡ Some b → (b == limit) ≡ false → past_byte T p ≤ M
   escape_in p b s is other =
-      ⊎_elim (λ lt. omega (arith, behind_is T p, lt))
+      ⊎_elim (λ lt. omega (arith, past_byte_is T p, lt))
       (λ ge. let at : M ≡ past_continuations T p = omega (arith, ge, place_in s) in
       let e : Some limit ≡ Some b = sym E.byte ∙ ap (slice_get T) at ∙ is in
       let f : limit ≡ b = cc in

@@ -120,12 +120,12 @@ module _ (T : List ℕ) (p : ℕ) (sharp : raw_stands T p 35 ≡ true) where
     unfolding raw_in
     same_in test i lt = ap (passes test) (same_byte i lt)
 
-    behind_it : slice_get U (q + (last - p)) ≡ Some 10
-    behind_it = ap (λ n. slice_get U (q + n)) (sym text_length) ∙ byte_after U q text (10 ∷ zs) is
+    newline_there : slice_get U (q + (last - p)) ≡ Some 10
+    newline_there = ap (λ n. slice_get U (q + n)) (sym text_length) ∙ byte_after U q text (10 ∷ zs) is
 
     at_after : raw_in (λ b. not (b == 10)) U (q + (last - p)) ≡ false
     unfolding raw_in
-    at_after = ap (passes (λ b. not (b == 10))) behind_it
+    at_after = ap (passes (λ b. not (b == 10))) newline_there
 
     sharp_there : slice_get U q ≡ Some 35
     sharp_there =

@@ -28,7 +28,7 @@ use Rattle.shgrammar.proofs.Places.{must_fail, after_low, word_longer}
 use Rattle.shgrammar.proofs.Turns.{turns_on}
 use Rattle.shgrammar.proofs.Holds.{Holds, holds_then}
 use Rattle.shgrammar.proofs.SameBytes.{Kept, WordEnds, Here, here_byte, here_after, here_stands_in}
-use Rattle.shgrammar.proofs.Ahead.{same_and, spelled_none, spelled_more, behind_is}
+use Rattle.shgrammar.proofs.Ahead.{same_and, spelled_none, spelled_more, past_byte_is}
 use Rattle.shgrammar.proofs.PiecesInside.{From, word_from}
 use Rattle.shgrammar.proofs.WordsElsewhere.{everywhere}
 use Rattle.shgrammar.proofs.PlainBytes.{plain_stays, ordinary_by}
@@ -185,7 +185,7 @@ module _ {edition : Edition} {T U : List ℕ} {a L : ℕ} {to : ℕ → ℕ} (K 
         let b_plain = plain b e in
         let lt = slice_get_within T (past_continuations T r) b is in
         let leads : leads_on (given edition T o) (standing r) (standing (past_byte T r)) ≡ true =
-        lt-ltb _ _ (omega (arith, lt, place_low T r, behind_is T r)) in
+        lt-ltb _ _ (omega (arith, lt, place_low T r, past_byte_is T r)) in
         let more = turns_on (given edition T o)
         (λ c s. does (a_piece (level room) Plain w.opener c) Whole (given edition T o) s) w.start w.start
         (standing r) (standing (past_byte T r))

@@ -14,7 +14,7 @@ use Rattle.shgrammar.specs.HereDocuments.{Change, waits, bodies_here, changed, p
 use Rattle.shgrammar.specs.Form.{change, with_bytes, a_level, nothing_read, raw, Spelled, Telling, Read, ◌▸◌, Form, give, see, move, push, stop, both, when, token, loop, many, ends_as, Step, again, done, leads_on, turns, does, in_substitution}
 use Rattle.shgrammar.specs.Commands.{pick}
 use Rattle.shgrammar.proofs.Turns.{turns_on, turns_rest, turns_done, turns_fault}
-use Rattle.shgrammar.proofs.Holds.{Holds, Tells, Turned, tells_so, tells_then, tells_when, tells_token, tells_loop, tells_ending, tells_change, tells_with_bytes, tells_level, change_low, Behind, low, move_low, tells_inside}
+use Rattle.shgrammar.proofs.Holds.{Holds, Tells, Turned, tells_so, tells_then, tells_when, tells_token, tells_loop, tells_ending, tells_change, tells_with_bytes, tells_level, change_low, AtOrAfter, low, move_low, tells_inside}
 use Rattle.shgrammar.proofs.Alike.{SameStep}
 use Rattle.shgrammar.proofs.Ahead.{ListEnds}
 use Rattle.shgrammar.proofs.Asked.{Good, high, moves, on, same_raw}
@@ -300,7 +300,7 @@ module _ {edition : Edition} {T U : List ℕ} {a M : ℕ} {to : ℕ → ℕ} {li
   WithSpan S x y = S x.0 y.0 × (move_span E o o2 x.1 ≡ y.1)
 
   place_by : {X Y : Type 0} (S : X → Y → Type 0) (how : Telling) (q : Form Y) (s : State) → a ≤ s.at → (x : Read X) →
-      Holds (Behind s) x → Holds (Found S q s) x
+      Holds (AtOrAfter s) x → Holds (Found S q s) x
       → Holds (Found (WithSpan S) (token how q) s) (x ▸ λ b t. Ok ((b, span o s.at t.at), t))
   place_by {Y = Y} S how q s from (Ok (x, t)) onward one =
       λ e. let w = one e in
@@ -385,7 +385,7 @@ module _ {edition : Edition} {T U : List ℕ} {a M : ℕ} {to : ℕ → ℕ} {li
           w.1.1 (λ c so. subst (Holds (Looped c t)) is (rest c so) e)
       more_by b t onward on found rest (Err f) is back = tt
 
-      turn_by : (z : Read (Step A)) → one x s ≡ z → Holds (Back s) z → Holds (Behind s) z →
+      turn_by : (z : Read (Step A)) → one x s ≡ z → Holds (Back s) z → Holds (AtOrAfter s) z →
           Holds (Found (SameStep S) (turn2 y) s) z
           → ((b : A) (c : C) (t : State) → a ≤ t.at → length T - t.at < length T - s.at → S b c →
           Holds (Looped c t) (turns g one b t)) → Holds (Looped y s) (turns g one x s)

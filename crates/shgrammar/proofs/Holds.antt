@@ -259,10 +259,10 @@ change_low bodies_here g s t is =
     state_low s t (bodies_from g s.waiting s.bodies s.at) (λ y read. bodies_low g s.waiting s.bodies s.at y read) is
 
 -- after a state
-abbrev pub Behind : {X : Type 0} → State → X → State → Type 0
-Behind s x t = s.at ≤ t.at
+abbrev pub AtOrAfter : {X : Type 0} → State → X → State → Type 0
+AtOrAfter s x t = s.at ≤ t.at
 
-pub low : {X : Type 0} (r : Form X) (keep : Keep) (g : Given) (s : State) → Tells keep g r (Behind s) s
+pub low : {X : Type 0} (r : Form X) (keep : Keep) (g : Given) (s : State) → Tells keep g r (AtOrAfter s) s
 low (give x) keep g s = record { told = omega arith }
 low (see f) keep g s = record { told = omega arith }
 low (move m) keep g s = record { told = move_low m g.text s.at }
@@ -273,10 +273,10 @@ low (both r q) keep g s = tells_then keep g (low r keep g s)
 low (when f r q) keep g s = tells_when keep g (low r keep g s) (low q keep g s)
 low (token how r) keep g s = tells_token keep g (low r keep g s) (λ a t on. on)
 low {X = X} (loop turn a) keep g s =
-    tells_loop keep g turn (Behind s) (λ b t on. tells_so keep g (low (turn b) keep g t) (turned t on)) a s
+    tells_loop keep g turn (AtOrAfter s) (λ b t on. tells_so keep g (low (turn b) keep g t) (turned t on)) a s
     (omega arith)
   where
-    turned : (t : State) → s.at ≤ t.at → (c : Step X) (u : State) → t.at ≤ u.at → Turned keep g (Behind s) c u
+    turned : (t : State) → s.at ≤ t.at → (c : Step X) (u : State) → t.at ≤ u.at → Turned keep g (AtOrAfter s) c u
     turned t on (again c) u more = omega (arith, on, more)
     turned t on (done c) u more = omega (arith, on, more)
 low (ends_as kind at r) keep g s = tells_ending keep g (low r keep g s)

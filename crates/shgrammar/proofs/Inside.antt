@@ -20,10 +20,10 @@ use Rattle.shgrammar.proofs.Stretches.{place_low, past_more, past_none, stands_i
 use Rattle.shgrammar.proofs.Places.{after_low, next_of_low, next_escaped_low}
 use Rattle.shgrammar.proofs.Shifted.{state_from}
 use Rattle.shgrammar.proofs.Turns.{turns_on, turns_rest, turns_done, turns_fault}
-use Rattle.shgrammar.proofs.Holds.{Holds, Behind, low, holds_so}
+use Rattle.shgrammar.proofs.Holds.{Holds, AtOrAfter, low, holds_so}
 use Rattle.shgrammar.proofs.Alike.{SameStep}
 use Rattle.shgrammar.proofs.SameBytes.{Kept, Here, here, here_after, here_stands, here_stands_in, raw_same, raw_there}
-use Rattle.shgrammar.proofs.Ahead.{behind_is}
+use Rattle.shgrammar.proofs.Ahead.{past_byte_is}
 use Rattle.shgrammar.proofs.NoFurther.{less_same}
 use Rattle.shgrammar.proofs.OneOutcome.{is}
 use Rattle.shgrammar.specs.declared.edition.Edition.{Edition}
@@ -61,7 +61,7 @@ module _ {edition : Edition} {T U : List ℕ} {a L : ℕ} {to : ℕ → ℕ} (K 
   before p from i =
       let lt = i.inside in
       let le = place_low T (past_byte T p) in
-      here K p from (omega (arith, lt, le, behind_is T p)) (λ f. omega (arith, lt, le, behind_is T p))
+      here K p from (omega (arith, lt, le, past_byte_is T p)) (λ f. omega (arith, lt, le, past_byte_is T p))
 
   pub high : {p : ℕ} → In p → p ≤ L
   high {p = p} i = let lt = i.inside in let le = place_low T p in omega (arith, lt, le)
@@ -228,7 +228,7 @@ module _ {edition : Edition} {T U : List ℕ} {a L : ℕ} {to : ℕ → ℕ} (K 
       rest_turn d s t c (done y, w) off = absurd w.1
 
       by_turn : (c : A) (s : State) → a ≤ s.at → (x : Read (Step A)) → one c s ≡ x → Holds (Turned c s) x →
-          Holds (Behind s) x
+          Holds (AtOrAfter s) x
           → ((z : A) (t : State) → a ≤ t.at → length T - t.at < length T - s.at → Holds (Looped z t) (turns g one z t))
           → Holds (Looped c s) (turns g one c s)
       by_turn c s from (Err e) is good onward rest = rw (turns_fault g one c s e is) tt
@@ -277,7 +277,7 @@ module _ {edition : Edition} {T U : List ℕ} {a L : ℕ} {to : ℕ → ℕ} (K 
       found f le =
           let onward = next_of_low apostrophe T (past_byte T s.at) in
           let q_in : q < L = omega (arith, le, taken_low T q) in
-          let i = clear K s.at from (omega (arith, onward, q_in, behind_is T s.at)) e in
+          let i = clear K s.at from (omega (arith, onward, q_in, past_byte_is T s.at)) e in
           let low_q : a ≤ past_byte T s.at = omega (arith, from, after_low T s.at) in
           let found = raw_there K (λ b. not (b == apostrophe)) (past_byte T s.at) low_q q_in in (
             i,
@@ -358,7 +358,7 @@ module _ {edition : Edition} {T U : List ℕ} {a L : ℕ} {to : ℕ → ℕ} (K 
       (escaped_turn escapings.Backquotes b2) Below UpTo (λ p lt. omega (arith, lt)) (λ p le. le)
       (escaped_each escapings.Backquotes b b2) tt inside (omega (arith, from, after_low T s.at)))
       (λ x t ends le. let w = ends le in
-      let i = clear K s.at from (omega (arith, w.0, behind_is T s.at)) e in
+      let i = clear K s.at from (omega (arith, w.0, past_byte_is T s.at)) e in
       let f = w.1 tt tt in (
         i,
         (
@@ -390,8 +390,8 @@ module _ {edition : Edition} {T U : List ℕ} {a L : ℕ} {to : ℕ → ℕ} (K 
       (omega (arith, from, after_low T s.at, after_low T (past_byte T s.at))))
       (λ x t ends le. let w = ends le in
       let j = clear K (past_byte T s.at) (omega (arith, from, after_low T s.at))
-      (omega (arith, w.0, behind_is T (past_byte T s.at))) e2 in
-      let i = clear K s.at from (omega (arith, w.0, behind_is T s.at, after_low T (past_byte T s.at))) e in
+      (omega (arith, w.0, past_byte_is T (past_byte T s.at))) e2 in
+      let i = clear K s.at from (omega (arith, w.0, past_byte_is T s.at, after_low T (past_byte T s.at))) e in
       let f = w.1 tt tt in (
         (i, j),
         (

@@ -27,7 +27,7 @@ use Rattle.shgrammar.specs.Commands.{is_pipe, is_bang, begins_simple, begins_red
 use Rattle.shgrammar.specs.Lists.{ListSo, list_so, none_listed, one_entry, entry_turn, remark_by, a_remark, on_line, list_turn, a_list}
 use Rattle.shgrammar.specs.Compounds.{a_linebreak}
 use Rattle.shast.specs.Everywhere.{IsSome}
-use Rattle.shgrammar.proofs.Ahead.{behind_is}
+use Rattle.shgrammar.proofs.Ahead.{past_byte_is}
 use Rattle.shgrammar.proofs.Places.{after_low}
 use Rattle.shgrammar.proofs.UpToLimit.{UpTo, Stepped, adds, after, bare_token, comment_ends, first, follows, gives, grows, moves, picks, picks_by, pushes, repeats, sees, step_so, stepped, stops, tokens, unless, with_its_bytes}
 use Rattle.shgrammar.proofs.EachSpan.{AndOrIn, AreIn, CommandIn, EntriesIn, EntryIn, HereIn, ItemIn, PartIn, PipeIn, PipelineIn, SomeIn, SubstIn, WordIn, entries_in, items_in, parts_in, pipes_in, some_pushed, substs_in}
@@ -188,7 +188,7 @@ module _ {g : Given} {limit : ℕ} where
     piece_in_by mode b h pieces.Subst s so =
         let p = s.at in
         let low_p : g.offset + past_continuations g.text p ≤ g.offset + past_byte g.text (past_byte g.text p) =
-        omega (arith, behind_is g.text p, after_low g.text (past_byte g.text p)) in
+        omega (arith, past_byte_is g.text p, after_low g.text (past_byte g.text p)) in
         sees (moves (moves (first (fine.substitution (g.offset + past_continuations g.text p) h.substs _ low_p so)
         (λ zs t good. gives good))))
     piece_in_by mode b h pieces.Arith s so =

@@ -26,7 +26,7 @@ use Rattle.shgrammar.proofs.Stretches.{past_more, past_none, stands_in_low, raw_
 use Rattle.shgrammar.proofs.Places.{after_low, past_low}
 use Rattle.shgrammar.proofs.Turns.{many_again, many_done}
 use Rattle.shgrammar.proofs.SameBytes.{Kept, Here, here, here_byte, here_after, here_stands, here_stands_in}
-use Rattle.shgrammar.proofs.Ahead.{same_and, spelled_none, spelled_more, behind_is, ender}
+use Rattle.shgrammar.proofs.Ahead.{same_and, spelled_none, spelled_more, past_byte_is, ender}
 use Rattle.shgrammar.proofs.PlainBytes.{plain_stays, ordinary_by, closer_at}
 use Rattle.shgrammar.proofs.WordsWithin.{word_ends}
 use Rattle.shgrammar.proofs.Elsewhere.{ReadAt, is_a_word, ItemByte, all_plain, all_spelled, item_byte, item_token}
@@ -78,7 +78,7 @@ module _ (edition : Edition) (room : ℕ) (T : List ℕ) (o opener : ℕ) where
       (λ (f : stands_in is_name T r ≡ true). let more = past_more is_name T r f in
       let b = byte_in is_name T r f in
       let inside = stands_in_low is_name T r f in
-      let high : past_byte T r ≤ length T = omega (arith, inside, behind_is T r) in
+      let high : past_byte T r ≤ length T = omega (arith, inside, past_byte_is T r) in
       many_again (a_piece (level room) Plain opener) Whole (given edition T o) c c (standing r)
       (standing (past_byte T r))
       (name_turn r b.0 c b.1 b.2) (after_low T r) high
@@ -214,7 +214,7 @@ module _ (room : ℕ) (g : Given) (p n : ℕ) (read : ReadsWord room g p n) (sti
         let more = past_more is_name T r e in
         let lt = past_low is_name T (past_byte T r) in
         let up = go.up in
-        here K r go.low (omega (arith, more, lt, up, behind_is T r))
+        here K r go.low (omega (arith, more, lt, up, past_byte_is T r))
         (λ f. absurd (both_ways (is_byte (slice_get T (past_continuations T r)) 92)
         (ap (λ x. is_byte x 92) b.1 ∙ no_backslash b.0 b.2) f))
 
@@ -238,7 +238,7 @@ module _ (room : ℕ) (g : Given) (p n : ℕ) (read : ReadsWord room g p n) (sti
         (λ (e : stands_in is_name T r ≡ true). let h = inside_of go e in
         let inside = stands_in_low is_name T r e in
         past_more is_name U (to r) (here_stands_in K h is_name ∙ e) ∙ ap (past is_name U) (here_after K h)
-        ∙ past_there m (past_byte T r) (omega (arith, few, inside, behind_is T r, after_low T r)) (next_goes go e))
+        ∙ past_there m (past_byte T r) (omega (arith, few, inside, past_byte_is T r, after_low T r)) (next_goes go e))
         (λ (e : stands_in is_name T r ≡ false). let end = at_limit go e in
         ap (λ x. past is_name U (to x)) end ∙ past_none is_name U (to L) limit_none)
         (cases_Bool (stands_in is_name T r))

@@ -14,7 +14,7 @@ use Rattle.shgrammar.specs.Sights.{Given, given, State, Sight, here, the_byte, t
 use Rattle.shgrammar.specs.HereDocuments.{Change, changed, own_level}
 use Rattle.shgrammar.specs.Form.{change, with_bytes, a_level, Changed, changes, cannot, WithBytes, with_its_bytes, without_bytes, OwnLevel, level_read, level_stops, Spelled, Telling, untold, as_it_stands, bared, by, tell, Read, Form, give, see, move, push, stop, both, when, token, loop, ends_as, Step, again, done, Just, just, Halts, halted, Then, and_then, or_stops, holds, fails, raw, OneToken, whole, broken_off, leads_on, Turns, last, rests, more, halts, Ending, goes_through, stops_inside, moved_on, may, in_substitution}
 use Rattle.shgrammar.proofs.OneOutcome.{is}
-use Rattle.shgrammar.proofs.Holds.{Holds, Behind, low}
+use Rattle.shgrammar.proofs.Holds.{Holds, AtOrAfter, low}
 use Rattle.shgrammar.proofs.Ahead.{ListEnds, same_name, same_place, same_next}
 use Rattle.shgrammar.proofs.BodiesThere.{change_there}
 use Rattle.shgrammar.proofs.Asked.{Good, NoBracket, newline_near, high, on, moves, same_end_here, same_raw_stands, same_last_backslash, same_comment, same_piece, same_mode, same_raw}
@@ -24,8 +24,8 @@ use Rattle.shgrammar.specs.Pieces.{piece_in}
 
 -- what may be read is not before where it begins
 pub behind : {X : Type 0} (r : Form X) (g : Given) (s : State) (y : Read X) (k : Row Spelled) → may r g s y k →
-    Holds (Behind s) y
-behind r g s y k part = subst (Holds (Behind s)) (sym ((is r g s).only y k part)) (low r Whole g s).told
+    Holds (AtOrAfter s) y
+behind r g s y k part = subst (Holds (AtOrAfter s)) (sym ((is r g s).only y k part)) (low r Whole g s).told
 
 -- two that say the same of less
 pub less_same : (x y z w : ℕ) → (x < y → z < w) → (z < w → x < y) → ltb z w ≡ ltb x y

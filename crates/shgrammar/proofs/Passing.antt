@@ -176,9 +176,9 @@ module _ (edition : Edition) (n : ℕ) (B : List ℕ) where
       (line_moved edition B (n + p) (is_blank_line so)) moved
 
   -- the first fault from an offset on is that of the bytes after it, moved
-  pub behind_is : first_fault_from edition B n ≡ later n (first_fault_from edition (drop n B) 0)
+  pub fault_after_is : first_fault_from edition B n ≡ later n (first_fault_from edition (drop n B) 0)
   unfolding first_fault_from script_on
-  behind_is =
+  fault_after_is =
       let start : n ≡ n + 0 = omega arith in
       let size : length B - n ≡ length (drop n B) - 0 = omega (arith, length-drop n B) in
       ap (λ (q : ℕ). (script_below edition B (suc (length B - n)) nothing_yet q).fault) start
@@ -191,6 +191,6 @@ may_pass edition bytes n so script f same first =
     let D = drop n script in
     let is : f ≡ first_fault_from edition D 0 =
     fault_alone edition D (first_fault_from edition D 0) refl (record { entries = first.0; fault = f }) first.1 in
-    let whole : first_fault_from edition script 0 ≡ later n f = so script same ∙ behind_is edition n script
+    let whole : first_fault_from edition script 0 ≡ later n f = so script same ∙ fault_after_is edition n script
     ∙ ap (later n) (sym is) in
     fault_answered edition script (later n f) (sym whole)

@@ -24,7 +24,7 @@ use Rattle.shgrammar.proofs.Places.{after_low, parameter_low}
 use Rattle.shgrammar.proofs.Holds.{Holds, holds_then, holds_so}
 use Rattle.shgrammar.proofs.Alike.{SameStep, SameHeld}
 use Rattle.shgrammar.proofs.SameBytes.{Kept, Here, here, here_byte, here_after, here_stands, byte_other}
-use Rattle.shgrammar.proofs.Ahead.{behind_is}
+use Rattle.shgrammar.proofs.Ahead.{past_byte_is}
 use Rattle.shgrammar.proofs.Inside.{there_at, clear, before, high, taken_two, same_taken, same_end, parameter_in, rest_in, there, at, Ends, quote_in, backquotes_in, Turned, Looped, Goal, looped, dollar_single_in}
 use Rattle.shgrammar.proofs.OneOutcome.{is}
 use Rattle.shgrammar.specs.declared.edition.Edition.{Edition}
@@ -196,7 +196,7 @@ module _ {edition : Edition} {T U : List ℕ} {a L : ℕ} {to : ℕ → ℕ} (K 
       )
 
       leads_byte : past_continuations T p < length T → leads_on g s (placed q s) ≡ true
-      leads_byte lt = lt-ltb _ _ (omega (arith, lt, behind_is T p, place_low T p))
+      leads_byte lt = lt-ltb _ _ (omega (arith, lt, past_byte_is T p, place_low T p))
 
       -- one byte
       one_byte_row : (is_byte (byte_at T p) backslash ≡ false) → past_continuations T p < length T →
@@ -205,7 +205,7 @@ module _ {edition : Edition} {T U : List ℕ} {a L : ℕ} {to : ℕ → ℕ} (K 
           → ((d : WordSoFar) → does (piece_row inner mode b2 d x) Whole h (over s)
           ≡ Ok (again (w d), there_at K o o2 (past_byte U (to p)) s)) → Turn (again (w c)) (placed q s)
       one_byte_row e lt w same x told row goal =
-          let i = clear K p from (omega (arith, goal.0, behind_is T p)) e in
+          let i = clear K p from (omega (arith, goal.0, past_byte_is T p)) e in
           let next = goal.1 (leads_byte lt) in (
             inl i,
             λ d so. row_there x (told i next) d so (SameStep Agree (again (w c))) (placed q s)
@@ -235,7 +235,7 @@ module _ {edition : Edition} {T U : List ℕ} {a L : ℕ} {to : ℕ → ℕ} (K 
           let le : past_continuations T p + 2 ≤ L =
           omega (arith, goal.0, taken_two T (past_continuations T p) here_is) in
           let i = here K p from (omega (arith, le)) (λ f. omega (arith, le)) in
-          let told : Told pieces.Escape = escape_told v is e i some (omega (arith, le, behind_is T p)) in
+          let told : Told pieces.Escape = escape_told v is e i some (omega (arith, le, past_byte_is T p)) in
           let low_there : a ≤ past_continuations T p = omega (arith, from, place_low T p) in (
             inl i,
             λ d so. row_there pieces.Escape told d so (SameStep Agree (again c))
@@ -360,7 +360,7 @@ module _ {edition : Edition} {T U : List ℕ} {a L : ℕ} {to : ℕ → ℕ} (K 
 
       twice : is_byte (byte_at T q) backslash ≡ false → (Inside p → Inside q → Told pieces.Pid) → Again pieces.Pid
       twice e told goal =
-          let j = clear K q q_low (omega (arith, goal.0, behind_is T q)) e in
+          let j = clear K q q_low (omega (arith, goal.0, past_byte_is T q)) e in
           let i = before K p from j in (
             inl i,
             λ d so. row_there pieces.Pid (told i j) d so (SameStep Agree (again c)) (placed (past_byte T q) s)
@@ -372,7 +372,7 @@ module _ {edition : Edition} {T U : List ℕ} {a L : ℕ} {to : ℕ → ℕ} (K 
           (Inside p → Told pieces.Closer) → Again pieces.Closer
       closer one e told goal =
           let le = goal.0 in
-          let i = clear K p from (omega (arith, le, one T p, behind_is T p)) e in (
+          let i = clear K p from (omega (arith, le, one T p, past_byte_is T p)) e in (
             inl i,
             λ d so. row_there pieces.Closer (told i) d so (SameStep Agree (done c))
                 (placed (past_closer T mode p) s) (done d, (rw (one U (to p), one T p, here_after K i) refl, so)),
@@ -382,7 +382,7 @@ module _ {edition : Edition} {T U : List ℕ} {a L : ℕ} {to : ℕ → ℕ} (K 
           is_byte (byte_at T q) backslash ≡ false → (Inside p → Inside q → Told pieces.Closer) → Again pieces.Closer
       closer_two two e told goal =
           let le = goal.0 in
-          let j = clear K q q_low (omega (arith, le, two T p, behind_is T q)) e in
+          let j = clear K q q_low (omega (arith, le, two T p, past_byte_is T q)) e in
           let i = before K p from j in (
             inl i,
             λ d so. row_there pieces.Closer (told i j) d so (SameStep Agree (done c))

@@ -53,8 +53,8 @@ module _ (g : Given) where
   Begins n t = (position : Position)
       × ((n.token ≡ token_in g.edition (token_at position g.text t.at)) × (past_continuations g.text t.at ≡ t.at))
 
-  abbrev pub Behind : {X : Type 0} → X × Next → State → Type 0
-  Behind x t = Begins x.1 t
+  abbrev pub HandsOn : {X : Type 0} → X × Next → State → Type 0
+  HandsOn x t = Begins x.1 t
 
   -- one form, or the other
   picked : {X : Type 0} {P : X → State → Type 0} (b : Bool) {r q : Form X} {s : State} → N r P s → N q P s →
@@ -70,33 +70,33 @@ module _ (g : Given) where
   unfolding next_token
   shown_next position s = record { told = (position, (refl, blanks_still g.text s.at)) }
 
-  shown_comment : (n : Next) (s : State) → Begins n s → N (a_comment n) Behind s
+  shown_comment : (n : Next) (s : State) → Begins n s → N (a_comment n) HandsOn s
   unfolding a_comment
   shown_comment n s so = tells_seen Whole g (by_comment (comment_at g.text g.offset s.at))
     where
-      by_comment : (c : Option Span) → N (comment_by n c) Behind s
+      by_comment : (c : Option Span) → N (comment_by n c) HandsOn s
       by_comment (Some c) = after (λ x t. tells_then Whole g (shown_next Command t)
           (λ m u good. tells_give Whole g good))
       by_comment None = tells_give Whole g so
 
-  shown_newline : (n : Next) (s : State) → Begins n s → N (a_newline n) Behind s
+  shown_newline : (n : Next) (s : State) → Begins n s → N (a_newline n) HandsOn s
   unfolding a_newline
   shown_newline n s so = picked (is_newline_token n.token)
       (after (λ x t. after (λ y v. tells_then Whole g (shown_next Command v) (λ m u good. tells_give Whole g good))))
       (tells_give Whole g so)
 
-  shown_semicolon : (n : Next) (s : State) → Begins n s → N (a_semicolon n) Behind s
+  shown_semicolon : (n : Next) (s : State) → Begins n s → N (a_semicolon n) HandsOn s
   unfolding a_semicolon
   shown_semicolon n s so = picked (is_semicolon n.token)
       (after (λ x t. tells_then Whole g (shown_next Command t) (λ m u good. tells_give Whole g good)))
       (tells_give Whole g so)
 
-  shown_separator_by : (n : Next) (o : Option Separator) (s : State) → Begins n s → N (separator_by n o) Behind s
+  shown_separator_by : (n : Next) (o : Option Separator) (s : State) → Begins n s → N (separator_by n o) HandsOn s
   shown_separator_by n (Some x) s so =
       after (λ y t. tells_then Whole g (shown_next Command t) (λ m u good. tells_give Whole g good))
   shown_separator_by n None s so = tells_give Whole g so
 
-  shown_separator : (n : Next) (s : State) → Begins n s → N (a_separator n) Behind s
+  shown_separator : (n : Next) (s : State) → Begins n s → N (a_separator n) HandsOn s
   unfolding a_separator
   shown_separator n s so = shown_separator_by n (separator_of n.token) s so
 
@@ -123,7 +123,7 @@ module _ (g : Given) where
       (λ cs u still. tells_then Whole g (shown_newline c.1 u (subst (Begins c.1) (sym still) one))
       (λ l v good. tells_give Whole g (join_step l.0 _ v good))))
 
-  shown_join : (broken : Bool) (s : State) → N (a_join broken) Behind s
+  shown_join : (broken : Bool) (s : State) → N (a_join broken) HandsOn s
   unfolding a_join
   shown_join broken s =
       tells_then Whole g (shown_next Command s)
@@ -140,8 +140,8 @@ module _ (g : Given) where
 
   -- what may be opened hands on the token that begins after it
   pub record Fine (inner : Inner) : Type 0 where
-    pub compound : (o : Opener) (s : State) → N (inner.compound o) Behind s
-    pub function : (name : Span) (s : State) → N (inner.function name) Behind s
+    pub compound : (o : Opener) (s : State) → N (inner.compound o) HandsOn s
+    pub function : (name : Span) (s : State) → N (inner.function name) HandsOn s
 
   module _ (inner : Inner) (fine : Fine inner) where
     stopped : {X : Type 0} {P : X → State → Type 0} (n : Next) {s : State} → N (unexpected {X = X} inner n) P s
@@ -171,7 +171,7 @@ module _ (g : Given) where
     unfolding item_turn
     shown_item_turn i s so = shown_item_by i (after_word i.next.token) s so
 
-    shown_simple : (i : Items) (s : State) → Begins i.next s → N (a_simple inner i) Behind s
+    shown_simple : (i : Items) (s : State) → Begins i.next s → N (a_simple inner i) HandsOn s
     unfolding a_simple
     shown_simple i s so = tells_then Whole g (tells_many Whole g (item_turn inner) ItemsShown shown_item_turn i s so)
         (λ j t good. tells_give Whole g good)
@@ -183,31 +183,31 @@ module _ (g : Given) where
         (shown_redirect i.next.broken Command i.items i.next s) (tells_give Whole g so)
 
     shown_with_redirect_list : (c : ACommand × Next) (s : State) → Begins c.1 s →
-        N (with_redirect_list inner c) Behind s
+        N (with_redirect_list inner c) HandsOn s
     unfolding with_redirect_list
     shown_with_redirect_list c s so =
         tells_then Whole g (tells_many Whole g (redirect_turn inner) ItemsShown shown_redirect_turn
         (so_many [] Command c.1) s so) (λ r t good. tells_give Whole g good)
 
-    shown_compound_by : (n : Next) (o : Option Opener) (s : State) → N (compound_by inner n o) Behind s
+    shown_compound_by : (n : Next) (o : Option Opener) (s : State) → N (compound_by inner n o) HandsOn s
     shown_compound_by n (Some o) s = tells_then Whole g (fine.compound o s) shown_with_redirect_list
     shown_compound_by n None s = stopped n
 
-    shown_word_command : (s : State) → N (a_word_command inner) Behind s
+    shown_word_command : (s : State) → N (a_word_command inner) HandsOn s
     unfolding a_word_command
     shown_word_command s =
         after (λ good t. after (λ w u. tells_then Whole g (shown_next Suffix u)
         (λ n v so. picked (is_paren n.token) (picked good (fine.function (word_span w) v) (record { told = tt }))
         (pushed_on (shown_simple (so_many _ Suffix n) v so)))))
 
-    shown_command : (n : Next) (s : State) → Begins n s → N (a_command inner n) Behind s
+    shown_command : (n : Next) (s : State) → Begins n s → N (a_command inner n) HandsOn s
     unfolding a_command
     shown_command n s so =
         picked (is_word n.token) (shown_word_command s)
         (picked (begins_simple n.token) (shown_simple (so_many [] Command n) s so)
         (shown_compound_by n (opener_of n.token) s))
 
-    shown_bang : (n : Next) (s : State) → Begins n s → N (a_bang n) Behind s
+    shown_bang : (n : Next) (s : State) → Begins n s → N (a_bang n) HandsOn s
     unfolding a_bang
     shown_bang n s so = picked (is_bang n.token)
         (after (λ x t. tells_then Whole g (shown_next Command t) (λ m u good. tells_give Whole g good)))
@@ -226,7 +226,7 @@ module _ (g : Given) where
     unfolding pipe_turn
     shown_pipe_turn p s so = picked (is_pipe p.next.token) (shown_one_command p s) (tells_give Whole g so)
 
-    shown_pipeline : (n : Next) (s : State) → Begins n s → N (a_pipeline inner n) Behind s
+    shown_pipeline : (n : Next) (s : State) → Begins n s → N (a_pipeline inner n) HandsOn s
     unfolding a_pipeline
     shown_pipeline n s so =
         tells_then Whole g (shown_bang n s so) (λ b t one. tells_then Whole g (shown_command b.1 t one)
@@ -251,7 +251,7 @@ module _ (g : Given) where
     unfolding and_or_turn
     shown_and_or_turn a s so = shown_joined_by a (and_or_operator_of a.next.token) s so
 
-    shown_and_or : (n : Next) (s : State) → Begins n s → N (an_and_or inner n) Behind s
+    shown_and_or : (n : Next) (s : State) → Begins n s → N (an_and_or inner n) HandsOn s
     unfolding an_and_or
     shown_and_or n s so =
         tells_then Whole g (shown_pipeline n s so)
@@ -310,7 +310,7 @@ module _ (g : Given) where
     shown_lines n s so = tells_many Whole g (list_turn inner) ListShown shown_list_turn
         (list_so (none_listed false) n) s so
 
-    shown_list : (n : Next) (s : State) → Begins n s → N (a_list inner n) Behind s
+    shown_list : (n : Next) (s : State) → Begins n s → N (a_list inner n) HandsOn s
     unfolding a_list
     shown_list n s so = tells_then Whole g (shown_lines n s so)
         (λ l t good. picked l.list.commands (tells_give Whole g good) (stopped l.next))
@@ -320,16 +320,16 @@ module _ (g : Given) where
     -- Each row of a compound command hands on the token after it.
 
     shown_reserved_or_paren : (text : Spelled) (paren : Bool) (position : Position) (s : State) →
-        N (reserved_or_paren text paren position) Behind s
+        N (reserved_or_paren text paren position) HandsOn s
     unfolding reserved_or_paren
     shown_reserved_or_paren text paren position s =
         after (λ x t. tells_then Whole g (shown_next position t) (λ n u good. tells_give Whole g good))
 
-    shown_closing : (c : Closing) (n : Next) (s : State) → N (closing inner c n) Behind s
+    shown_closing : (c : Closing) (n : Next) (s : State) → N (closing inner c n) HandsOn s
     unfolding closing
     shown_closing c n s = picked (is_closing c n.token) (shown_reserved_or_paren _ (is_close_paren c) _ s) (stopped n)
 
-    shown_branch : (n : Next) (s : State) → Begins n s → N (a_branch inner n) Behind s
+    shown_branch : (n : Next) (s : State) → Begins n s → N (a_branch inner n) HandsOn s
     unfolding a_branch
     shown_branch n s so =
         tells_then Whole g (shown_list n s so)
@@ -347,7 +347,7 @@ module _ (g : Given) where
         (λ k t one. tells_then Whole g (shown_branch k.1 t one) (λ x u good. pushed_on (tells_give Whole g good))))
         (tells_give Whole g so)
 
-    shown_else : (n : Next) (s : State) → Begins n s → N (an_else inner n) Behind s
+    shown_else : (n : Next) (s : State) → Begins n s → N (an_else inner n) HandsOn s
     unfolding an_else
     shown_else n s so =
         picked (is_closing closings.Else n.token)
@@ -380,7 +380,7 @@ module _ (g : Given) where
     shown_group c n s so = tells_then Whole g (shown_list n s so)
         (λ l t one. tells_then Whole g (shown_closing c l.1 t) (λ k u good. tells_give Whole g good))
 
-    shown_for_name : (n : Next) (s : State) → N (a_for_name inner n) Behind s
+    shown_for_name : (n : Next) (s : State) → N (a_for_name inner n) HandsOn s
     unfolding a_for_name
     shown_for_name n s =
         picked (begins_word n.token)
@@ -428,7 +428,7 @@ module _ (g : Given) where
         (λ d v three. tells_then Whole g (shown_group closings.Done d.1 v three)
         (λ b w good. tells_give Whole g good))))
 
-    shown_case_word : (n : Next) (s : State) → N (a_case_word inner n) Behind s
+    shown_case_word : (n : Next) (s : State) → N (a_case_word inner n) HandsOn s
     unfolding a_case_word
     shown_case_word n s = picked (begins_word n.token)
         (after (λ w t. tells_then Whole g (shown_next Command t) (λ m u good. tells_give Whole g good))) (stopped n)
@@ -518,12 +518,12 @@ module _ (g : Given) where
     shown_form openers.For n s so = shown_for n s
     shown_form openers.Case n s so = shown_case n s
 
-    shown_compound : (o : Opener) (s : State) → N (a_compound inner o) Behind s
+    shown_compound : (o : Opener) (s : State) → N (a_compound inner o) HandsOn s
     unfolding a_compound
     shown_compound o s = tells_then Whole g (shown_reserved_or_paren _ (is_open_paren o) _ s)
         (λ x t one. tells_then Whole g (shown_form o x.1 t one) (λ f u good. pushed_on (tells_give Whole g good)))
 
-    shown_function : (name : Span) (s : State) → N (a_function inner name) Behind s
+    shown_function : (name : Span) (s : State) → N (a_function inner name) HandsOn s
     unfolding a_function
     shown_function name s =
         tells_then Whole g (shown_reserved_or_paren _ true Command s)

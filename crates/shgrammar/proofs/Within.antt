@@ -41,7 +41,7 @@ use Rattle.shgrammar.specs.Levels.{most_open, level}
 use Rattle.shgrammar.specs.Lines.{an_open_line, a_line, ALine, IsLine, line_read, line_stops, kind_of, EntryNodesWithin}
 use Rattle.shgrammar.specs.Scripts.{SoFar, the_line, with_line}
 use Rattle.shgrammar.proofs.OneOutcome.{is}
-use Rattle.shgrammar.proofs.Ahead.{behind_is}
+use Rattle.shgrammar.proofs.Ahead.{past_byte_is}
 use Rattle.shgrammar.proofs.Places.{after_low, next_newline_low}
 use Rattle.shgrammar.proofs.Holds.{Holds, Tells, Turned, tells_with_bytes, tells_level, tells_give, tells_then, tells_token, tells_many, tells_so, tells_ending, tells_seen, tells_moved, low, tells_inside}
 use Rattle.shgrammar.specs.declared.keep.Keep.TheVariants.{Whole}
@@ -209,7 +209,7 @@ module _ (keep : Keep) (g : Given) (limit : ℕ) where
     piece_fits_by mode b h pieces.Subst s so =
         let p = s.at in
         let low_p : g.offset + past_continuations g.text p ≤ g.offset + past_byte g.text (past_byte g.text p) =
-        omega (arith, behind_is g.text p, after_low g.text (past_byte g.text p)) in
+        omega (arith, past_byte_is g.text p, after_low g.text (past_byte g.text p)) in
         tells_seen keep g (tells_moved keep g
         (tells_moved keep g (first (fine.substitution (g.offset + past_continuations g.text p) h.substs _ low_p so)
         (λ zs t good. gives good))))

@@ -26,9 +26,9 @@ use Rattle.shgrammar.specs.Lists.{ListSo, list_so, none_listed, list_turn}
 use Rattle.shgrammar.specs.Compounds.{is_closing}
 use Rattle.shgrammar.specs.Substitutions.{substitution_list, a_substitution, one_substitution}
 use Rattle.shgrammar.specs.Levels.{level}
-use Rattle.shgrammar.proofs.Holds.{Holds, Behind, low}
+use Rattle.shgrammar.proofs.Holds.{Holds, AtOrAfter, low}
 use Rattle.shgrammar.proofs.SameBytes.{Kept, Here, at_limit}
-use Rattle.shgrammar.proofs.Ahead.{ListEnds, bracket_ends, behind_is, same_after, same_byte, seen}
+use Rattle.shgrammar.proofs.Ahead.{ListEnds, bracket_ends, past_byte_is, same_after, same_byte, seen}
 use Rattle.shgrammar.proofs.Asked.{Good, high}
 use Rattle.shgrammar.proofs.PiecesInside.{Local, Holding, SameSubsts, Ended, construct_in, word_in}
 use Rattle.shgrammar.specs.HereDocuments.{first_waiting, own_level, outer_level}
@@ -116,7 +116,7 @@ module _ (room : ℕ) (all : Everywhere (level room)) where
         )
 
     word_by : (s : State) → a ≤ s.at → (x : Read (Row ASubst)) →
-        does (contents inner Plain (o + s.at) []) Whole (given edition T o) s ≡ x → Holds (Behind s) x →
+        does (contents inner Plain (o + s.at) []) Whole (given edition T o) s ≡ x → Holds (AtOrAfter s) x →
         (s.at ≤ length T → Holds (λ ss t. Last (given edition T o) Plain t) x)
         → Holds (FoundWord s) (◌▸◌ {Y = AWord} x (λ ss t. Ok (word (span o s.at t.at) (substs_of ss), t)))
     word_by s from (Ok (ss, t)) is onward last =
@@ -325,7 +325,7 @@ module _ (room : ℕ) (all : Everywhere (level room)) where
           )
 
       ends_high : (M : ℕ) → past_continuations T M ≡ M → past_byte T M ≤ L → M + 1 ≤ L
-      ends_high M still le = omega (arith, le, behind_is T M, still)
+      ends_high M still le = omega (arith, le, past_byte_is T M, still)
 
       -- what is read of a level, as one more substitution
       abbrev one_level : Read Entries → Read (Row ASubst)
@@ -359,7 +359,7 @@ module _ (room : ℕ) (all : Everywhere (level room)) where
           no_close P (Err f) = tt
 
       by_lines : (x : Read ListSo) → does (all_lines the_next) Whole g start ≡ x → Holds (λ l t. Begins g l.next t) x →
-          Holds (Behind start) x → s.at ≤ start.at
+          Holds (AtOrAfter start) x → s.at ≤ start.at
           → Holds There (one_level (x ▸ λ l t. does (the_close l (closes l)) Whole g t))
       by_lines (Ok (l, u)) is begins onward still = by_close l u is begins onward still (closes l) refl
       by_lines (Err f) is begins onward still = tt

@@ -28,9 +28,9 @@ use Rattle.shgrammar.specs.Levels.{level, ReadsWord}
 use Rattle.shgrammar.proofs.Stretches.{place_low}
 use Rattle.shgrammar.proofs.Places.{after_low, after_high, stands_low, not_end_low, next_of_low, parameter_low, parameter_high, quote_clear, next_escaped_low}
 use Rattle.shgrammar.proofs.Turns.{turns_fault, many_again, many_done}
-use Rattle.shgrammar.proofs.Holds.{tells_level, Holds, holds_then, Tells, Turned, tells_then, tells_many, tells_after, tells_seen, tells_ending, Behind, low, tells_inside}
+use Rattle.shgrammar.proofs.Holds.{tells_level, Holds, holds_then, Tells, Turned, tells_then, tells_many, tells_after, tells_seen, tells_ending, AtOrAfter, low, tells_inside}
 use Rattle.shgrammar.proofs.TokensShown.{Begins, Fine, paren_here, shown_level, shown_lines, shown_next}
-use Rattle.shgrammar.proofs.Ahead.{behind_is}
+use Rattle.shgrammar.proofs.Ahead.{past_byte_is}
 use Rattle.shgrammar.proofs.OneOutcome.{is}
 use Rattle.shgrammar.specs.Tokens.{is_later}
 
@@ -232,7 +232,7 @@ module _ (g : Given) where
         let lt = slice_get_within T (past_continuations T p) v is in
         cond_both (v == backslash) _ _ (Needs mode p)
         (λ e. cond_both (at_end T (past_byte T p)) _ _ (Needs mode p) (λ f. tt)
-        (λ f. omega (arith, not_end_low T (past_byte T p) f, behind_is T p)))
+        (λ f. omega (arith, not_end_low T (past_byte T p) f, past_byte_is T p)))
         (λ e. cond_both (v == grave_accent) _ _ (Needs mode p) (λ f. lt)
         (λ f. cond_both (v == dollar_sign) _ _ (Needs mode p) (λ d. dollar_needs (byte_at T (past_byte T p)) refl lt)
         (λ d. byte_needs mode v is lt)))
@@ -245,7 +245,7 @@ module _ (g : Given) where
     needs_known : (x : Piece) → Needs mode p x → Needs mode p (piece_in g.edition mode x)
     needs_known pieces.DollarSingle so =
         cond_both (is_later g.edition && quotes_singly mode) _ _ (Needs mode p) (λ e. so)
-        (λ e. omega (arith, so, place_low T (past_byte T p), behind_is T p))
+        (λ e. omega (arith, so, place_low T (past_byte T p), past_byte_is T p))
     needs_known pieces.Closer so = so
     needs_known pieces.Missing so = so
     needs_known pieces.LoneBackslash so = so
@@ -340,7 +340,7 @@ module _ (g : Given) where
     contents_on = holds_both (does (contents inner mode b ss) Whole g s)
         (low (contents inner mode b ss) Whole g s).told contents_end
       where
-        holds_both : (x : Read (Row ASubst)) → Holds (Behind s) x → Holds (λ x t. Last mode t) x →
+        holds_both : (x : Read (Row ASubst)) → Holds (AtOrAfter s) x → Holds (λ x t. Last mode t) x →
             Holds (λ x t. (s.at ≤ t.at) × (t.at ≤ length T)) x
         holds_both (Ok (x, t)) one two = (one, two.0)
         holds_both (Err f) one two = tt
@@ -388,7 +388,7 @@ module _ (g : Given) where
     substitution_end b ss s = holds_also (does (a_substitution inner b ss) Whole g s)
         (low (a_substitution inner b ss) Whole g s).told (substitution_high b ss s).told
       where
-        holds_also : (x : Read (Row ASubst)) → Holds (Behind s) x → Holds (λ x t. t.at ≤ length T) x →
+        holds_also : (x : Read (Row ASubst)) → Holds (AtOrAfter s) x → Holds (λ x t. t.at ≤ length T) x →
             Holds (λ x t. (s.at ≤ t.at) × (t.at ≤ length T)) x
         holds_also (Ok (x, t)) one two = (one, two)
         holds_also (Err f) one two = tt

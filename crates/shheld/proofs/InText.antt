@@ -69,8 +69,8 @@ module _ (g : Given) where
     pub within : t.at ≤ length T
 
   -- what was read, and this token handed on after it
-  abbrev pub Behind : {X : Type 0} → X × Next → State → Type 0
-  Behind x t = Handed x.1 t
+  abbrev pub HandsOn : {X : Type 0} → X × Next → State → Type 0
+  HandsOn x t = Handed x.1 t
 
   -- one more element, and then the rest
   pushed_on : {A Y : Type 0} {Q : Y → State → Type 0} {xs : Row A} {x : A} {q : Row A → Form Y} {s : State}
@@ -150,11 +150,11 @@ module _ (g : Given) where
   comment_high p le =
       cond_both (raw_stands T p number_sign) _ _ (λ q. q ≤ length T) (λ e. next_newline_high T p le) (λ e. le)
 
-  comment_in : (n : Next) (s : State) → Handed n s → N (a_comment n) Behind s
+  comment_in : (n : Next) (s : State) → Handed n s → N (a_comment n) HandsOn s
   unfolding a_comment
   comment_in n s so = sees (by_comment (comment_at T g.offset s.at))
     where
-      by_comment : (c : Option Span) → N (comment_by n c) Behind s
+      by_comment : (c : Option Span) → N (comment_by n c) HandsOn s
       by_comment (Some c) =
           moved_on a_comment_on (comment_high s.at so.within) ▹ λ x t le.
           onward Command le ▹ λ m u good. gives good
@@ -174,7 +174,7 @@ module _ (g : Given) where
   bodies_in : (s : State) → s.at ≤ length T → N (change bodies_here) InText s
   bodies_in s le = tells_change Whole g (λ t is. bodies_high s t le is)
 
-  newline_in : (n : Next) (s : State) → Handed n s → N (a_newline n) Behind s
+  newline_in : (n : Next) (s : State) → Handed n s → N (a_newline n) HandsOn s
   unfolding a_newline
   newline_in n s so =
       picked (is_newline_token n.token)
@@ -182,7 +182,7 @@ module _ (g : Given) where
       onward Command low ▹ λ m v good. gives good)
       (gives so)
 
-  semicolon_in : (n : Next) (s : State) → Handed n s → N (a_semicolon n) Behind s
+  semicolon_in : (n : Next) (s : State) → Handed n s → N (a_semicolon n) HandsOn s
   unfolding a_semicolon
   semicolon_in n s so =
       picked (is_semicolon n.token)
@@ -190,11 +190,11 @@ module _ (g : Given) where
       onward Command le ▹ λ m u good. gives good)
       (gives so)
 
-  separator_in : (n : Next) (s : State) → Handed n s → N (a_separator n) Behind s
+  separator_in : (n : Next) (s : State) → Handed n s → N (a_separator n) HandsOn s
   unfolding a_separator
   separator_in n s so = by_separator (separator_of n.token) refl
     where
-      by_separator : (o : Option Separator) → separator_of n.token ≡ o → N (separator_by n o) Behind s
+      by_separator : (o : Option Separator) → separator_of n.token ≡ o → N (separator_by n o) HandsOn s
       by_separator (Some x) is =
           let on = read_on n s so (λ t. is_some (separator_of t)) refl (ap is_some is) in
           token_on (moved_on one_byte on) ▹ λ y t le. onward Command le ▹ λ m u good. gives good
@@ -224,7 +224,7 @@ module _ (g : Given) where
       comment_in j.next s so ▹ λ c t one. kept_in j.join.comments c.0 c.1 t one ▹ λ cs u two.
       newline_in c.1 u two ▹ λ l v good. gives (join_step l.0 _ v good)
 
-  join_in : (broken : Bool) (s : State) → s.at ≤ length T → N (a_join broken) Behind s
+  join_in : (broken : Bool) (s : State) → s.at ≤ length T → N (a_join broken) HandsOn s
   unfolding a_join
   join_in broken s le =
       onward Command le ▹ λ n t so.
@@ -243,7 +243,7 @@ module _ (g : Given) where
   unfolding past_digits
   digits_high p le = past_high is_digit T p le
 
-  number_in : (n : Next) (s : State) → Handed n s → N (a_number n) Behind s
+  number_in : (n : Next) (s : State) → Handed n s → N (a_number n) HandsOn s
   unfolding a_number
   number_in n s so =
       picked (is_number_token n.token)
@@ -296,8 +296,8 @@ module _ (g : Given) where
   -- what may be opened stays in the text; a compound command and a function where their first byte is read
   pub record Stays (inner : Inner) : Type 0 where
     pub words : (s : State) → s.at ≤ length T → N (a_word inner) InText s
-    pub compound : (o : Opener) (s : State) → IsRead T s.at → N (inner.compound o) Behind s
-    pub function : (name : Span) (s : State) → IsRead T s.at → N (inner.function name) Behind s
+    pub compound : (o : Opener) (s : State) → IsRead T s.at → N (inner.compound o) HandsOn s
+    pub function : (name : Span) (s : State) → IsRead T s.at → N (inner.function name) HandsOn s
 
   module _ (inner : Inner) (stays : Stays inner) where
     abbrev ItemsHanded : Items → State → Type 0
@@ -338,7 +338,7 @@ module _ (g : Given) where
     unfolding item_turn
     item_turn_in i s so = item_by_in i (after_word i.next.token) s so
 
-    simple_in : (i : Items) (s : State) → Handed i.next s → N (a_simple inner i) Behind s
+    simple_in : (i : Items) (s : State) → Handed i.next s → N (a_simple inner i) HandsOn s
     unfolding a_simple
     simple_in i s so =
         tells_many Whole g (item_turn inner) ItemsHanded item_turn_in i s so ▹ λ j t good. gives good
@@ -351,22 +351,22 @@ module _ (g : Given) where
         (λ e. redirect_in i.next.broken Command i.items i.next s so)
         (gives so)
 
-    with_redirect_list_in : (c : ACommand × Next) (s : State) → Handed c.1 s → N (with_redirect_list inner c) Behind s
+    with_redirect_list_in : (c : ACommand × Next) (s : State) → Handed c.1 s → N (with_redirect_list inner c) HandsOn s
     unfolding with_redirect_list
     with_redirect_list_in c s so =
         let none = so_many [] Command c.1 in
         tells_many Whole g (redirect_turn inner) ItemsHanded redirect_turn_in none s so ▹ λ r t good.
         gives good
 
-    compound_in : (n : Next) (s : State) → Handed n s → N (compound_by inner n (opener_of n.token)) Behind s
+    compound_in : (n : Next) (s : State) → Handed n s → N (compound_by inner n (opener_of n.token)) HandsOn s
     compound_in n s so = by_opener (opener_of n.token) refl
       where
-        by_opener : (o : Option Opener) → opener_of n.token ≡ o → N (compound_by inner n o) Behind s
+        by_opener : (o : Option Opener) → opener_of n.token ≡ o → N (compound_by inner n o) HandsOn s
         by_opener (Some o) is =
             stays.compound o s (read n s so (λ t. is_some (opener_of t)) refl (ap is_some is)) ▹ with_redirect_list_in
         by_opener None is = stops inner n
 
-    word_command_in : (s : State) → s.at ≤ length T → N (a_word_command inner) Behind s
+    word_command_in : (s : State) → s.at ≤ length T → N (a_word_command inner) HandsOn s
     unfolding a_word_command
     word_command_in s le =
         sees (stays.words s le ▹ λ w u low. onward Suffix low ▹ λ n v so.
@@ -375,13 +375,13 @@ module _ (g : Given) where
         picked (seen is_a_name g s) (λ f. stays.function (word_span w) v byte) (record { told = tt }))
         (pushed_on (simple_in (so_many _ Suffix n) v so)))
 
-    command_in : (n : Next) (s : State) → Handed n s → N (a_command inner n) Behind s
+    command_in : (n : Next) (s : State) → Handed n s → N (a_command inner n) HandsOn s
     unfolding a_command
     command_in n s so =
         picked (is_word n.token) (λ e. word_command_in s so.within)
         (picked (begins_simple n.token) (λ e. simple_in (so_many [] Command n) s so) (compound_in n s so))
 
-    bang_in : (n : Next) (s : State) → Handed n s → N (a_bang n) Behind s
+    bang_in : (n : Next) (s : State) → Handed n s → N (a_bang n) HandsOn s
     unfolding a_bang
     bang_in n s so =
         picked (is_bang n.token)
@@ -401,7 +401,7 @@ module _ (g : Given) where
         join_in p.next.broken t le ▹ λ j u one. command_in j.1 u one ▹ λ c v good. pushed_on (gives good))
         (gives so)
 
-    pipeline_in : (n : Next) (s : State) → Handed n s → N (a_pipeline inner n) Behind s
+    pipeline_in : (n : Next) (s : State) → Handed n s → N (a_pipeline inner n) HandsOn s
     unfolding a_pipeline
     pipeline_in n s so =
         bang_in n s so ▹ λ b t one. command_in b.1 t one ▹ λ c u two.
@@ -424,7 +424,7 @@ module _ (g : Given) where
             pushed_on (gives good)
         by_operator None is = gives so
 
-    and_or_in : (n : Next) (s : State) → Handed n s → N (an_and_or inner n) Behind s
+    and_or_in : (n : Next) (s : State) → Handed n s → N (an_and_or inner n) HandsOn s
     unfolding an_and_or
     and_or_in n s so =
         pipeline_in n s so ▹ λ p t one.
@@ -481,7 +481,7 @@ module _ (g : Given) where
     lines_in n s so =
         tells_many Whole g (list_turn inner) ListHanded list_turn_in (list_so (none_listed false) n) s so
 
-    list_in : (n : Next) (s : State) → Handed n s → N (a_list inner n) Behind s
+    list_in : (n : Next) (s : State) → Handed n s → N (a_list inner n) HandsOn s
     unfolding a_list
     list_in n s so =
         lines_in n s so ▹ λ l t good. picked l.list.commands (λ e. gives good) (stops inner l.next)
@@ -500,7 +500,7 @@ module _ (g : Given) where
     opener_high false p is = reserved_high p is
 
     reserved_or_paren_in : (text : Spelled) (paren : Bool) (position : Position) (s : State) → IsRead T s.at
-        → N (reserved_or_paren text paren position) Behind s
+        → N (reserved_or_paren text paren position) HandsOn s
     unfolding reserved_or_paren
     reserved_or_paren_in text paren position s is =
         token_on (moved_on (past_opener paren) (opener_high paren s.at is)) ▹ λ x t le.
@@ -510,14 +510,14 @@ module _ (g : Given) where
     closes : (c : Closing) (n : Next) (s : State) → Handed n s → is_closing c n.token ≡ true → IsRead T s.at
     closes c n s so e = read n s so (is_closing c) (closes_none c) e
 
-    closing_in : (c : Closing) (n : Next) (s : State) → Handed n s → N (closing inner c n) Behind s
+    closing_in : (c : Closing) (n : Next) (s : State) → Handed n s → N (closing inner c n) HandsOn s
     unfolding closing
     closing_in c n s so =
         picked (is_closing c n.token)
         (λ e. reserved_or_paren_in _ (is_close_paren c) _ s (closes c n s so e))
         (stops inner n)
 
-    branch_in : (n : Next) (s : State) → Handed n s → N (a_branch inner n) Behind s
+    branch_in : (n : Next) (s : State) → Handed n s → N (a_branch inner n) HandsOn s
     unfolding a_branch
     branch_in n s so =
         list_in n s so ▹ λ c t one. closing_in closings.Then c.1 t one ▹ λ k u two.
@@ -535,7 +535,7 @@ module _ (g : Given) where
         branch_in k.1 t one ▹ λ x u good. pushed_on (gives good))
         (gives so)
 
-    else_in : (n : Next) (s : State) → Handed n s → N (an_else inner n) Behind s
+    else_in : (n : Next) (s : State) → Handed n s → N (an_else inner n) HandsOn s
     unfolding an_else
     else_in n s so =
         picked (is_closing closings.Else n.token)
@@ -563,7 +563,7 @@ module _ (g : Given) where
     unfolding a_group
     group_in c n s so = list_in n s so ▹ λ l t one. closing_in c l.1 t one ▹ λ k u good. gives good
 
-    for_name_in : (n : Next) (s : State) → Handed n s → N (a_for_name inner n) Behind s
+    for_name_in : (n : Next) (s : State) → Handed n s → N (a_for_name inner n) HandsOn s
     unfolding a_for_name
     for_name_in n s so =
         picked (begins_word n.token)
@@ -610,7 +610,7 @@ module _ (g : Given) where
         closing_in closings.Do h.next u two ▹ λ d v three. group_in closings.Done d.1 v three ▹ λ b w good.
         gives good
 
-    case_word_in : (n : Next) (s : State) → Handed n s → N (a_case_word inner n) Behind s
+    case_word_in : (n : Next) (s : State) → Handed n s → N (a_case_word inner n) HandsOn s
     unfolding a_case_word
     case_word_in n s so =
         picked (begins_word n.token)
@@ -708,13 +708,13 @@ module _ (g : Given) where
     form_in openers.For n s so = for_in_text n s so
     form_in openers.Case n s so = case_in_text n s so
 
-    a_compound_in : (o : Opener) (s : State) → IsRead T s.at → N (a_compound inner o) Behind s
+    a_compound_in : (o : Opener) (s : State) → IsRead T s.at → N (a_compound inner o) HandsOn s
     unfolding a_compound
     a_compound_in o s is =
         reserved_or_paren_in _ (is_open_paren o) _ s is ▹ λ x t one. form_in o x.1 t one ▹ λ f u good.
         pushed_on (gives good)
 
-    a_function_in : (name : Span) (s : State) → IsRead T s.at → N (a_function inner name) Behind s
+    a_function_in : (name : Span) (s : State) → IsRead T s.at → N (a_function inner name) HandsOn s
     unfolding a_function
     a_function_in name s is =
         reserved_or_paren_in _ true Command s is ▹ λ o t one. closing_in closings.Paren o.1 t one ▹ λ c u two.

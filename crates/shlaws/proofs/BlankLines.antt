@@ -63,12 +63,12 @@ some_then : (one more : Row AnEntry) → is_empty more ≡ false → is_empty (o
 some_then [] more some = some
 some_then (x ∷ xs) more some = refl
 
-pub behind_line : (so : SoFar) (es : Row AnEntry) (e : AnEntry) (n : ℕ)
+pub after_line : (so : SoFar) (es : Row AnEntry) (e : AnEntry) (n : ℕ)
     → (is_blank_line (past_empty_lines n (with_line so (es ++ e ∷ []))) ≡ true) ↔ (2 ≤ n + 1)
-behind_line so es e zero =
+after_line so es e zero =
     let no : is_blank_line (with_line so (es ++ e ∷ [])) ≡ false = rw (not_empty es e) refl in
     (λ is. absurd (let both : true ≡ false = sym is ∙ no in cc), λ le. absurd (omega arith))
-behind_line so es e (suc n) =
+after_line so es e (suc n) =
     let l : SoFar = with_line so (es ++ e ∷ []) in
     let some : is_empty (past_empty_lines (suc n) l).entries ≡ false =
     same_so_far (suc n) l ∙ some_then so.entries (es ++ e ∷ []) (not_empty es e) in

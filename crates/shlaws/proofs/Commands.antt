@@ -40,8 +40,8 @@ module _ (g : Given) where
   T = g.text
 
   -- what was read, and the token after it
-  abbrev pub Behind : {X : Type 0} → X × Next → State → Type 0
-  Behind x t = Begins g x.1 t
+  abbrev pub HandsOn : {X : Type 0} → X × Next → State → Type 0
+  HandsOn x t = Begins g x.1 t
 
   -- the same, and less is left than at s
   abbrev pub Further : {X : Type 0} → State → X × Next → State → Type 0
@@ -59,7 +59,7 @@ module _ (g : Given) where
 
   -- and then what was read is given with it
   pub next_given : {X : Type 0} {x : X} (position : Position) (s : State)
-      → Goes g (next_token position >>= λ n. give (x, n)) Behind s
+      → Goes g (next_token position >>= λ n. give (x, n)) HandsOn s
   next_given position s = first g (next_on position s) (λ n t good. gives g good)
 
   -- where the token passes such a test a byte is read
@@ -91,7 +91,7 @@ module _ (g : Given) where
       by (Some c) = moves g (first g (next_on Command _) (λ m u good. gives g (holds m u good)))
       by None = gives g so
 
-  pub comment_on : (n : Next) (s : State) → Begins g n s → Goes g (a_comment n) Behind s
+  pub comment_on : (n : Next) (s : State) → Begins g n s → Goes g (a_comment n) HandsOn s
   comment_on n s so = comment_so (Begins g) (λ m t good. good) n s so
 
   -- the comment that is kept, and then the rest
@@ -112,7 +112,7 @@ module _ (g : Given) where
       (λ x u good. (good.0, λ f. good.1))))
       (λ e. gives g (so, λ f. absurd cc))
 
-  pub semicolon_on : (n : Next) (s : State) → Begins g n s → Goes g (a_semicolon n) Behind s
+  pub semicolon_on : (n : Next) (s : State) → Begins g n s → Goes g (a_semicolon n) HandsOn s
   unfolding a_semicolon
   semicolon_on n s so = picks g (is_semicolon n.token) (moves g (next_given Command _)) (gives g so)
 
@@ -137,7 +137,7 @@ module _ (g : Given) where
       (λ c t one. kept j.join.comments c.0 (λ cs. first g (newline_on c.1 t one.0)
       (λ l u two. gives g (step_by g JoinShown s l.0 _ u (λ e. leads_from g s t u one.1 (two.1 e)) two.0))))
 
-  pub join_on : (broken : Bool) (s : State) → Goes g (a_join broken) Behind s
+  pub join_on : (broken : Bool) (s : State) → Goes g (a_join broken) HandsOn s
   unfolding a_join
   join_on broken s =
       first g (next_on Command s) (λ n t so. first g (repeats g JoinShown join_turn_on _ t so)
@@ -171,7 +171,7 @@ module _ (g : Given) where
 
     -- ---- redirections
 
-    number_on : (n : Next) (s : State) → Begins g n s → Goes g (a_number n) Behind s
+    number_on : (n : Next) (s : State) → Begins g n s → Goes g (a_number n) HandsOn s
     unfolding a_number
     number_on n s so =
         picks g (is_number_token n.token)
@@ -235,7 +235,7 @@ module _ (g : Given) where
     unfolding item_turn
     item_turn_on i s so = item_on_by i s so (after_word i.next.token) refl
 
-    simple_on : (i : Items) (s : State) → Begins g i.next s → Goes g (a_simple inner i) Behind s
+    simple_on : (i : Items) (s : State) → Begins g i.next s → Goes g (a_simple inner i) HandsOn s
     unfolding a_simple
     simple_on i s so = first g (repeats g ItemsShown item_turn_on i s so) (λ j t good. gives g good)
 
@@ -249,31 +249,31 @@ module _ (g : Given) where
         (redirect_on i.next.broken Command i.items i.next s so) (gives g so)
 
     with_redirect_list_on : (c : ACommand × Next) (s : State) → Begins g c.1 s →
-        Goes g (with_redirect_list inner c) Behind s
+        Goes g (with_redirect_list inner c) HandsOn s
     unfolding with_redirect_list
     with_redirect_list_on c s so =
         first g (repeats g ItemsShown redirect_turn_on (so_many [] Command c.1) s so)
         (λ r t good. gives g good)
 
-    pub compound_on_by : (n : Next) (o : Option Opener) (s : State) → Goes g (compound_by inner n o) Behind s
+    pub compound_on_by : (n : Next) (o : Option Opener) (s : State) → Goes g (compound_by inner n o) HandsOn s
     compound_on_by n (Some o) s = first g (fine.compound o s) with_redirect_list_on
     compound_on_by n None s = stopped n
 
-    word_command_on : (s : State) → Goes g (a_word_command inner) Behind s
+    word_command_on : (s : State) → Goes g (a_word_command inner) HandsOn s
     unfolding a_word_command
     word_command_on s =
         sees g (first g (word_on g inner fine s) (λ w t one. first g (next_on Suffix t)
         (λ n u so. picks g (is_paren n.token) (picks g _ (fine.function (word_span w) u) (stops g))
         (pushes g (simple_on (so_many _ Suffix n) u so)))))
 
-    command_on : (n : Next) (s : State) → Begins g n s → Goes g (a_command inner n) Behind s
+    command_on : (n : Next) (s : State) → Begins g n s → Goes g (a_command inner n) HandsOn s
     unfolding a_command
     command_on n s so =
         picks g (is_word n.token) (word_command_on s)
         (picks g (begins_simple n.token) (simple_on (so_many [] Command n) s so)
         (compound_on_by n (opener_of n.token) s))
 
-    bang_on : (n : Next) (s : State) → Begins g n s → Goes g (a_bang n) Behind s
+    bang_on : (n : Next) (s : State) → Begins g n s → Goes g (a_bang n) HandsOn s
     unfolding a_bang
     bang_on n s so =
         picks g (is_bang n.token)
@@ -293,7 +293,7 @@ module _ (g : Given) where
         (λ j u one. first g (command_on j.1 u one) (λ c v good. pushes g (gives g good))))))
         (λ e. gives g so)
 
-    pipeline_on : (n : Next) (s : State) → Begins g n s → Goes g (a_pipeline inner n) Behind s
+    pipeline_on : (n : Next) (s : State) → Begins g n s → Goes g (a_pipeline inner n) HandsOn s
     unfolding a_pipeline
     pipeline_on n s so =
         first g (bang_on n s so) (λ b t one. first g (command_on b.1 t one)
@@ -320,7 +320,7 @@ module _ (g : Given) where
     unfolding and_or_turn
     and_or_turn_on a s so = joined_on_by a s so (and_or_operator_of a.next.token) refl
 
-    and_or_on : (n : Next) (s : State) → Begins g n s → Goes g (an_and_or inner n) Behind s
+    and_or_on : (n : Next) (s : State) → Begins g n s → Goes g (an_and_or inner n) HandsOn s
     unfolding an_and_or
     and_or_on n s so =
         first g (pipeline_on n s so)

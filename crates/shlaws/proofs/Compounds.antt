@@ -26,7 +26,7 @@ use Rattle.shgrammar.proofs.Places.{after_low, past_low}
 use Rattle.shgrammar.specs.Classes.{is_name}
 use Rattle.shlaws.proofs.Forms.{Goes, Steps, ahead, ending, first, follows, gives, in_level, in_subst, leads_byte, leads_from, led, moves, moves_to, picks, picks_by, pushes, pushes_to, repeats, sees, step_by, stops, tokens as one_token}
 use Rattle.shlaws.proofs.Words.{All, Begins, Fine, word_on}
-use Rattle.shlaws.proofs.Commands.{Behind, Further, ItemsShown, JoinShown, byte_passed, comment_on, compound_on_by, entry_on, item_on, join_turn_on, newline_on, next_given, next_on, nothing_on, read_here, semicolon_on, stopped}
+use Rattle.shlaws.proofs.Commands.{Further, HandsOn, ItemsShown, JoinShown, byte_passed, comment_on, compound_on_by, entry_on, item_on, join_turn_on, newline_on, next_given, next_on, nothing_on, read_here, semicolon_on, stopped}
 
 reserved_far : (T : List ℕ) (p : ℕ) → p < past_reserved T p
 unfolding past_reserved
@@ -68,7 +68,7 @@ module _ (g : Given) where
       (λ y u good. (good.0, λ read. leads_byte g s u read (omega (arith, on, good.1)))))
 
   reserved_or_paren_only : (text : Spelled) (paren : Bool) (position : Position) (s : State)
-      → Goes g (reserved_or_paren text paren position) (Behind g) s
+      → Goes g (reserved_or_paren text paren position) (HandsOn g) s
   reserved_or_paren_only text paren position s =
       follows g (reserved_or_paren_on text paren position s) (λ x t good. good.0)
 
@@ -114,7 +114,7 @@ module _ (g : Given) where
         → Goes g (many (list_turn inner) (list_so (none_listed false) n)) ListShown s
     lines_on n s so = repeats g ListShown list_turn_on _ s so
 
-    list_on : (n : Next) (s : State) → Begins g n s → Goes g (a_list inner n) (Behind g) s
+    list_on : (n : Next) (s : State) → Begins g n s → Goes g (a_list inner n) (HandsOn g) s
     unfolding a_list
     list_on n s so =
         first g (lines_on n s so)
@@ -140,7 +140,7 @@ module _ (g : Given) where
     group_on what n s so =
         first g (list_on n s so) (λ l t one. first g (closing_on what l.1 t one) (λ c u two. gives g two.0))
 
-    branch_on : (n : Next) (s : State) → Begins g n s → Goes g (a_branch inner n) (Behind g) s
+    branch_on : (n : Next) (s : State) → Begins g n s → Goes g (a_branch inner n) (HandsOn g) s
     unfolding a_branch
     branch_on n s so =
         first g (list_on n s so) (λ c t one. first g (closing_on closings.Then c.1 t one)
@@ -159,7 +159,7 @@ module _ (g : Given) where
         (first g (branch_on k.1 t one.0) (λ x u good. pushes g (gives g good)))))
         (λ e. gives g so)
 
-    else_on : (n : Next) (s : State) → Begins g n s → Goes g (an_else inner n) (Behind g) s
+    else_on : (n : Next) (s : State) → Begins g n s → Goes g (an_else inner n) (HandsOn g) s
     unfolding an_else
     else_on n s so =
         picks g (is_closing closings.Else n.token)
@@ -184,7 +184,7 @@ module _ (g : Given) where
 
     -- ---- `for`
 
-    for_name_on : (n : Next) (s : State) → Goes g (a_for_name inner n) (Behind g) s
+    for_name_on : (n : Next) (s : State) → Goes g (a_for_name inner n) (HandsOn g) s
     unfolding a_for_name
     for_name_on n s =
         picks g (begins_word n.token)
@@ -232,7 +232,7 @@ module _ (g : Given) where
 
     -- ---- `case`
 
-    case_word_on : (n : Next) (s : State) → Goes g (a_case_word inner n) (Behind g) s
+    case_word_on : (n : Next) (s : State) → Goes g (a_case_word inner n) (HandsOn g) s
     unfolding a_case_word
     case_word_on n s =
         picks g (begins_word n.token)
@@ -324,13 +324,13 @@ module _ (g : Given) where
     form_on openers.For n s so = for_on n s
     form_on openers.Case n s so = case_on n s
 
-    pub compound_on : (o : Opener) (s : State) → Goes g (a_compound inner o) (Behind g) s
+    pub compound_on : (o : Opener) (s : State) → Goes g (a_compound inner o) (HandsOn g) s
     unfolding a_compound
     compound_on o s =
         first g (reserved_or_paren_only _ (is_open_paren o) _ s) (λ x t one. first g (form_on o x.1 t one)
         (λ f u good. pushes g (gives g good)))
 
-    pub function_on : (name : Span) (s : State) → Goes g (a_function inner name) (Behind g) s
+    pub function_on : (name : Span) (s : State) → Goes g (a_function inner name) (HandsOn g) s
     unfolding a_function
     function_on name s =
         first g (reserved_or_paren_only _ true Command s) (λ o t one. first g (closing_on closings.Paren o.1 t one)

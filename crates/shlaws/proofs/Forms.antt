@@ -10,7 +10,7 @@ use Rattle.shgrammar.specs.Form.{Changed, Either, Ending, Form, Halts, Just, One
 use Rattle.shgrammar.specs.HereDocuments.{Change, changed, own_level}
 use Rattle.shgrammar.specs.Shows.{IsRead}
 use Rattle.shgrammar.specs.Sights.{Given, Move, Sight, State, seen}
-use Rattle.shgrammar.proofs.Holds.{Behind, Holds, low}
+use Rattle.shgrammar.proofs.Holds.{AtOrAfter, Holds, low}
 use Rattle.shgrammar.proofs.OneOutcome.{is}
 use Rattle.shgrammar.proofs.Stretches.{place_low}
 use Rattle.shlaws.specs.Onward.{TurnsOn, last as last_on, more as more_on, halts as halts_on, may_onward}
@@ -198,11 +198,11 @@ module _ (g : Given) where
       → Goes r (λ x t. P x t × (s.at ≤ t.at)) s
   ahead {P = P} {r = r} {s = s} one =
       record {
-        on = λ y k part. let a = one.on y k part in (a.0, also_by P (Behind s) y a.1 (back y k part));
+        on = λ y k part. let a = one.on y k part in (a.0, also_by P (AtOrAfter s) y a.1 (back y k part));
       }
     where
-      back : (y : Read _) (k : Row Spelled) → may r g s y k → Holds (Behind s) y
-      back y k part = subst (Holds (Behind s)) (sym ((is r g s).only y k part)) (low r Whole g s).told
+      back : (y : Read _) (k : Row Spelled) → may r g s y k → Holds (AtOrAfter s) y
+      back y k part = subst (Holds (AtOrAfter s)) (sym ((is r g s).only y k part)) (low r Whole g s).told
 
   -- ---- repetitions
 

@@ -24,7 +24,7 @@ pub fn blank_entries()
 /// So it is in a script, which is read line by line: between the last entry of one line and the first of
 /// another are one newline token more than lines without entries.
 pub fn blank_lines()
-    ensures behind_line { (so : SoFar) (es : Row AnEntry) (e : AnEntry) (n : ℕ) →
+    ensures after_line { (so : SoFar) (es : Row AnEntry) (e : AnEntry) (n : ℕ) →
         (is_blank_line (past_empty_lines n (with_line so (es ++ e ∷ []))) ≡ true) ↔ (2 ≤ n + 1) }
     ensures first { (n : ℕ) → is_blank_line (past_empty_lines n nothing_yet) ≡ false }
     ensures told { (blank : Bool) → is_blank_next (none_listed blank) ≡ blank }

@@ -7,7 +7,7 @@ use Rattle.shlive.specs.Ahead.{Ahead, StopsBy, TakesBytes}
 use Rattle.shlive.specs.Lines.{IsInLine}
 use Rattle.shtext.specs.Device.{Writes}
 use Rattle.shtext.specs.Edit.{ASplice}
-use Rattle.shlive.specs.Requests.{EndsBy, Request, Parser, asks, behind_bytes, clean, cut, edit, edit_alone, first_line, flawed, more_parts, next_by_form, next_by_line, next_by_kind, next_request_of, nothing, kind_of_line, part_by_line, splice_by, unfinished, with_bytes}
+use Rattle.shlive.specs.Requests.{EndsBy, Request, Parser, after_payload, asks, clean, cut, edit, edit_alone, first_line, flawed, more_parts, next_by_form, next_by_line, next_by_kind, next_request_of, nothing, kind_of_line, part_by_line, splice_by, unfinished, with_bytes}
 use Rattle.shlive.specs.Turns.{ChangesNothing, EndsAs, IsTurn, NoFurther, Replied, RepliesTo, Spells, TurnState, end_between, end_inside}
 use Rattle.shlive.specs.declared.incoming.InputEnd.{InputEnd}
 use Rattle.shlive.specs.declared.incoming.InputEnd.TheVariants as stops
@@ -36,35 +36,35 @@ line_cut (c ∷ text) p some = ap next_by_line (line_open (c ∷ text) p)
 
 module _ (part : Part) (next : ASplice → Parser) (bytes : List ℕ) where
   seam : (more : List ℕ) → length bytes ≡ part.count →
-      with_bytes part next (bytes ++ more) ≡ behind_bytes (next (splice_by part bytes)) (first_line more)
+      with_bytes part next (bytes ++ more) ≡ after_payload (next (splice_by part bytes)) (first_line more)
   seam more all =
-      ap (λ n. behind_bytes (next (splice_by part (take n (bytes ++ more)))) (first_line (drop n (bytes ++ more))))
+      ap (λ n. after_payload (next (splice_by part (take n (bytes ++ more)))) (first_line (drop n (bytes ++ more))))
       (sym all)
-      ∙ ap (λ l. behind_bytes (next (splice_by part l)) (first_line (drop (length bytes) (bytes ++ more))))
+      ∙ ap (λ l. after_payload (next (splice_by part l)) (first_line (drop (length bytes) (bytes ++ more))))
       (take-append_seam bytes more)
-      ∙ ap (λ l. behind_bytes (next (splice_by part bytes)) (first_line l)) (drop-append_seam bytes more)
+      ∙ ap (λ l. after_payload (next (splice_by part bytes)) (first_line l)) (drop-append_seam bytes more)
 
   pub bytes_whole : (text rest : List ℕ) → length bytes ≡ part.count → IsInLine text
       → with_bytes part next ((bytes ++ (text ++ 10 ∷ [])) ++ rest)
-      ≡ behind_bytes (next (splice_by part bytes)) (Some (text, rest))
+      ≡ after_payload (next (splice_by part bytes)) (Some (text, rest))
   bytes_whole text rest all p =
       ap (with_bytes part next) (append_assoc bytes (text ++ 10 ∷ []) rest)
-      ∙ seam ((text ++ 10 ∷ []) ++ rest) all ∙ ap (behind_bytes (next (splice_by part bytes))) (line_ends text rest p)
+      ∙ seam ((text ++ 10 ∷ []) ++ rest) all ∙ ap (after_payload (next (splice_by part bytes))) (line_ends text rest p)
 
   pub bytes_cut : length bytes < part.count → with_bytes part next bytes ≡ unfinished
   bytes_cut few =
-      ap (λ l. behind_bytes (next (splice_by part (take part.count bytes))) (first_line l))
+      ap (λ l. after_payload (next (splice_by part (take part.count bytes))) (first_line l))
       (drop_all part.count bytes (omega (arith, few)))
 
   pub bytes_cut_line : (text : List ℕ) → length bytes ≡ part.count → IsInLine text →
       with_bytes part next (bytes ++ text) ≡ unfinished
-  bytes_cut_line text all p = seam text all ∙ ap (behind_bytes (next (splice_by part bytes))) (line_open text p)
+  bytes_cut_line text all p = seam text all ∙ ap (after_payload (next (splice_by part bytes))) (line_open text p)
 
-pub after_none : (next : Parser) (text rest : List ℕ) → text ≡ [] → behind_bytes next (Some (text, rest)) ≡ next rest
-after_none next text rest none = ap (λ l. behind_bytes next (Some (l, rest))) none
+pub after_none : (next : Parser) (text rest : List ℕ) → text ≡ [] → after_payload next (Some (text, rest)) ≡ next rest
+after_none next text rest none = ap (λ l. after_payload next (Some (l, rest))) none
 
 pub after_some : (next : Parser) (text rest : List ℕ) → (text ≡ [] → ⊥) →
-    behind_bytes next (Some (text, rest)) ≡ asks (flawed NoPayload) rest
+    after_payload next (Some (text, rest)) ≡ asks (flawed NoPayload) rest
 after_some next [] rest some = absurd (some refl)
 after_some next (c ∷ text) rest some = refl
 
@@ -84,7 +84,7 @@ parts_begin (suc n) ss e = let wrong : unfinished ≡ nothing = e in absurd cc
 edit_begins : (part : Part) → with_bytes part edit_alone [] ≡ nothing → ⊥
 edit_begins part e =
     let cut : with_bytes part edit_alone [] ≡ unfinished =
-    ap (λ l. behind_bytes (edit_alone (splice_by part (take part.count []))) (first_line l))
+    ap (λ l. after_payload (edit_alone (splice_by part (take part.count []))) (first_line l))
     (drop_all part.count [] (omega arith)) in
     let wrong : unfinished ≡ nothing = sym cut ∙ e in absurd cc
 

@@ -2,7 +2,7 @@
 use Rattle.std.proofs.Common.{◌≡◌, ℕ, zero, suc, ◌<◌, ◌≤◌, Bool, true, false, cond, List, [], ◌∷◌, ◌++◌, List as Row, Option, None, Some, length, take, drop, refl, sym, ap, ◌∙◌, arith, append_assoc, append-nil, length-drop, subst}
 use Rattle.shtext.specs.Text.{is_newline}
 use Rattle.shtext.specs.Edit.{ASplice}
-use Rattle.shlive.specs.Requests.{Begins, Ending, EndsBy, Lined, NextRequest, Request, Requests, Parser, asks, behind_bytes, clean, cut, edit_alone, first_line, quits, left, more_parts, next_by_line, next_by_kind, next_by_part, next_request_of, none_yet, nothing, one_more, kind_of_line, part_by_line, part_of_line, splice_by, unfinished, with_bytes, with_text_before}
+use Rattle.shlive.specs.Requests.{Begins, Ending, EndsBy, Lined, NextRequest, Request, Requests, Parser, after_payload, asks, clean, cut, edit_alone, first_line, quits, left, more_parts, next_by_line, next_by_kind, next_by_part, next_request_of, none_yet, nothing, one_more, kind_of_line, part_by_line, part_of_line, splice_by, unfinished, with_bytes, with_text_before}
 use Rattle.shlive.specs.declared.request_kind.RequestKind.{RequestKind}
 use Rattle.shlive.specs.declared.request_kind.Part.{Part}
 use Rattle.shlive.specs.declared.request_kind.EditForm.TheVariants as forms
@@ -40,7 +40,7 @@ abbrev GoesOn : ℕ → Parser → Type 0
 GoesOn n next = (rest : List ℕ) → length rest < n → Leaves n (next rest)
 
 leaves_after : (next : Parser) (text : List ℕ) (l : Lined) (n : ℕ) → Shorter text l → length text < n → GoesOn n next →
-    Leaves n (behind_bytes next l)
+    Leaves n (after_payload next l)
 leaves_after next text None n p low on = tt
 leaves_after next text (Some ([], rest)) n p low on = on rest (omega (arith, p, low))
 leaves_after next text (Some (c ∷ line, rest)) n p low on = omega (arith, p, low)

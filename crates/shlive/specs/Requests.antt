@@ -60,10 +60,10 @@ Parser = List ℕ → NextRequest
 -- ---- edits
 
 -- what follows the bytes of a splice, by the rest of their last line: it has to be empty
-abbrev pub behind_bytes : Parser → Lined → NextRequest
-behind_bytes next None = unfinished
-behind_bytes next (Some ([], rest)) = next rest
-behind_bytes next (Some (c ∷ line, rest)) = asks (flawed NoPayload) rest
+abbrev pub after_payload : Parser → Lined → NextRequest
+after_payload next None = unfinished
+after_payload next (Some ([], rest)) = next rest
+after_payload next (Some (c ∷ line, rest)) = asks (flawed NoPayload) rest
 
 abbrev pub splice_by : Part → List ℕ → ASplice
 splice_by p bytes = record { a = p.a; b = p.b; bytes = bytes }
@@ -71,7 +71,7 @@ splice_by p bytes = record { a = p.a; b = p.b; bytes = bytes }
 -- what follows the line of a part: its bytes and a newline, and then what the splice goes on with
 abbrev pub with_bytes : Part → (ASplice → Parser) → Parser
 with_bytes p next rest =
-    behind_bytes (next (splice_by p (take p.count rest))) (first_line (drop p.count rest))
+    after_payload (next (splice_by p (take p.count rest))) (first_line (drop p.count rest))
 
 -- the most bytes that the line of a request has, and that of a part
 abbrev pub line_limit : ℕ

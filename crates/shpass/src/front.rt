@@ -13,7 +13,7 @@ use std::mem;
 /// The place after the line that begins at an offset, if it has no fault and a
 /// newline ended it that is its last byte.
 #[tactic(auto, using(shline::proofs::Wanted::seen_after))]
-fn behind_line<S: Source>(
+fn end_of_passable_line<S: Source>(
     alloc: Global,
     edition: Edition,
     source: &S,
@@ -67,7 +67,7 @@ pub fn faultless_front<S: Source>(
     ensures memory { IfErr result (λ e. wants_memory NO_TREE (S.bytes source.now) ≡ true) }
 {
     let mut at = 0;
-    'lines: while let Some(next) = behind_line(alloc, edition, source, at)? {
+    'lines: while let Some(next) = end_of_passable_line(alloc, edition, source, at)? {
         at = next;
     }
     Ok(at)

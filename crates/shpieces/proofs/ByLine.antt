@@ -291,11 +291,11 @@ module _ {S : Type 0} (edition : Edition) (y : Layout) (H front : List ℕ) wher
           prints = outer_printed y H q blank line a.0 text then a.3 is;
         }
 
-    pub behind_line : (other : List ℕ) (told : ParsedLine) → other ≡ H → told.newline ≡ true →
+    pub after_line : (other : List ℕ) (told : ParsedLine) → other ≡ H → told.newline ≡ true →
         IsReadBy (OuterReads old.edition other b.so old.at) (Ok told)
         → new.at ≡ old.at + told.len → Stands new (with_line b.so (map view_entry told.entries.items)) →
         Prints (map view_entry told.entries.items) → Between new then
-    behind_line other told same newline read ends stands is =
+    after_line other told same newline read ends stands is =
         let q = old.at in
         let n = length front + q in
         let line = map view_entry told.entries.items in

@@ -175,20 +175,20 @@ module _ {edition : Edition} {B T : List ℕ} {o : ℕ} (S : StandsIn edition B 
   emptied h p ms at =
       let zs = laid_after [] ms in
       let whole : drop p T ≡ (10 ∷ held_bytes h.waiting) ++ zs = at in
-      let behind_it : drop (p + 1) T ≡ held_bytes h.waiting ++ zs =
+      let at_after : drop (p + 1) T ≡ held_bytes h.waiting ++ zs =
       skip T p (10 ∷ []) (held_bytes h.waiting ++ zs) at in
       let size : length (drop p T) ≡ suc (length (held_bytes h.waiting ++ zs)) = ap length at in
       let within : p + 1 ≤ length T = omega (arith, size, length-drop p T) in
-      let r = all_bodies h.waiting h.bodies (p + 1) zs within behind_it in
+      let r = all_bodies h.waiting h.bodies (p + 1) zs within at_after in
       let q = p + 1 + length (held_bytes h.waiting) in
       let now = held_so [] (h.bodies ++ r.spans) in
       record {
         later = now;
         q = q;
         on = omega arith;
-        within = within_by (p + 1) (length (held_bytes h.waiting)) (held_bytes h.waiting) zs within behind_it refl;
+        within = within_by (p + 1) (length (held_bytes h.waiting)) (held_bytes h.waiting) zs within at_after refl;
         reads = gives _ (changes (ap state_by r.reads));
-        at = skip T (p + 1) (held_bytes h.waiting) zs behind_it;
+        at = skip T (p + 1) (held_bytes h.waiting) zs at_after;
         none = refl;
         texts = append-nil (map (text_at B) (h.bodies ++ r.spans)) ∙ map-append (text_at B) h.bodies r.spans
             ∙ ap (λ r. map (text_at B) h.bodies ++ r) r.texts;

@@ -211,14 +211,14 @@ module _ {edition : Edition} {B T : List ℕ} {o : ℕ} {S : StandsIn edition B 
   word_at h position begins m w f ms blank good follow at =
       let t = good.t in
       let there = at ∙ ap (λ w. lay h (text m ∷ (print_word w ++ ms))) good.is in
-      let behind_it = at_text S h f m (text t ∷ ms) there in
-      let found = good.reads.there (g S) (f + length m) (lay h ms) (behind_it ∙ laid_text h t ms)
+      let at_after = at_text S h f m (text t ∷ ms) there in
+      let found = good.reads.there (g S) (f + length m) (lay h ms) (at_after ∙ laid_text h t ms)
       (follow (held_bytes h.waiting)) in
       let gap = margin_gap S h m f (text t ∷ ms) blank there
       (record { place = found.place; no_blank = found.no_blank }) in
       let q = past_blanks T f in
       let e = q + length t in
-      let at_q = subst (λ r. At S h r (text t ∷ ms)) (sym gap.blanks) behind_it in
+      let at_q = subst (λ r. At S h r (text t ∷ ms)) (sym gap.blanks) at_after in
       let there_q = at_q ∙ laid_text h t ms in
       let again_there = good.reads.there (g S) q (lay h ms) there_q (follow (held_bytes h.waiting)) in
       let v = again_there.word B (sym S.here) in
@@ -293,7 +293,7 @@ module _ {edition : Edition} {B T : List ℕ} {o : ℕ} {S : StandsIn edition B 
       let there_q = at_q ∙ laid_text h (codes "|") X in
       let r_q = byte_here T q 124 (lay h X) refl there_q in
       let moved : Gives (g S) (move one_byte) (state h q) tt (state h (q + 1)) =
-      subst (λ p. Gives (g S) (move one_byte) (state h q) tt (state h p)) r_q.behind_it (moved_here one_byte) in
+      subst (λ p. Gives (g S) (move one_byte) (state h q) tt (state h p)) r_q.place_after (moved_here one_byte) in
       let v = word_at h Suffix begins_word (codes " ") w (q + 1) (more_marks ws ms) refl good.0
       (more_follows ws ms) r_q.rest in
       let others = patterns_read h ws (acc ++ v.value ∷ []) v.e ms good.1 v.at in
@@ -348,10 +348,10 @@ module _ {edition : Edition} {B T : List ℕ} {o : ℕ} {S : StandsIn edition B 
         At S h e (print_comment_lines d cs ++ (text m ∷ ms)) →
         LinesRead h true acc (asked S Command e) (past_blanks T e) cs m ms
     lines_read h [] acc e good at =
-        let behind_it = at_text S h e m ms at in
-        let gap = margin_gap S h m e ms blank_m at (operand h (e + length m) behind_it).start in
+        let at_after = at_text S h e m ms at in
+        let gap = margin_gap S h m e ms blank_m at (operand h (e + length m) at_after).start in
         let q = past_blanks T e in
-        let it = operand h q (subst (λ r. At S h r ms) (sym gap.blanks) behind_it) in
+        let it = operand h q (subst (λ r. At S h r ms) (sym gap.blanks) at_after) in
         record {
           comments = [];
           e = e;
@@ -365,11 +365,11 @@ module _ {edition : Edition} {B T : List ℕ} {o : ℕ} {S : StandsIn edition B 
     lines_read h (c ∷ cs) acc e good at =
         let others_marks = print_comment_lines d cs ++ (text m ∷ ms) in
         let more = line_end ∷ others_marks in
-        let behind_it = at_text S h e d (text c ∷ more) at in
+        let at_after = at_text S h e d (text c ∷ more) at in
         let gap = margin_gap S h d e (text c ∷ more) blank_d at
-        (comment_start S h c (e + length d) others_marks good.0 behind_it) in
+        (comment_start S h c (e + length d) others_marks good.0 at_after) in
         let q = past_blanks T e in
-        let at_q = subst (λ r. At S h r (text c ∷ more)) (sym gap.blanks) behind_it in
+        let at_q = subst (λ r. At S h r (text c ∷ more)) (sym gap.blanks) at_after in
         let s = span o q (q + length c) in
         let turn = comment_join_turn S h c true acc (asked S Command e) q others_marks good.0 at_q in
         let rest = lines_read turn.later cs (acc ++ s ∷ []) turn.q good.1 turn.at in
@@ -425,14 +425,14 @@ module _ {edition : Edition} {B T : List ℕ} {o : ℕ} {S : StandsIn edition B 
       let q = past_blanks T e in
       let at_q : drop q T ≡ 59 ∷ d ∷ lay h ms =
       subst (λ r. drop r T ≡ 59 ∷ d ∷ lay h ms) (sym gap.blanks) there in
-      let behind_it = byte_after S q 59 d (lay h ms) at_q in
+      let at_after = byte_after S q 59 d (lay h ms) at_q in
       record {
         token_is = token_is q (lay h ms) at_q;
         no_comment_it = no_byte S q 59 (d ∷ lay h ms) 35 refl at_q;
         f = q + 1 + 1;
-        at = next_one T (q + 1) d (lay h ms) behind_it;
+        at = next_one T (q + 1) d (lay h ms) at_after;
         low = omega arith;
-        on = byte_moved S h q 59 (d ∷ lay h ms) refl at_q ⟫ byte_moved S h (q + 1) d (lay h ms) clear behind_it;
+        on = byte_moved S h q 59 (d ∷ lay h ms) refl at_q ⟫ byte_moved S h (q + 1) d (lay h ms) clear at_after;
       }
 
   ender_read : (h : Held) (m : Text) (e : ℕ) (falls : Bool) (ms : Marks) → all_blank m ≡ true →
@@ -663,7 +663,7 @@ module _ {edition : Edition} {B T : List ℕ} {o : ℕ} {S : StandsIn edition B 
       second_of _ _ other.esac
       (seen_here the_place ⟫ second_of _ _ other.bracket given_here ⟫ listed
       ⟫ first_of _ _ (ap (λ (n : Next). is_closing closings.Paren n.token) bracket.0)
-      (paren_alone S h (closing_text closings.Paren) z r_z.behind_it)
+      (paren_alone S h (closing_text closings.Paren) z r_z.place_after)
       ⟫ b.reads ⟫ ended ⟫ pushed_here acc it ⟫ given_here) in
       let onward : q < past_blanks T l.e =
       omega (

@@ -338,7 +338,7 @@ module _ {edition : Edition} {B T : List ℕ} {o : ℕ} {S : StandsIn edition B 
       let there = at ∙ laid_text h (codes "|") (join_rest y m j ++ X) in
       let r = byte_here T q 124 (lay h (join_rest y m j ++ X)) refl there in
       let moved : Gives (g S) (move one_byte) (state h q) tt (state h (q + 1)) =
-      subst (λ p. Gives (g S) (move one_byte) (state h q) tt (state h p)) r.behind_it (moved_here one_byte) in
+      subst (λ p. Gives (g S) (move one_byte) (state h q) tt (state h p)) r.place_after (moved_here one_byte) in
       let jr = join_read S h y m X (deeper_blank y m blank)
       (λ h p at. begins_operand S p (command_begins h d c p ms good f.follow at)) j.broken j.comments
       (q + 1) normal_j good_j (at_text S h q (codes "|") (join_rest y m j ++ X) at) in
@@ -486,17 +486,17 @@ module _ {edition : Edition} {B T : List ℕ} {o : ℕ} {S : StandsIn edition B 
       let there = at ∙ laid_text h (codes "! ") ms in
       let r = byte_here T p 33 (32 ∷ lay h ms) refl there in
       let moved : Gives (g S) (move one_byte) (state h p) tt (state h (p + 1)) =
-      subst (λ q. Gives (g S) (move one_byte) (state h p) tt (state h q)) r.behind_it (moved_here one_byte) in
+      subst (λ q. Gives (g S) (move one_byte) (state h p) tt (state h q)) r.place_after (moved_here one_byte) in
       let space : At S h (p + 1) (text (codes " ") ∷ ms) = r.rest ∙ sym (laid_text h (codes " ") ms) in
-      let behind_it = at_text S h (p + 1) (codes " ") ms space in
-      let gap = margin_gap S h (codes " ") (p + 1) ms refl space (begins (p + 1 + 1) behind_it).start in
+      let at_after = at_text S h (p + 1) (codes " ") ms space in
+      let gap = margin_gap S h (codes " ") (p + 1) ms refl space (begins (p + 1 + 1) at_after).start in
       record {
         value = Some (span o p (p + 1));
         next = asked S Command (p + 1);
         q = past_blanks T (p + 1);
         reads = first_of _ _ (ap is_bang token_is ∙ (bang_begins h p ms at).1)
             (told_here (by (codes "!")) moved ⟫ next_read S h Command (p + 1) ⟫ given_here);
-        at = subst (λ q. At S h q ms) (sym gap.blanks) behind_it;
+        at = subst (λ q. At S h q ms) (sym gap.blanks) at_after;
         token_is = refl;
         shape = refl;
       }
@@ -601,12 +601,12 @@ module _ {edition : Edition} {B T : List ℕ} {o : ℕ} {S : StandsIn edition B 
       let there = at ∙ laid_text h (codes "&&") ms in
       let one_is = byte_here T q 38 (38 ∷ lay h ms) refl there in
       let two_is = byte_here T (q + 1) 38 (lay h ms) refl one_is.rest in
-      two_moves h q one_is.behind_it two_is.behind_it
+      two_moves h q one_is.place_after two_is.place_after
   operator_passed h Or q ms at =
       let there = at ∙ laid_text h (codes "||") ms in
       let one_is = byte_here T q 124 (124 ∷ lay h ms) refl there in
       let two_is = byte_here T (q + 1) 124 (lay h ms) refl one_is.rest in
-      two_moves h q one_is.behind_it two_is.behind_it
+      two_moves h q one_is.place_after two_is.place_after
 
   record PartRead (h : Held) (acc : Row AnAndOrPart) (n : Next) (p : ℕ) (k : AndOrOperator) (j : AJoinOf Text)
       (x : Shape APipelineOf) (ms : Marks) : Type 0 where
@@ -643,11 +643,11 @@ module _ {edition : Edition} {B T : List ℕ} {o : ℕ} {S : StandsIn edition B 
       at =
       let X = print_pipeline y d x ++ ms in
       let moved = operator_passed h k q (join_rest y m j ++ X) at in
-      let behind_it = subst (λ n. At S h (q + n) (join_rest y m j ++ X)) (operator_length k)
+      let at_after = subst (λ n. At S h (q + n) (join_rest y m j ++ X)) (operator_length k)
       (at_text S h q (and_or_text k) (join_rest y m j ++ X) at) in
       let jr = join_read S h y m X (deeper_blank y m blank)
       (λ h p at. (pipeline_begins h d x p ms t good f none at).operand) j.broken j.comments
-      (q + 2) normal_j good_j behind_it in
+      (q + 2) normal_j good_j at_after in
       let xr = pipeline_read jr.later d x jr.next jr.q ms t blank_d good normal f none no_pipe_it jr.token_is
       jr.at in
       let part : AnAndOrPart = record { operator = k; join = jr.join; pipeline = xr.value } in

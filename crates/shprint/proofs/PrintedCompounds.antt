@@ -204,11 +204,11 @@ module _ {edition : Edition} {B T : List ℕ} {o : ℕ} (S : StandsIn edition B 
   pub reserved_read : (h : Held) (m w : Text) (r : Reserved) (e : ℕ) (ms : Marks) → all_blank m ≡ true → Key w r ms →
       At S h e (text m ∷ text w ∷ ms) → ReservedRead h e r ms
   reserved_read h m w r e ms blank key at =
-      let behind_it = at_text S h e m (text w ∷ ms) at in
-      let k = key h (e + length m) (behind_it ∙ laid_text h w ms) in
+      let at_after = at_text S h e m (text w ∷ ms) at in
+      let k = key h (e + length m) (at_after ∙ laid_text h w ms) in
       let gap = margin_gap S h m e (text w ∷ ms) blank at k.start in
       let q = past_blanks T e in
-      let at_q = subst (λ p. At S h p (text w ∷ ms)) (sym gap.blanks) behind_it in
+      let at_q = subst (λ p. At S h p (text w ∷ ms)) (sym gap.blanks) at_after in
       let kq = key h q (at_q ∙ laid_text h w ms) in
       record {
         token_is = tell S kq.token;
@@ -352,17 +352,17 @@ module _ {edition : Edition} {B T : List ℕ} {o : ℕ} {S : StandsIn edition B 
       let r_q = byte_here T q 59 (32 ∷ lay k ms) refl
       (subst (λ r. drop r T ≡ 59 ∷ 32 ∷ lay k ms) (sym gap.blanks) there) in
       let n_is = follower.seen_as k ar.«end» ar.at Command in
-      let behind_it : At S k (q + 1) (text (codes " ") ∷ ms) = r_q.rest ∙ sym (laid_text k (codes " ") ms) in
+      let at_after : At S k (q + 1) (text (codes " ") ∷ ms) = r_q.rest ∙ sym (laid_text k (codes " ") ms) in
       let low = gives_on (an_and_or (level room) n) _ _ _ ar.reads in
       record {
         value = entry (command ar.value) false false None;
         f = q + 1;
         later = k;
-        at = behind_it;
+        at = at_after;
         reads = ar.reads ⟫ some_separator S k (asked S Command ar.«end») q Semicolon
-            (ap (λ (n : Next). separator_of n.token) n_is) r_q.behind_it
+            (ap (λ (n : Next). separator_of n.token) n_is) r_q.place_after
             ⟫ no_comment_read S k (asked S Command (q + 1)) (past_blanks T (q + 1))
-            (closes k (q + 1) behind_it).no_comment_it ⟫ given_here;
+            (closes k (q + 1) at_after).no_comment_it ⟫ given_here;
         on = omega (arith, low, blanks_low T (q + 1));
         shape = ap (λ a. entry (command a) false false None) ar.is;
         texts = ar.texts;
@@ -380,10 +380,10 @@ module _ {edition : Edition} {B T : List ℕ} {o : ℕ} {S : StandsIn edition B 
       let begins : (p : ℕ) → At S h p A →
       PipelineBegins S p = λ p at. and_or_begins fine h m a p
       (text (codes "; ") ∷ text w ∷ ms) tokens.Semicolon good follower refl refl at in
-      let behind_it = at_text S h f (codes " ") A at in
-      let gap = margin_gap S h (codes " ") f A refl at (begins (f + 1) behind_it).operand.start in
+      let at_after = at_text S h f (codes " ") A at in
+      let gap = margin_gap S h (codes " ") f A refl at (begins (f + 1) at_after).operand.start in
       let p = past_blanks T f in
-      let at_p = subst (λ q. At S h q A) (sym gap.blanks) behind_it in
+      let at_p = subst (λ q. At S h q A) (sym gap.blanks) at_after in
       let b = begins p at_p in
       let n = asked S Command f in
       let closes = reserved_closes S (codes " ") w r ms refl key none in
@@ -701,9 +701,9 @@ module _ {edition : Edition} {B T : List ℕ} {o : ℕ} {S : StandsIn edition B 
   reserved_within : (h : Held) (m : Text) (w : Text) (e : ℕ) (ms : Marks) → 0 < length w → all_blank m ≡ true →
       Start T (e + length m) → At S h e (text m ∷ text w ∷ ms) → past_blanks T e < length T
   reserved_within h m w e ms some blank s at =
-      let behind_it = at_text S h e m (text w ∷ ms) at in
+      let at_after = at_text S h e m (text w ∷ ms) at in
       let gap = margin_gap S h m e (text w ∷ ms) blank at s in
-      let low = some_word S (e + length m) w (lay h ms) some (behind_it ∙ laid_text h w ms) in
+      let low = some_word S (e + length m) w (lay h ms) some (at_after ∙ laid_text h w ms) in
       let is = gap.blanks in omega (arith, low, is)
 
   branches_read : (h : Held) (m : Text) (bs : Shape BranchesOf) (other : Shape OtherwiseOf) (acc : Row ABranch)
@@ -813,14 +813,14 @@ module _ {edition : Edition} {B T : List ℕ} {o : ℕ} {S : StandsIn edition B 
   name_read h name f ms good follow at =
       let t = good.t in
       let there = at ∙ ap (λ w. lay h (text (codes " ") ∷ (print_word w ++ ms))) good.is in
-      let behind_it = at_text S h f (codes " ") (text t ∷ ms) there in
-      let found = good.reads.there (g S) (f + 1) (lay h ms) (behind_it ∙ laid_text h t ms)
+      let at_after = at_text S h f (codes " ") (text t ∷ ms) there in
+      let found = good.reads.there (g S) (f + 1) (lay h ms) (at_after ∙ laid_text h t ms)
       (follow (held_bytes h.waiting)) in
       let gap = margin_gap S h (codes " ") f (text t ∷ ms) refl there
       (record { place = found.place; no_blank = found.no_blank }) in
       let q = past_blanks T f in
       let e = q + length t in
-      let at_q = subst (λ r. At S h r (text t ∷ ms)) (sym gap.blanks) behind_it in
+      let at_q = subst (λ r. At S h r (text t ∷ ms)) (sym gap.blanks) at_after in
       let there_q = at_q ∙ laid_text h t ms in
       let v = (good.reads.there (g S) q (lay h ms) there_q (follow (held_bytes h.waiting))).word B (sym S.here) in
       let begins = ap (λ (n : Next). begins_word n.token) (asked_after S Suffix gap)
@@ -864,7 +864,7 @@ module _ {edition : Edition} {B T : List ℕ} {o : ℕ} {S : StandsIn edition B 
       let k = reserved_read S h (codes " ") w r (q + 1) ms refl key
       (r_q.rest ∙ sym (laid_text h (codes " ") (text w ∷ ms))) in
       let moved : Gives (g S) (move one_byte) (state h q) tt (state h (q + 1)) =
-      subst (λ p. Gives (g S) (move one_byte) (state h q) tt (state h p)) r_q.behind_it (moved_here one_byte) in (
+      subst (λ p. Gives (g S) (move one_byte) (state h q) tt (state h p)) r_q.place_after (moved_here one_byte) in (
         k,
         first_of _ _ (ap (λ (n : Next). is_semicolon n.token) n_is)
             (moved ⟫ next_read S h Command (q + 1) ⟫ given_here)
@@ -967,11 +967,11 @@ module _ {edition : Edition} {B T : List ℕ} {o : ℕ} {S : StandsIn edition B 
       At S h e (text m ∷ text (codes ")") ∷ ms) → (told S Command (past_blanks T e) ≡ tokens.CloseParen)
       × At S h (past_blanks T e) (text (codes ")") ∷ ms)
   paren_line h m e ms blank at =
-      let behind_it = at_text S h e m (text (codes ")") ∷ ms) at in
+      let at_after = at_text S h e m (text (codes ")") ∷ ms) at in
       let gap = margin_gap S h m e (text (codes ")") ∷ ms) blank at
-      (start_here (byte_here T (e + length m) 41 (lay h ms) refl (behind_it ∙ laid_text h (codes ")") ms))
+      (start_here (byte_here T (e + length m) 41 (lay h ms) refl (at_after ∙ laid_text h (codes ")") ms))
       refl) in
-      let at_q = subst (λ q. At S h q (text (codes ")") ∷ ms)) (sym gap.blanks) behind_it in
+      let at_q = subst (λ q. At S h q (text (codes ")") ∷ ms)) (sym gap.blanks) at_after in
       (tell S (close_token Command T (past_blanks T e) (lay h ms) (at_q ∙ laid_text h (codes ")") ms)), at_q)
 
   paren_closes : (m : Text) (ms : Marks) → all_blank m ≡ true → (h : Held) (e : ℕ) →
@@ -1026,6 +1026,6 @@ module _ {edition : Edition} {B T : List ℕ} {o : ℕ} {S : StandsIn edition B 
         at = r.rest;
         texts = b.texts;
         reads = b.reads ⟫ first_of _ _ (ap (is_closing closings.Paren) line.0)
-            (paren_alone S k (closing_text closings.Paren) q r.behind_it) ⟫ given_here;
+            (paren_alone S k (closing_text closings.Paren) q r.place_after) ⟫ given_here;
         is = b.is;
       }

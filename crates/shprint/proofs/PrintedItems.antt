@@ -41,7 +41,7 @@ use Rattle.shprint.proofs.Digits.{bare_of_digits}
 use Rattle.shprint.proofs.Gives.{Gives, gives, told_here, ◌⟫◌, given_here, seen_here, moved_here, pushed_here, first_of, second_of, last_turn, one_turn}
 use Rattle.shprint.proofs.Held.{At, Document, Followed, Held, StandsIn, bytes_more, g, held_bytes, lay, one_waits, state, with_document}
 use Rattle.shprint.proofs.Good.{GoodHere, Kind, of_command, of_for, of_compound, GoodItem, of_word, of_argument, of_redirect, of_redirect_after, GoodNumber, GoodRedirect, a_redirect_of, GoodItems, none_more, one_more, GoodSimple, SomeItem, an_item_of}
-use Rattle.shprint.proofs.PrintedText.{laid_text, Adds, at_text, span_text, leads, told, asked, asked_after, tell, tell_word, next_read, some_word, byte_moved, byte_after, Behind, Got}
+use Rattle.shprint.proofs.PrintedText.{laid_text, Adds, at_text, span_text, leads, told, asked, asked_after, tell, tell_word, next_read, some_word, byte_moved, byte_after, NoItemAfter, Got}
 
 -- ---- items as they are printed
 
@@ -315,12 +315,12 @@ module _ {edition : Edition} {B T : List ℕ} {o : ℕ} (S : StandsIn edition B 
       → At S h e ((if spaced then one (codes " ") else []) ++ (text t ∷ rest)) → TargetThere h k e t rest
   target_there h k true e t ss rest dash good follow at =
       let there = at ∙ laid_text h (codes " ") (text t ∷ rest) in
-      let behind_it = at_text S h e (codes " ") (text t ∷ rest) at in
-      let found = good.there (g S) (e + 1) (lay h rest) (behind_it ∙ laid_text h t rest)
+      let at_after = at_text S h e (codes " ") (text t ∷ rest) at in
+      let found = good.there (g S) (e + 1) (lay h rest) (at_after ∙ laid_text h t rest)
       (follow (held_bytes h.waiting)) in
       record {
         f = e + 1;
-        at = behind_it;
+        at = at_after;
         gap = blank_gap refl there (no_gap (record { place = found.place; no_blank = found.no_blank }));
         no_longer = space_no_longer T e (lay h (text t ∷ rest)) there;
         is_whole = whole_by k e 32 (lay h (text t ∷ rest))
@@ -749,7 +749,7 @@ module _ {edition : Edition} {B T : List ℕ} {o : ℕ} (S : StandsIn edition B 
 
   module _ (y : Layout) (m : Text) (c : ℕ) (cs : Text) (blank : all_blank (deeper y m) ≡ true)
       (some_margin : deeper y m ≡ c ∷ cs)
-      (rest : Marks) (follow : Followed rest) (after_it : (h : Held) (e : ℕ) → At S h e rest → Behind S e) where
+      (rest : Marks) (follow : Followed rest) (after_it : (h : Held) (e : ℕ) → At S h e rest → NoItemAfter S e) where
     -- the next item, after a gap
     record NextItem (h : Held) (position : Position) (i : Shape AnItemOf) (is : Shape ItemsOf) (e : ℕ) : Type 0 where
       at : At S h (past_blanks T e) (print_item y i ++ (print_items y m is ++ rest))

@@ -124,11 +124,11 @@ module _ {edition : Edition} {B T : List ℕ} {o : ℕ} (S : StandsIn edition B 
     follow = λ held. refl;
     no_round = refl;
     seen_as = λ h e at position.
-        let behind_it = at_text S h e (codes " ") (text c ∷ line_end ∷ rest) at in
+        let at_after = at_text S h e (codes " ") (text c ∷ line_end ∷ rest) at in
         let found = good.there T o (e + 1) (after_line h rest)
-        (behind_it ∙ laid_text h c (line_end ∷ rest) ∙ ap (λ z. c ++ z) (laid_line h rest)) in
+        (at_after ∙ laid_text h c (line_end ∷ rest) ∙ ap (λ z. c ++ z) (laid_line h rest)) in
         let gap = margin_gap S h (codes " ") e (text c ∷ line_end ∷ rest) refl at
-        (comment_start S h c (e + 1) rest good behind_it) in
+        (comment_start S h c (e + 1) rest good at_after) in
         asked_after S position gap ∙ ap (λ t. record { token = t; broken = false })
         (sharp_token position (e + 1) found.4);
   }
@@ -196,9 +196,9 @@ module _ {edition : Edition} {B T : List ℕ} {o : ℕ} (S : StandsIn edition B 
       → Gives (g S) (a_separator n) (state h q) (Some (k, o + (q + 1)), asked S Command (q + 1))
       (state h (past_blanks T (q + 1)))
   unfolding a_separator
-  some_separator h n q k e behind_is =
+  some_separator h n q k e after_is =
       let moved : Gives (g S) (move one_byte) (state h q) tt (state h (q + 1)) =
-      subst (λ p. Gives (g S) (move one_byte) (state h q) tt (state h p)) behind_is (moved_here one_byte) in
+      subst (λ p. Gives (g S) (move one_byte) (state h q) tt (state h p)) after_is (moved_here one_byte) in
       rw e (told_here (told_separator k) moved ⟫ next_read S h Command (q + 1) ⟫ given_here)
 
   separator_read : (h : Held) (background : Bool) (comment : Option Text) (rest : Marks) (e : ℕ) →
@@ -218,7 +218,7 @@ module _ {edition : Edition} {B T : List ℕ} {o : ℕ} (S : StandsIn edition B 
         f = q + 1;
         at = r_q.rest;
         reads = some_separator h (asked S Command e) q Ampersand
-            (ap (λ (n : Next). separator_of n.token) n_is) r_q.behind_it;
+            (ap (λ (n : Next). separator_of n.token) n_is) r_q.place_after;
         is_it = refl;
         parted_is = refl;
       }
@@ -264,11 +264,11 @@ module _ {edition : Edition} {B T : List ℕ} {o : ℕ} (S : StandsIn edition B 
         shape = refl;
       }
   own_read h (Some c) rest f good at =
-      let behind_it = at_text S h f (codes " ") (text c ∷ line_end ∷ rest) at in
+      let at_after = at_text S h f (codes " ") (text c ∷ line_end ∷ rest) at in
       let gap = margin_gap S h (codes " ") f (text c ∷ line_end ∷ rest) refl at
-      (comment_start S h c (f + 1) rest good behind_it) in
+      (comment_start S h c (f + 1) rest good at_after) in
       let q = past_blanks T f in
-      let at_q = subst (λ r. At S h r (text c ∷ line_end ∷ rest)) (sym gap.blanks) behind_it in
+      let at_q = subst (λ r. At S h r (text c ∷ line_end ∷ rest)) (sym gap.blanks) at_after in
       record {
         own = Some (span o q (q + length c));
         «end» = q + length c;
@@ -705,11 +705,11 @@ module _ {edition : Edition} {B T : List ℕ} {o : ℕ} {S : StandsIn edition B 
       (entry what background blank comment) rest
   first_line h d acc blank commands before what background comment e rest blank_d good good_c normal at =
       let ms = print_content y d what ++ entry_rest background comment rest in
-      let behind_it = at_text S h e d ms at in
+      let at_after = at_text S h e d ms at in
       let gap = margin_gap S h d e ms blank_d at
-      (content_start h d what background blank comment (e + length d) rest good good_c normal behind_it) in
+      (content_start h d what background blank comment (e + length d) rest good good_c normal at_after) in
       let q = past_blanks T e in
-      let at_q = subst (λ r. At S h r ms) (sym gap.blanks) behind_it in
+      let at_q = subst (λ r. At S h r ms) (sym gap.blanks) at_after in
       line_by h acc blank commands before (asked S Command e) q (entry what background blank comment) rest
       (entry_on_line h d acc blank commands before what background comment
       (asked S Command e) q rest blank_d good good_c normal refl at_q)

@@ -246,7 +246,7 @@ module _ {edition : Edition} {B T : List ℕ} {o : ℕ} {S : StandsIn edition B 
         s = span o p (p + 1);
         f = p + 1;
         at = r.rest;
-        reads = paren_alone S h (codes "(") p r.behind_it;
+        reads = paren_alone S h (codes "(") p r.place_after;
       }
 
   form_opened : (h : Held) (m : Text) (form : Shape AFormOf) (p : ℕ) (rest : Marks) → GoodForm edition room form →
@@ -370,10 +370,10 @@ module _ {edition : Edition} {B T : List ℕ} {o : ℕ} {S : StandsIn edition B 
     unfolding a_linebreak
     bare_gap h true e at = broken_lines h e [] ms (newline_lines S m blank ms operand h false e at)
     bare_gap h false e at =
-        let behind_it = at_text S h e (codes " ") ms at in
-        let gap = margin_gap S h (codes " ") e ms refl at (operand h (e + 1) behind_it).start in
+        let at_after = at_text S h e (codes " ") ms at in
+        let gap = margin_gap S h (codes " ") e ms refl at (operand h (e + 1) at_after).start in
         let q = past_blanks T e in
-        let at_q = subst (λ r. At S h r ms) (sym gap.blanks) behind_it in
+        let at_q = subst (λ r. At S h r ms) (sym gap.blanks) at_after in
         let it = operand h q at_q in
         record {
           comments = [];
@@ -424,7 +424,7 @@ module _ {edition : Edition} {B T : List ℕ} {o : ℕ} {S : StandsIn edition B 
       ∙ ap (is_closing closings.Paren) (tell S (close_token Command T (p + 1) (lay h X) r.rest)) in
       let closed = subst (λ q. Gives (g S) (reserved_or_paren (closing_text closings.Paren) true Command) (state h q)
       (span o (p + 1) (p + 1 + 1), asked S Command (p + 1 + 1)) (state h (past_blanks T (p + 1 + 1))))
-      (sym gap.blanks) (paren_alone S h (closing_text closings.Paren) (p + 1) r2.behind_it) in
+      (sym gap.blanks) (paren_alone S h (closing_text closings.Paren) (p + 1) r2.place_after) in
       let operand : (h : Held) (q : ℕ) → At S h q ms →
       Operand S q = λ h q at. let b = fine.opens h m body q rest good at in
       begins_operand S q (record { start = b.1.start; command = opens_by (told S Command q) b.0 b.1.opener }) in
@@ -437,7 +437,7 @@ module _ {edition : Edition} {B T : List ℕ} {o : ℕ} {S : StandsIn edition B 
         later = back.later;
         at = back.at;
         texts = λ ts. back.texts ts ∙ lines.texts (compound_bodies body ts);
-        reads = paren_alone S h (opener_text openers.Paren) p r.behind_it ⟫ first_of _ _ closes closed ⟫ lines.reads
+        reads = paren_alone S h (opener_text openers.Paren) p r.place_after ⟫ first_of _ _ closes closed ⟫ lines.reads
             ⟫ back.reads ⟫ given_here;
         is = under_shape name lines.comments back.value body cs back.is lines.shape;
       }
@@ -497,7 +497,7 @@ module _ {edition : Edition} {B T : List ℕ} {o : ℕ} (S : StandsIn edition B 
     ended_by h n q rest is at =
         let line = emptied S h q rest at in
         let moved = one_moved S h q
-        (byte_here T q 10 (after_line h rest) refl (at ∙ laid_line h rest)).behind_it in
+        (byte_here T q 10 (after_line h rest) refl (at ∙ laid_line h rest)).place_after in
         (line, first_of _ _ is (moved ⟫ line.reads ⟫ given_here))
 
     -- a level of its own, read from where nothing waits
@@ -525,12 +525,12 @@ module _ {edition : Edition} {B T : List ℕ} {o : ℕ} (S : StandsIn edition B 
         let h = nothing_held in
         let ms = print_content y [] what ++ entry_rest background comment rest in
         let at_h = first_at 0 (text [] ∷ ms) at in
-        let behind_it = at_text S h 0 [] ms at_h in
+        let at_after = at_text S h 0 [] ms at_h in
         let gap = margin_gap S h [] 0 ms refl at_h
         (content_start (fine y most_open) h [] what background blank comment 0 rest good good_c normal
-        behind_it) in
+        at_after) in
         let p = past_blanks T 0 in
-        let at_p = subst (λ q. At S h q ms) (sym gap.blanks) behind_it in
+        let at_p = subst (λ q. At S h q ms) (sym gap.blanks) at_after in
         let n = asked S Command 0 in
         let x = entry what background blank comment in
         let r = entry_on_line (fine y most_open) h [] [] blank false None what background comment n p rest refl good

@@ -245,13 +245,13 @@ module _ {edition : Edition} {B T : List ℕ} {o : ℕ} (S : StandsIn edition B 
   -- one byte that is read as it stands
   pub byte_moved : (h : Held) (p c : ℕ) (xs : Text) → (c == 92) ≡ false → drop p T ≡ c ∷ xs →
       Gives (g S) (move one_byte) (state h p) tt (state h (p + 1))
-  byte_moved h p c xs clear at = one_moved h p (byte_here T p c xs clear at).behind_it
+  byte_moved h p c xs clear at = one_moved h p (byte_here T p c xs clear at).place_after
 
   pub byte_after : (p c d : ℕ) (xs : Text) → drop p T ≡ c ∷ d ∷ xs → drop (p + 1) T ≡ d ∷ xs
   byte_after p c d xs at = skip T p (c ∷ []) (d ∷ xs) at
 
   -- A token that begins no item stands after e, whatever was asked for.
-  pub record Behind (e : ℕ) : Type 0 where
+  pub record NoItemAfter (e : ℕ) : Type 0 where
     pub token : Token
     pub seen_as : (position : Position) → asked position e ≡ record { token = token; broken = false }
     pub no_item : begins_simple token ≡ false
@@ -313,7 +313,7 @@ module _ {edition : Edition} {B T : List ℕ} {o : ℕ} (S : StandsIn edition B 
   unfolding a_newline
   newline_read h n p ms is at =
       let line = emptied S h p ms at in
-      let moved = one_moved h p (byte_here T p 10 (after_line h ms) refl (at ∙ laid_line h ms)).behind_it in
+      let moved = one_moved h p (byte_here T p 10 (after_line h ms) refl (at ∙ laid_line h ms)).place_after in
       record {
         later = line.later;
         q = line.q;
@@ -404,10 +404,10 @@ module _ {edition : Edition} {B T : List ℕ} {o : ℕ} (S : StandsIn edition B 
   unfolding join_turn
   comment_join_turn h c b acc n p ms good at =
       let e = p + length c in
-      let behind_it = at_text h p c (line_end ∷ ms) at in
-      let line = newline_next h Command e ms behind_it in
+      let at_after = at_text h p c (line_end ∷ ms) at in
+      let line = newline_next h Command e ms at_after in
       let s = span o p e in
-      let at_e = subst (λ q. At S h q (line_end ∷ ms)) (sym line.1) behind_it in
+      let at_e = subst (λ q. At S h q (line_end ∷ ms)) (sym line.1) at_after in
       let r = newline_read h (asked Command e) (past_blanks T e) ms
       (ap (λ (n : Next). is_newline_token n.token) line.0) at_e in
       let z = asked Command r.q in
@@ -494,9 +494,9 @@ module _ {edition : Edition} {B T : List ℕ} {o : ℕ} (S : StandsIn edition B 
         JoinLines h true acc (asked Command e) (past_blanks T e) [] ms
     operand_line h b acc e at =
         let q = past_blanks T e in
-        let behind_it = at_text h e d ms at in
-        let gap = margin_gap h d e ms blank at (operand h (e + length d) behind_it).start in
-        let at_q = subst (λ r. At S h r ms) (sym gap.blanks) behind_it in
+        let at_after = at_text h e d ms at in
+        let gap = margin_gap h d e ms blank at (operand h (e + length d) at_after).start in
+        let at_q = subst (λ r. At S h r ms) (sym gap.blanks) at_after in
         let it = operand h q at_q in
         let last_one = last_join_turn h true acc (asked Command e) q it.no_comment it.no_newline in
         record {
@@ -582,10 +582,10 @@ module _ {edition : Edition} {B T : List ℕ} {o : ℕ} (S : StandsIn edition B 
         JoinRead h e (record { broken = false; comments = [] }) ms
     unfolding a_join
     join_on_line h e at =
-        let behind_it = at_text h e (codes " ") ms at in
-        let gap = margin_gap h (codes " ") e ms refl at (operand h (e + 1) behind_it).start in
+        let at_after = at_text h e (codes " ") ms at in
+        let gap = margin_gap h (codes " ") e ms refl at (operand h (e + 1) at_after).start in
         let q = past_blanks T e in
-        let at_q = subst (λ r. At S h r ms) (sym gap.blanks) behind_it in
+        let at_q = subst (λ r. At S h r ms) (sym gap.blanks) at_after in
         let it = operand h q at_q in
         let n = asked Command e in
         let last_one : Gives (g S) (many join_turn (join_so (a_join_of false []) n)) (state h q)
@@ -632,11 +632,11 @@ module _ {edition : Edition} {B T : List ℕ} {o : ℕ} (S : StandsIn edition B 
         At S h e (text (codes " ") ∷ text c ∷ further cs) →
         JoinLines h b [] (asked Command e) (past_blanks T e) (c ∷ cs) ms
     commented h b c cs e good at =
-        let behind_it = at_text h e (codes " ") (text c ∷ further cs) at in
+        let at_after = at_text h e (codes " ") (text c ∷ further cs) at in
         let gap = margin_gap h (codes " ") e (text c ∷ further cs) refl at
-        (further_start h c cs (e + 1) good.0 behind_it) in
+        (further_start h c cs (e + 1) good.0 at_after) in
         comment_lines h c cs b [] (asked Command e) (past_blanks T e) good
-        (subst (λ r. At S h r (text c ∷ further cs)) (sym gap.blanks) behind_it)
+        (subst (λ r. At S h r (text c ∷ further cs)) (sym gap.blanks) at_after)
 
   pub join_read : (h : Held) (y : Layout) (m : Text) (ms : Marks) → all_blank (deeper y m) ≡ true →
       ((h : Held) (p : ℕ) → At S h p ms → Operand p) → (broken : Bool) (cs : Row Text) (e : ℕ)
@@ -658,7 +658,7 @@ module _ {edition : Edition} {B T : List ℕ} {o : ℕ} (S : StandsIn edition B 
   -- ---- what follows a command
 
   pub follower_after : {rest : Marks} {t : Token} → Follower rest t → begins_simple t ≡ false → (h : Held) (e : ℕ) →
-      At S h e rest → Behind e
+      At S h e rest → NoItemAfter e
   follower_after {t = t} f none h e at =
       record { token = t; seen_as = f.seen_as h e at; no_item = none; no_round = f.no_round }
 

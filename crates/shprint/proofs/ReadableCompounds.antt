@@ -295,7 +295,7 @@ module _ (B : List ℕ) (g : Given) (here : g.text ≡ drop g.offset B) where
           (λ c C e one. behind g (reads_closing g inner closings.Do c.1 e) (λ d f stands.
           add_first g (reads_list d.1 C f stands)
           (λ b E h two. behind g (reads_closing g inner closings.Done b.1 h)
-          (λ k l behind_it. add_gives g (branch_open c.0 b.0 one two, behind_it)))))
+          (λ k l stands_after. add_gives g (branch_open c.0 b.0 one two, stands_after)))))
 
       -- ---- `for`
 
@@ -557,7 +557,7 @@ module _ (B : List ℕ) (g : Given) (here : g.text ≡ drop g.offset B) where
           add_sees g (λ s. refl) (behind g (reads_bracket c.next p stands)
           (λ n e begin. behind g (reads_patterns n e begin) (λ ps f words.
           behind g (reads_closing g inner closings.Paren ps.next f)
-          (λ k h behind_it. add_first g (reads_body k.1 D h behind_it) (λ b E i body.
+          (λ k h stands_after. add_first g (reads_body k.1 D h stands_after) (λ b E i body.
           behind g (reads_item_end _ b.next i) (λ e j end.
           add_pushes g (add_gives g (
             opens_last g c.items _ (cases_more B g.edition room) so.0
@@ -667,8 +667,8 @@ module _ (B : List ℕ) (g : Given) (here : g.text ≡ drop g.offset B) where
       unfolding a_function
       reads_function name D p before =
           behind g (reads_reserved_or_paren g _ true Command p)
-          (λ o e stands. behind g (reads_closing g inner closings.Paren o.1 e) (λ c f behind_it.
-          behind g (reads_linebreak B g here (Unit {0}) [] c.1 f tt (λ y. behind_it)) (λ l h lines.
+          (λ o e stands. behind g (reads_closing g inner closings.Paren o.1 e) (λ c f stands_after.
+          behind g (reads_linebreak B g here (Unit {0}) [] c.1 f tt (λ y. stands_after)) (λ l h lines.
           add_first g (reads_compound_by B g here room fine l.next (opener_of l.next.token) D h)
           (λ b E k one. add_gives g (under_good name l.join.comments b.0 one.0 one.1 before lines.0 one.2)))))
 

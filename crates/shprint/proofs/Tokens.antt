@@ -18,7 +18,7 @@ use Rattle.shtext.specs.Text.{is_newline}
 use Rattle.shgrammar.proofs.Stretches.{get_drop, joined_none, joined_more, place_low, past_more, past_none, raw_more, raw_none}
 use Rattle.shgrammar.proofs.Places.{must_fail}
 use Rattle.shgrammar.proofs.SameBytes.{no_backslash}
-use Rattle.shgrammar.proofs.Ahead.{behind_is, spelled_none, spelled_more, ender}
+use Rattle.shgrammar.proofs.Ahead.{past_byte_is, spelled_none, spelled_more, ender}
 use Rattle.shgrammar.specs.Commands.{is_word, is_paren, begins_redirect, begins_simple, begins_word, after_word}
 use Rattle.shgrammar.specs.HereDocuments.{ADelimiter, delimiter_in, delimiter_of}
 use Rattle.shast.specs.declared.tree.RedirectOperator.{RedirectOperator}
@@ -59,7 +59,7 @@ pub record Reads (T : List ℕ) (p c : ℕ) (xs : List ℕ) : Type 0 where
   pub raw : slice_get T p ≡ Some c
   pub place : past_continuations T p ≡ p
   pub byte : byte_at T p ≡ Some c
-  pub behind_it : past_byte T p ≡ p + 1
+  pub place_after : past_byte T p ≡ p + 1
   pub rest : drop (p + 1) T ≡ xs
 
 pub byte_here : (T : List ℕ) (p c : ℕ) (xs : List ℕ) → (c == 92) ≡ false → drop p T ≡ c ∷ xs → Reads T p c xs
@@ -71,7 +71,7 @@ byte_here T p c xs clear at =
       raw = raw;
       place = place;
       byte = ap (slice_get T) place ∙ raw;
-      behind_it = behind_is T p ∙ ap (λ q. q + 1) place;
+      place_after = past_byte_is T p ∙ ap (λ q. q + 1) place;
       rest = next_one T p c xs at;
     }
 
@@ -133,7 +133,7 @@ unfolding past_blanks is_broken_at
 blank_gap {T = T} {p = p} {b = b} {xs = xs} e at gap =
     let r = byte_here T p b xs (blank_clear b e) at in
     let one : past is_blank T p ≡ past is_blank T (p + 1) = past_more is_blank T p (in_class is_blank r ∙ e)
-    ∙ ap (past is_blank T) r.behind_it in
+    ∙ ap (past is_blank T) r.place_after in
     let raw : raw_past is_blank T p ≡ raw_past is_blank T (p + 1) =
     raw_more is_blank T p (raw_class T p b is_blank r.raw ∙ e) in
     record { blanks = ap (past_continuations T) one ∙ gap.blanks; breaks = ap (continues T) raw ∙ gap.breaks }
@@ -173,7 +173,8 @@ joined_gap {T = T} {p = p} {q = q} {b = b} {xs = xs} e at gap =
     let place : past_continuations T p ≡ p + 2 = joined_more T p pair ∙ r.place in
     let blank : stands_in is_blank T p ≡ true = ap (λ q. passes is_blank (slice_get T q)) place
     ∙ ap (passes is_blank) r.raw ∙ e in
-    let after_both : past_byte T p ≡ past_byte T (p + 2) = behind_is T p ∙ ap (λ q. q + 1) place ∙ sym r.behind_it in
+    let after_both : past_byte T p ≡ past_byte T (p + 2) =
+    past_byte_is T p ∙ ap (λ q. q + 1) place ∙ sym r.place_after in
     let same : past is_blank T p ≡ past is_blank T (p + 2) = past_more is_blank T p blank
     ∙ ap (past is_blank T) after_both ∙ sym (past_more is_blank T (p + 2) (in_class is_blank r ∙ e)) in
     let raw : raw_past is_blank T p ≡ p = raw_none is_blank T p (raw_class T p 92 is_blank raw1) in
@@ -221,7 +222,7 @@ close_token position T p xs at = token_here position (byte_here T p 41 xs refl a
 -- the byte after this one
 second : {T : List ℕ} {p c d : ℕ} {xs : List ℕ} (x : ℕ) → (d == 92) ≡ false → Reads T p c (d ∷ xs) →
     stands T (past_byte T p) x ≡ (d == x)
-second {T = T} {p = p} {d = d} {xs = xs} x clear r = ap (λ q. stands T q x) r.behind_it
+second {T = T} {p = p} {d = d} {xs = xs} x clear r = ap (λ q. stands T q x) r.place_after
     ∙ is_here x (byte_here T (p + 1) d xs clear r.rest)
 
 pub semicolon_token : (position : Position) (T : List ℕ) (p d : ℕ) (xs : List ℕ) → (d == 92) ≡ false → (d == 59) ≡ false
@@ -322,7 +323,7 @@ module _ (T : List ℕ) (x : ℕ) (xs : List ℕ) (clear : (x == 92) ≡ false) 
       let parts = plain_parts c w two in
       let r = byte_here T p c (w ++ x ∷ xs) parts.1 at in
       spelled_more T p d v ∙ ap (λ b. b && is_word_at T (past_byte T p) v) (is_here d r)
-      ∙ ap (λ b. c == d && b) (ap (λ q. is_word_at T q v) r.behind_it
+      ∙ ap (λ b. c == d && b) (ap (λ q. is_word_at T q v) r.place_after
       ∙ spelled_here (p + 1) v w (plain_parts d v one).2 parts.2 r.rest)
 
   first_here : (p : ℕ) (w : List ℕ) (vs : Row Spelling) → is_plain w ≡ true → all_plain vs ≡ true →
@@ -359,7 +360,7 @@ names_here T p x (c ∷ cs) xs clear stops all at =
     let parts = and_parts _ _ all in
     let r = byte_here T p c (cs ++ x ∷ xs) (name_clear c parts.0) at in
     let e : p + 1 + length cs ≡ p + suc (length cs) = omega arith in
-    past_more is_name T p (in_class is_name r ∙ parts.0) ∙ ap (past is_name T) r.behind_it
+    past_more is_name T p (in_class is_name r ∙ parts.0) ∙ ap (past is_name T) r.place_after
     ∙ names_here T (p + 1) x cs xs clear stops parts.1 r.rest ∙ e
 
 all_are_plain : all_plain reserved_words ≡ true
@@ -386,7 +387,7 @@ reserved_here T p c x cs xs r byte no_blank no_digit plain names same clear stop
     let reserved_is : reserved_at T p ≡ Some r =
     first_here T x xs clear stops p (c ∷ cs) reserved_words plain all_are_plain at ∙ same in
     let token_is = token_here Command here ∙ byte T p number ∙ ap (first_word (begins_assignment T p)) reserved_is in
-    let over = ap (past is_name T) here.behind_it ∙ names_here T (p + 1) x cs xs clear stops names here.rest in
+    let over = ap (past is_name T) here.place_after ∙ names_here T (p + 1) x cs xs clear stops names here.rest in
     let e : p + 1 + length cs ≡ p + suc (length cs) = omega arith in
     record { start = start_here here no_blank; token = token_is; past_it = over ∙ e }
 
@@ -633,15 +634,15 @@ pub redirect_token : (position : Position) (k : RedirectOperator) (T : List ℕ)
     → token_at position T p ≡ tokens.Redirect k
 unfolding less_at greater_at
 redirect_token position redirects.Input T p xs none n at =
-    let r = byte_here T p 60 xs refl at in token_here position r ∙ rw (r.behind_it, n.less, n.ampersand, n.greater) refl
+    let r = byte_here T p 60 xs refl at in token_here position r ∙ rw (r.place_after, n.less, n.ampersand, n.greater) refl
 redirect_token position redirects.Output T p xs none n at =
-    let r = byte_here T p 62 xs refl at in token_here position r ∙ rw (r.behind_it, n.greater, n.ampersand, n.bar) refl
+    let r = byte_here T p 62 xs refl at in token_here position r ∙ rw (r.place_after, n.greater, n.ampersand, n.bar) refl
 redirect_token position redirects.Here T p xs none n at =
     let r = byte_here T p 60 (60 ∷ xs) refl at in
     let s = byte_here T (p + 1) 60 xs refl r.rest in
     let two : p + 2 ≡ p + 1 + 1 = omega arith in
     let is_whole : stands T (p + 1 + 1) 45 ≡ false = subst (λ q. stands T q 45 ≡ false) two none in
-    token_here position r ∙ rw (second 60 refl r, r.behind_it, s.behind_it, is_whole) refl
+    token_here position r ∙ rw (second 60 refl r, r.place_after, s.place_after, is_whole) refl
 redirect_token position redirects.Append T p xs none n at =
     let r = byte_here T p 62 (62 ∷ xs) refl at in token_here position r ∙ rw (second 62 refl r) refl
 redirect_token position redirects.DuplicateInput T p xs none n at =
@@ -654,7 +655,7 @@ redirect_token position redirects.ReadWrite T p xs none n at =
 redirect_token position redirects.HereStripped T p xs none n at =
     let r = byte_here T p 60 (60 ∷ 45 ∷ xs) refl at in
     let s = byte_here T (p + 1) 60 (45 ∷ xs) refl r.rest in
-    token_here position r ∙ rw (second 60 refl r, r.behind_it, second 45 refl s) refl
+    token_here position r ∙ rw (second 60 refl r, r.place_after, second 45 refl s) refl
 redirect_token position redirects.Clobber T p xs none n at =
     let r = byte_here T p 62 (124 ∷ xs) refl at in
     token_here position r ∙ rw (second 62 refl r, second 38 refl r, second 124 refl r) refl
@@ -706,7 +707,7 @@ digits_here T p x (c ∷ cs) xs angle all at =
     let parts = and_parts _ _ all in
     let r = byte_here T p c (cs ++ x ∷ xs) (digit_clear c parts.0) at in
     let e : p + 1 + length cs ≡ p + suc (length cs) = omega arith in
-    past_more is_digit T p (in_class is_digit r ∙ parts.0) ∙ ap (past is_digit T) r.behind_it
+    past_more is_digit T p (in_class is_digit r ∙ parts.0) ∙ ap (past is_digit T) r.place_after
     ∙ digits_here T (p + 1) x cs xs angle parts.1 r.rest ∙ e
 
 digit_token : (position : Position) (T : List ℕ) (p c : ℕ) → is_digit c ≡ true → is_number T p ≡ true →

@@ -148,8 +148,8 @@ module _ {K : Type 0} (Is : List ℕ → HeldLine K → Type 0) (laws : Reads Is
   row_at B p (x ∷ xs) y ys at row =
       let is = row_head Is _ x (xs ++ y ∷ ys) row in
       let ended = row_ended Is _ x xs y ys row in
-      let behind_it = subst (λ T. IsRow Is T (xs ++ y ∷ ys)) (drop-drop x.len p B)
+      let row_after = subst (λ T. IsRow Is T (xs ++ y ∷ ys)) (drop-drop x.len p B)
       (row_rest Is _ x (xs ++ y ∷ ys) row ended) in
-      let rest = row_at B (p + x.len) xs y ys (at_end_of at is ended) behind_it in
+      let rest = row_at B (p + x.len) xs y ys (at_end_of at is ended) row_after in
       let same : (p + x.len) + extent xs ≡ p + (x.len + extent xs) = omega arith in
       subst (λ z. IsBoundary Is B z × IsRow Is (drop z B) (y ∷ ys)) same rest

@@ -65,8 +65,8 @@ module _ {K : Type 0} (Is : List ℕ → HeldLine K → Type 0) (laws : Reads Is
       let ended = row_ended Is _ x xs h hs row in
       let there = line_stays Is laws B U a apart.front p x is ended (omega arith) in
       let sum : p + (x.len + extent xs) ≡ (p + x.len) + extent xs = omega arith in
-      let behind_it = subst (λ T. IsRow Is T (xs ++ h ∷ hs)) (drop-drop x.len p B)
+      let row_after = subst (λ T. IsRow Is T (xs ++ h ∷ hs)) (drop-drop x.len p B)
       (row_rest Is _ x (xs ++ h ∷ hs) row ended) in
-      let rest = front_stays (p + x.len) xs h hs ms behind_it (omega arith)
+      let rest = front_stays (p + x.len) xs h hs ms row_after (omega arith)
       (subst (λ z. IsRow Is (drop z U) ms) sum rows) in
       more_lines there ended (subst (λ T. IsRow Is T (xs ++ ms)) (sym (drop-drop x.len p U)) rest)

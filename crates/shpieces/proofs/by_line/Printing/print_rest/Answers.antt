@@ -1,7 +1,7 @@
 use Rattle.std.proofs.Common.{◌∙◌, ap, refl, arith}
 use Rattle.std.proofs.lemmas.Result.{err_from_is_err_and}
 use Rattle.shprint.specs.Written.{sheet}
-use Rattle.shpieces.proofs.ByLine.{at_start, behind_line, last_printed, no_text}
+use Rattle.shpieces.proofs.ByLine.{after_line, at_start, last_printed, no_text}
 use Rattle.shpieces.proofs.by_line.Printing.print_rest.Goals as goal
 
 pub lines-init : goal.lines-init
@@ -27,7 +27,7 @@ lines-preserved g c =
     let done = c.in_ok-print_entries.ensures in (
       λ e y front is.
           let b = inv.0 e y front is in
-          behind_line e y bytes front c.lines.lines c.read_outer.new.self (inv.4 ∙ is.3) (sheet c.lines.self.page)
+          after_line e y bytes front c.lines.lines c.read_outer.new.self (inv.4 ∙ is.3) (sheet c.lines.self.page)
           (sheet c.print_entries.new.page) b _ c.in_ok-told.told inv.2
           c.if-not-told.false (c.in_ok-told.ensures.line b.so b.stands) moves.0.1 (moves.0.2 b.so b.stands)
           (rw (inv.1 ∙ is.1, is.2, c.deref.ensures.value) at done.0),
