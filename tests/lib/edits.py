@@ -23,7 +23,7 @@ def refusal_of(text, parts):
     """Why a batch is refused, or None."""
     if any(start > end or end > len(text) for start, end, _ in parts):
         return "no range"
-    if any(before[1] > behind[0] for before, behind in zip(parts, parts[1:])):
+    if any(before[1] > after[0] for before, after in zip(parts, parts[1:])):
         return "no order"
     return None
 

@@ -379,8 +379,8 @@ class Typist:
         count, new = self.chance.choice((2, 2, 3, 5, 20, 64, 65)), self.chance.choice(PIECES)
         starts = sorted(self.chance.sample(range(len(self.text) + 1), min(count, len(self.text) + 1)))
         cursors = [
-            (start, min(start + self.chance.choice((0, 0, 1, 5)), behind))
-            for start, behind in zip(starts, starts[1:] + [len(self.text)])
+            (start, min(start + self.chance.choice((0, 0, 1, 5)), after))
+            for start, after in zip(starts, starts[1:] + [len(self.text)])
         ]
         order = list(range(len(cursors)))
         self.chance.choice((list, list.reverse, self.chance.shuffle))(order)
@@ -507,9 +507,9 @@ def kind_of(requests_sent, count):
             if count <= MOST_PARTS
             else "too many"
         )
-    cut = all(behind[0] - before[1] > FURTHEST for behind, before in zip(ends, ends[1:]))
+    cut = all(after[0] - before[1] > FURTHEST for after, before in zip(ends, ends[1:]))
     near = all(
-        behind[0] - before[1] <= FURTHEST for parts in rows[:-1] for before, behind in zip(parts, parts[1:])
+        after[0] - before[1] <= FURTHEST for parts in rows[:-1] for before, after in zip(parts, parts[1:])
     )
     named = words == ["edit" if len(parts) == 1 else "batch" for parts in rows]
     return "another" if not (cut and near and named) else "a batch" if len(rows) == 1 else "several"

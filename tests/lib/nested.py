@@ -25,7 +25,7 @@ SHAPES = {
     "elif, the last": (1, "if a; then b; " + "elif c; then d; " * 20 + "elif @; then e; fi"),
     "elif, the last body": (1, "if a; then b; " + "elif c; then d; " * 20 + "elif e; then @; fi"),
     "else": (1, "if a; then b; else @; fi"),
-    "else behind elif": (1, "if a; then b; " + "elif c; then d; " * 20 + "else @; fi >a"),
+    "else after elif": (1, "if a; then b; " + "elif c; then d; " * 20 + "else @; fi >a"),
     "while": (1, "while @; do a; done"),
     "while, its body": (1, "while a; do @; done"),
     "until": (1, "until @; do a; done"),
@@ -42,7 +42,7 @@ SHAPES = {
     "function, comments": (2, "f() # c\n# c\n(@)"),
     "function of if": (2, "f() if a; then b; elif @; then c; fi"),
     "function of case": (2, "f() case a in b) @;; esac"),
-    "pipe, behind": (1, "a | { @; }"),
+    "pipe, after": (1, "a | { @; }"),
     "pipe, before": (1, "{ @; } | a"),
     "pipe, among": (1, "a | b |\n# c\n{ @; } | c"),
     "not": (1, "! { @; }"),
@@ -73,8 +73,8 @@ SHAPES = {
     "substitution in a string's parameter": (3, '"${x:-$(@)}"'),
     "substitution in arithmetic": (2, "$(($(@)))"),
     "target": (1, "a >$(@)"),
-    "target behind a group": (1, "{ a; } >$(@)"),
-    "target behind a function's body": (2, "f() { a; } >$(@)"),
+    "target after a group": (1, "{ a; } >$(@)"),
+    "target after a function's body": (2, "f() { a; } >$(@)"),
     "target in an elif": (2, "if a; then b; elif { c; } >$(@); then d; fi"),
     "substitution for a case": (2, "case $(@) in a) b;; esac"),
     "substitution for a pattern": (2, "case a in b|$(@)) c;; esac"),
@@ -86,16 +86,16 @@ SHAPES = {
     "here-document": (1, "{ @\n} <<E\nx\nE"),
     "here-document that waits": (1, "cat <<E; { @\nx\nE@\n}"),
     "here-document in a substitution": (1, "$(cat <<-E\n\tx\n\tE\n@)"),
-    "here-document behind elif": (1, "if a; then b; elif @\nthen c; fi <<E\nx\nE"),
+    "here-document after elif": (1, "if a; then b; elif @\nthen c; fi <<E\nx\nE"),
 }
 
 
 def parts(shape, depth):
     """What stands before the innermost command and after it, where so many constructs are open at it."""
     cost, text = SHAPES[shape]
-    before, *between, behind = text.encode().split(b"@")
+    before, *between, after = text.encode().split(b"@")
     count, left = divmod(depth, cost)
-    return b"{ " * left + before * count, b"".join(between) * count + behind * count + b"; }" * left
+    return b"{ " * left + before * count, b"".join(between) * count + after * count + b"; }" * left
 
 
 class Script(NamedTuple):
@@ -107,9 +107,9 @@ class Script(NamedTuple):
 
 def scripts_of(shape):
     """With the most open constructs, with one more, cut off after the openers, and before the last byte."""
-    before, behind = parts(shape, MOST)
+    before, after = parts(shape, MOST)
     deeper, last = parts(shape, MOST + 1)
-    whole = before + CORE + behind
+    whole = before + CORE + after
     yield Script(shape, whole + b"\n", len(before), b"")
     yield Script(f"{shape} (one deeper)", deeper + CORE + last, len(deeper), b": too many open constructs\n")
     yield Script(f"{shape} (all open)", before, len(before) - 1, b"-:")
@@ -119,8 +119,8 @@ def scripts_of(shape):
 def among_lines(shape):
     """With the most open constructs, among more lines than the program reads at once or holds before it
     passes them."""
-    before, behind = parts(shape, MOST)
+    before, after = parts(shape, MOST)
     lines = 10_000 * b"a b # c\n"
     return Script(
-        f"{shape} (among lines)", lines + before + CORE + behind + b"\n" + lines, len(lines + before), b""
+        f"{shape} (among lines)", lines + before + CORE + after + b"\n" + lines, len(lines + before), b""
     )

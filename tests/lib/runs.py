@@ -40,7 +40,7 @@ def requests_of(script):
     """What a session is asked. Each leaves the script as it was."""
     at, text = script.at, script.text
     size, old, deeper = len(text), text[at : at + 1], b"$(b)"
-    behind = size - len(old) + 2  # the length, with two bytes in the place of the old one
+    after = size - len(old) + 2  # the length, with two bytes in the place of the old one
     return {
         "open": b"",
         "fault": b"fault\n",
@@ -54,7 +54,7 @@ def requests_of(script):
         "refused": edit(1, 0, b"") + b"edit 0 0 0\nx\nstatus\n",
         "batch": (
             batch((at, at + len(old), b"cc"), (size, size, b"\n"))
-            + batch((at, at + 2, old), (behind, behind + 1, b""))
+            + batch((at, at + 2, old), (after, after + 1, b""))
         ),
         "batch of quotes": (
             batch((0, 0, b"'"), (size, size, b"'"))

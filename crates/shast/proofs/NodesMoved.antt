@@ -37,10 +37,10 @@ module _ (b : ℕ) where
   item_there (item broken (argument w)) = word_there w
   item_there (item broken (redirect number operator span w here)) = rw (begin_there number span, word_there w) refl
 
-  last_item_there : (before behind : Span) (is : Items) → behind ≡ f before →
-      last_item behind (carried_items f fb true is) ≡ f (last_item before is)
-  last_item_there before behind no_item e = e
-  last_item_there before behind (more_items i is) e =
+  last_item_there : (before after : Span) (is : Items) → after ≡ f before →
+      last_item after (carried_items f fb true is) ≡ f (last_item before is)
+  last_item_there before after no_item e = e
+  last_item_there before after (more_items i is) e =
       last_item_there (item_span i) (item_span (carried_item f fb true i)) is (item_there i)
 
   items_there : (is : Items) → IsSome is → items_span (carried_items f fb true is) ≡ f (items_span is)
@@ -57,10 +57,10 @@ module _ (b : ℕ) where
   command_there (compound c) so = compound_there c
   command_there (function name comments body) so = rw (compound_there body) refl
 
-  last_command_there : (before behind : Span) (cs : PipelineParts) → InPipes Always IsSome cs → behind ≡ f before →
-      last_command behind (carried_pipes f fb true cs) ≡ f (last_command before cs)
-  last_command_there before behind no_pipe so e = e
-  last_command_there before behind (more_pipes join c cs) so e =
+  last_command_there : (before after : Span) (cs : PipelineParts) → InPipes Always IsSome cs → after ≡ f before →
+      last_command after (carried_pipes f fb true cs) ≡ f (last_command before cs)
+  last_command_there before after no_pipe so e = e
+  last_command_there before after (more_pipes join c cs) so e =
       last_command_there (command_span c) (command_span (carried_command f fb true c)) cs so.2 (command_there c so.1)
 
   pipeline_there : (p : APipeline) → InPipeline Always IsSome p →
@@ -73,10 +73,10 @@ module _ (b : ℕ) where
         begin_there bang (command_span first),
       ) refl
 
-  last_pipeline_there : (before behind : Span) (ps : AndOrParts) → InAndOrParts Always IsSome ps → behind ≡ f before →
-      last_pipeline behind (carried_and_or_parts f fb true ps) ≡ f (last_pipeline before ps)
-  last_pipeline_there before behind no_and_or so e = e
-  last_pipeline_there before behind (more_and_or operator join p ps) so e =
+  last_pipeline_there : (before after : Span) (ps : AndOrParts) → InAndOrParts Always IsSome ps → after ≡ f before →
+      last_pipeline after (carried_and_or_parts f fb true ps) ≡ f (last_pipeline before ps)
+  last_pipeline_there before after no_and_or so e = e
+  last_pipeline_there before after (more_and_or operator join p ps) so e =
       last_pipeline_there (pipeline_span p) (pipeline_span (carried_pipeline f fb true p)) ps so.2
       (pipeline_there p so.1)
 

@@ -21,11 +21,11 @@ module _ (nothing : Span) where
   span_item (item broken (argument w)) = refl
   span_item (item broken (redirect number operator span w here)) = refl
 
-  last_items : (is : Items) (before behind : Span) → before ≡ behind →
-      last_item before (open_items nothing is) ≡ last_item behind is
+  last_items : (is : Items) (before other : Span) → before ≡ other →
+      last_item before (open_items nothing is) ≡ last_item other is
   unfolding open_items
-  last_items no_item before behind e = e
-  last_items (more_items i is) before behind e =
+  last_items no_item before other e = e
+  last_items (more_items i is) before other e =
       last_items is (item_span (open_item nothing i)) (item_span i) (span_item i)
 
   span_items : (is : Items) → items_span (open_items nothing is) ≡ items_span is
@@ -44,11 +44,11 @@ module _ (nothing : Span) where
   span_command (compound c) = span_compound c
   span_command (function name comments body) = rw (span_compound body) refl
 
-  last_commands : (cs : PipelineParts) (before behind : Span) → before ≡ behind →
-      last_command before (open_pipes nothing cs) ≡ last_command behind cs
+  last_commands : (cs : PipelineParts) (before other : Span) → before ≡ other →
+      last_command before (open_pipes nothing cs) ≡ last_command other cs
   unfolding open_pipes
-  last_commands no_pipe before behind e = e
-  last_commands (more_pipes join c cs) before behind e =
+  last_commands no_pipe before other e = e
+  last_commands (more_pipes join c cs) before other e =
       last_commands cs (command_span (open_command nothing c)) (command_span c) (span_command c)
 
   span_pipeline : (p : APipeline) → pipeline_span (open_pipeline nothing p) ≡ pipeline_span p
@@ -59,11 +59,11 @@ module _ (nothing : Span) where
         span_command first,
       ) refl
 
-  last_pipelines : (ps : AndOrParts) (before behind : Span) → before ≡ behind →
-      last_pipeline before (open_and_or_parts nothing ps) ≡ last_pipeline behind ps
+  last_pipelines : (ps : AndOrParts) (before other : Span) → before ≡ other →
+      last_pipeline before (open_and_or_parts nothing ps) ≡ last_pipeline other ps
   unfolding open_and_or_parts
-  last_pipelines no_and_or before behind e = e
-  last_pipelines (more_and_or operator join p ps) before behind e =
+  last_pipelines no_and_or before other e = e
+  last_pipelines (more_and_or operator join p ps) before other e =
       last_pipelines ps (pipeline_span (open_pipeline nothing p)) (pipeline_span p) (span_pipeline p)
 
   span_and_or : (a : AnAndOr) → and_or_span (open_and_or nothing a) ≡ and_or_span a
@@ -74,19 +74,19 @@ module _ (nothing : Span) where
         span_pipeline first,
       ) refl
 
-  end_command : (c : AContent) (before behind : ℕ) → before ≡ behind →
-      command_end before (open_content nothing c) ≡ command_end behind c
+  end_command : (c : AContent) (before other : ℕ) → before ≡ other →
+      command_end before (open_content nothing c) ≡ command_end other c
   unfolding open_content
-  end_command (command a) before behind e = ap (λ (s : Span). s.«end») (span_and_or a)
-  end_command (remark c) before behind e = e
+  end_command (command a) before other e = ap (λ (s : Span). s.«end») (span_and_or a)
+  end_command (remark c) before other e = e
 
-  end_entries : (es : Entries) (before behind : ℕ) → before ≡ behind →
-      commands_end before (opened nothing es) ≡ commands_end behind es
+  end_entries : (es : Entries) (before other : ℕ) → before ≡ other →
+      commands_end before (opened nothing es) ≡ commands_end other es
   unfolding opened open_entry
-  end_entries no_entry before behind e = e
-  end_entries (more_entries (entry what background blank comment) es) before behind e =
-      end_entries es (command_end before (open_content nothing what)) (command_end behind what)
-      (end_command what before behind e)
+  end_entries no_entry before other e = e
+  end_entries (more_entries (entry what background blank comment) es) before other e =
+      end_entries es (command_end before (open_content nothing what)) (command_end other what)
+      (end_command what before other e)
 
   -- where the last and-or list ends
   pub ends_open : (es : Entries) (before : ℕ) → commands_end before (opened nothing es) ≡ commands_end before es

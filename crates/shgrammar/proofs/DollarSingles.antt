@@ -9,7 +9,7 @@ use Rattle.shgrammar.proofs.Unquoted.{rest_stands}
 
 -- with these bytes after the next one
 abbrev turn : Quoting → Bool → ℕ → List ℕ → List ℕ → Bool
-turn q second b rest behind = cond (is_live q 92 b) (has_dollar_single q second behind)
+turn q second b rest later = cond (is_live q 92 b) (has_dollar_single q second later)
     (cond (is_quote q b) (has_dollar_single (after_quote q b) false rest)
     (cond (is_live q 36 b) ((not second && is_quote q 39 && stands rest 0 39)
     || has_dollar_single q (not second && stands rest 0 36) rest)

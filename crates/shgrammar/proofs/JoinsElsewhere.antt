@@ -256,9 +256,9 @@ module _ {edition : Edition} {T U : List ℕ} {a M : ℕ} {to : ℕ → ℕ} {li
           Holds (Back E o o2 B B2 stands stands_there s) x → Holds (Back E o o2 B B2 stands stands_there on) x
           → Holds FoundThere x
       unfolding a_comment
-      some_there (Ok (x, t)) at back behind =
+      some_there (Ok (x, t)) at back back_on =
           λ e. let here = back.1 e in
-          let near = high E (subst (λ (q : ℕ). G q) (past_is hash.0) (behind.1 e)) in
+          let near = high E (subst (λ (q : ℕ). G q) (past_is hash.0) (back_on.1 e)) in
           let w = comment_end E p here hash.0 near in
           let d = span o2 (to p) (before_blanks U (next_newline U (to p))) in
           let text : text_at B c ≡ text_at B2 d = ap (text_at B) (sym hash.1)
@@ -278,7 +278,7 @@ module _ {edition : Edition} {T U : List ℕ} {a M : ℕ} {to : ℕ → ℕ} {li
         where
           blanks_near : (q : ℕ) → q ≤ M → before_blanks T q ≤ M
           blanks_near q le = omega (arith, le, before_blanks_low T q)
-      some_there (Err f) at back behind = tt
+      some_there (Err f) at back back_on = tt
 
     comment_there : (c : Option Span) → comment_at T o p ≡ c → Holds FoundThere (does (comment_by n c) Whole g s)
     comment_there None is = none_there is

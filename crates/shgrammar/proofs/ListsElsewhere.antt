@@ -398,7 +398,7 @@ module _ {edition : Edition} {T U : List ℕ} {a M : ℕ} {to : ℕ → ℕ} {li
   one_more_case c d same =
       then (go_any E o o2 B B2 stands stands_there {l = here})
       (λ s z any. then (open_same c.next d.next same.1.1) (λ n m is. then (pattern_list_same n m is)
-      (λ p q so. then (closing_same closings.Paren p.next q.next so.1) (λ x y behind. then (lines x.1 y.1 behind)
+      (λ p q so. then (closing_same closings.Paren p.next q.next so.1) (λ x y after. then (lines x.1 y.1 after)
       (λ l k body. then (item_end_same _ _ l.next k.next body.1) (λ e f ended.
       then (pushes {S = λ is js. map (shape_of_case B) is ≡ map (shape_of_case B2) js}
       (rows_more (shape_of_case B) (shape_of_case B2) c.items _ d.items _ same.0

@@ -23,9 +23,9 @@ use Rattle.shgrammar.specs.Tokens.{next_in}
 use Rattle.shgrammar.specs.Pieces.{piece_in}
 
 -- what may be read is not before where it begins
-pub behind : {X : Type 0} (r : Form X) (g : Given) (s : State) (y : Read X) (k : Row Spelled) → may r g s y k →
+pub read_at_or_after : {X : Type 0} (r : Form X) (g : Given) (s : State) (y : Read X) (k : Row Spelled) → may r g s y k →
     Holds (AtOrAfter s) y
-behind r g s y k part = subst (Holds (AtOrAfter s)) (sym ((is r g s).only y k part)) (low r Whole g s).told
+read_at_or_after r g s y k part = subst (Holds (AtOrAfter s)) (sym ((is r g s).only y k part)) (low r Whole g s).told
 
 -- two that say the same of less
 pub less_same : (x y z w : ℕ) → (x < y → z < w) → (z < w → x < y) → ltb z w ≡ ltb x y
@@ -130,7 +130,7 @@ module _ {edition : Edition} {T U : List ℕ} {a M : ℕ} {to : ℕ → ℕ} (E 
       → ((x : X) (t : State) → a ≤ t.at → (y : Read Y) (k : Row Spelled) → may (q x) g t y k → Back (q x) t y k) →
       a ≤ s.at → (y : Read Y) (k : Row Spelled) → Then (may r g) (λ x. may (q x) g) s y k → Back (both r q) s y k
   both_back r q s first rest from y k (and_then {x = x} {t = t} {k = k1} {l = l} one two) good =
-      let b = rest x t (omega (arith, from, behind r g s (Ok (x, t)) k1 one)) y l two good in
+      let b = rest x t (omega (arith, from, read_at_or_after r g s (Ok (x, t)) k1 one)) y l two good in
       let c = first (Ok (x, t)) k1 one b.0 in
       (c.0, and_then c.1 b.1)
   both_back r q s first rest from y k (or_stops one) good = absurd good
@@ -146,7 +146,7 @@ module _ {edition : Edition} {T U : List ℕ} {a M : ℕ} {to : ℕ → ℕ} (E 
       (y : Read (X × Span)) (k : Row Spelled) → OneToken how g (may r g) s y k → Back (token how r) s y k
   token_back {X = X} how r s first from y k (whole {x = x} {t = t} {k = k1} part) good =
       let w = first (Ok (x, t)) k1 part good in
-      let onward = behind r g s (Ok (x, t)) k1 part in
+      let onward = read_at_or_after r g s (Ok (x, t)) k1 part in
       let same = spans s.at t.at from (omega (arith, from, onward)) in
       let told = same_tell how s.at t.at (to s.at) (to t.at)
       (same_raw E s.at t.at from (omega (arith, from, onward)) (high E good)) in (
@@ -175,7 +175,7 @@ module _ {edition : Edition} {T U : List ℕ} {a M : ℕ} {to : ℕ → ℕ} (E 
       → Back (with_bytes r) s y k
   bytes_back {X = X} r s first from y k (with_its_bytes {x = x} {t = t} {k = k1} part) good =
       let w = first (Ok (x, t)) k1 part good in
-      let onward = behind r g s (Ok (x, t)) k1 part in (
+      let onward = read_at_or_after r g s (Ok (x, t)) k1 part in (
         w.0,
         subst (λ (z : Spelled). WithBytes h (may r h) (there s) (Ok ((x, z), there t)) k1)
             (same_raw E s.at t.at from (omega (arith, from, onward)) (high E good)) (with_its_bytes w.1),
@@ -199,10 +199,10 @@ module _ {edition : Edition} {T U : List ℕ} {a M : ℕ} {to : ℕ → ℕ} (E 
         (w.0, last w.1)
     loop_back b s y k (rests {b = c} {t = t} part off') from good =
         let w = each b s from (Ok (again c, t)) k part good in
-        let onward = behind (turn b) g s (Ok (again c, t)) k part in
+        let onward = read_at_or_after (turn b) g s (Ok (again c, t)) k part in
         (w.0, rests w.1 (same_leads s t from onward (high E good) ∙ off'))
     loop_back b s y k (more {b = c} {t = t} {k = k1} part on' rest) from good =
-        let onward = behind (turn b) g s (Ok (again c, t)) k1 part in
+        let onward = read_at_or_after (turn b) g s (Ok (again c, t)) k1 part in
         let r = loop_back c t y _ rest (omega (arith, from, onward)) good in
         let w = each b s from (Ok (again c, t)) k1 part r.0 in
         (w.0, more w.1 (same_leads s t from onward (high E r.0) ∙ on') r.1)

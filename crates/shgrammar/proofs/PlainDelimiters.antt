@@ -188,11 +188,11 @@ wrapped_is word is =
     let long = no_less (length word) (wrapped_parts word is).0 in
     let same = (wrapped_parts word is).2 in
     let there : 1 + (length word - 1 - 1) ≡ length word - 1 = omega (arith, long) in
-    let behind : length word - 1 + 1 ≡ length word = omega (arith, long) in
+    let whole : length word - 1 + 1 ≡ length word = omega (arith, long) in
     let last : drop (length word - 1 - 1) (drop 1 word) ≡ get_or word 0 0 ∷ [] =
     drop-drop (length word - 1 - 1) 1 word ∙ ap (λ n. drop n word) there
     ∙ drop_more word (length word - 1) 0 (omega (arith, long))
-    ∙ ap (λ n. get_or word (length word - 1) 0 ∷ drop n word) behind
+    ∙ ap (λ n. get_or word (length word - 1) 0 ∷ drop n word) whole
     ∙ ap (λ l. get_or word (length word - 1) 0 ∷ l) (drop_all (length word) word (omega arith))
     ∙ ap (λ (b : ℕ). b ∷ []) (same_byte _ _ same) in
     drop_more word 0 0 (omega (arith, long))

@@ -29,7 +29,7 @@ use Rattle.shgrammar.proofs.Ahead.{ListEnds, newline_ends, same_after}
 use Rattle.shgrammar.proofs.BodiesThere.{read_to_limit}
 use Rattle.shgrammar.proofs.TokensShown.{Begins, Fine, newline_here, shown_level, shown_next, shown_on_line}
 use Rattle.shgrammar.proofs.Asked.{Good}
-use Rattle.shgrammar.proofs.NoFurther.{back, behind as onward, there, elsewhere}
+use Rattle.shgrammar.proofs.NoFurther.{back, read_at_or_after as onward, there, elsewhere}
 use Rattle.shgrammar.specs.declared.edition.Edition.{Edition}
 
 module _ {edition : Edition} {T U : List ℕ} {a M : ℕ} {to : ℕ → ℕ} (E : ListEnds edition T U a M to 10) (o o2 : ℕ)

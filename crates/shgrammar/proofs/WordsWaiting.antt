@@ -49,12 +49,14 @@ module _ (g : Given) where
 
   blind_both : {X Y : Type 0} {r : Form X} {q : X → Form Y} → Blind r → ((x : X) → Blind (q x)) → Blind (both r q)
   blind_both {X = X} {r = r} {q = q} one two =
-      record { alike = λ s t. ap (λ y. y ▸ λ x u. does (q x) Whole g u) (one.alike s t) ∙ behind t (does r Whole g s) }
+      record {
+        alike = λ s t. ap (λ y. y ▸ λ x u. does (q x) Whole g u) (one.alike s t) ∙ onto_then t (does r Whole g s);
+      }
     where
-      behind : (t : State) (y : Read X) →
+      onto_then : (t : State) (y : Read X) →
           (onto t y ▸ λ x u. does (q x) Whole g u) ≡ onto t (y ▸ λ x u. does (q x) Whole g u)
-      behind t (Ok x) = (two x.0).alike x.1 t
-      behind t (Err f) = refl
+      onto_then t (Ok x) = (two x.0).alike x.1 t
+      onto_then t (Err f) = refl
 
   blind_sees : {X Y : Type 0} {f : Sight X} {q : X → Form Y} → Unseen f → ((x : X) → Blind (q x)) →
       Blind (both (see f) q)
@@ -84,24 +86,24 @@ module _ (g : Given) where
   blind_token {X = X} {told = told} {r = r} one =
       record {
         alike = λ s t. ap (λ y. y ▸ λ x u. Ok ((x, span g.offset s.at u.at), u)) (one.alike s t)
-            ∙ behind s t (does r Whole g s);
+            ∙ onto_spanned s t (does r Whole g s);
       }
     where
-      behind : (s t : State) (y : Read X) →
+      onto_spanned : (s t : State) (y : Read X) →
           ◌≡◌ {A = Read (X × Span)} (onto t y ▸ λ x u. Ok ((x, span g.offset s.at u.at), u))
           (onto t (y ▸ λ x u. Ok ((x, span g.offset s.at u.at), u)))
-      behind s t (Ok x) = refl
-      behind s t (Err f) = refl
+      onto_spanned s t (Ok x) = refl
+      onto_spanned s t (Err f) = refl
 
   -- a level of its own sees nothing of what waits outside
   blind_level : {X : Type 0} {r : Form X} → Blind (a_level r)
-  blind_level {X = X} {r = r} = record { alike = λ s t. behind s t (does r Whole g (own_level s)) }
+  blind_level {X = X} {r = r} = record { alike = λ s t. onto_level s t (does r Whole g (own_level s)) }
     where
-      behind : (s t : State) (y : Read X) →
+      onto_level : (s t : State) (y : Read X) →
           ◌≡◌ {A = Read (X × Row Span)} (y ▸ λ x u. Ok ((x, u.bodies), outer_level (place_of t s.at) u))
           (onto t (y ▸ λ x u. Ok ((x, u.bodies), outer_level s u)))
-      behind s t (Ok x) = refl
-      behind s t (Err f) = refl
+      onto_level s t (Ok x) = refl
+      onto_level s t (Err f) = refl
 
   blind_inside : {X : Type 0} {r : Form X} → Blind r → Blind (in_substitution r)
   blind_inside one = record { alike = λ s t. one.alike s t }

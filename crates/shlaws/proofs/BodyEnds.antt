@@ -33,8 +33,8 @@ none_at_start T p (suc q) start =
     let one : suc q - 1 ≡ q = omega arith in
     let none : (nat_le p q && raw_stands T q backslash) ≡ false = ⊎_elim
     (λ (same : suc q ≡ p). and_left (nat_le p q) (raw_stands T q backslash) (lt-leb p q (omega arith)))
-    (λ (behind : (p < suc q) × (slice_get T (suc q - 1) ≡ Some newline_char)). and_right (nat_le p q)
-    (raw_stands T q backslash) (newline_other T q (rw one at behind.1))) start in
+    (λ (later : (p < suc q) × (slice_get T (suc q - 1) ≡ Some newline_char)). and_right (nat_le p q)
+    (raw_stands T q backslash) (newline_other T q (rw one at later.1))) start in
     rw none refl
 
 odd_more : (is : Bool) (n : ℕ) (odd : Bool) → odd ≡ is_odd n → (is && not odd) ≡ is_odd (cond is (1 + n) 0)
@@ -108,8 +108,8 @@ module _ (T : List ℕ) (w : Waiting) (p : ℕ) where
   none_between : (r m : ℕ) → p ≤ r → r < m → m < past_line T r → ¬ BeginsLine T p m
   none_between r m low lt near start =
       ⊎_elim (λ (same : m ≡ p). absurd (omega arith))
-      (λ (behind : (p < m) × (slice_get T (m - 1) ≡ Some newline_char)). no_newline T r (m - 1) (omega arith)
-      (omega arith) behind.1) start
+      (λ (later : (p < m) × (slice_get T (m - 1) ≡ Some newline_char)). no_newline T r (m - 1) (omega arith)
+      (omega arith) later.1) start
 
   abbrev Outcome : Option ℕ → Type 0
   Outcome None = (q : ℕ) → ¬ Line q
@@ -168,7 +168,7 @@ module _ (T : List ℕ) (w : Waiting) (p : ℕ) where
   none_before : (m : ℕ) → m < p → ¬ Line m
   none_before m lt line =
       ⊎_elim (λ (same : m ≡ p). absurd (omega arith))
-      (λ (behind : (p < m) × (slice_get T (m - 1) ≡ Some newline_char)). absurd (omega arith)) line.start
+      (λ (later : (p < m) × (slice_get T (m - 1) ≡ Some newline_char)). absurd (omega arith)) line.start
 
   first_apart : is_taken_in T w p p ≡ false
   unfolding is_odd

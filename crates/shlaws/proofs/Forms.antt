@@ -18,8 +18,8 @@ use Rattle.shlaws.specs.Onward.{TurnsOn, last as last_on, more as more_on, halts
 -- less is left still where one goes on, and where one began before
 pub leads_far : (g : Given) (s t u v : State) → s.at ≤ t.at → u.at ≤ v.at → leads_on g t u ≡ true
     → leads_on g s v ≡ true
-leads_far g s t u v before behind on =
-    let less = ltb-true _ _ on in lt-ltb _ _ (omega (arith, before, behind, less))
+leads_far g s t u v before later on =
+    let less = ltb-true _ _ on in lt-ltb _ _ (omega (arith, before, later, less))
 
 -- to the right of a place where a byte is read less is left
 pub leads_byte : (g : Given) (s t : State) → IsRead g.text s.at → s.at < t.at → leads_on g s t ≡ true

@@ -74,9 +74,9 @@ none_sorted i j d lt within = absurd (omega arith)
 
 precedes_all : (n m : NodeLine) (ms : Row NodeLine) → MayPrecede n m → All (MayPrecede m) ms
     → All (MayPrecede n) ms
-precedes_all n m ms here behind k d lt =
+precedes_all n m ms here later k d lt =
     precedes_on n.start n.«end» m.start m.«end» (get_or ms k d).start (get_or ms k d).«end» here
-    (behind k d lt)
+    (later k d lt)
 
 sorted_by : (n m : NodeLine) (ms : Row NodeLine) (b : Bool) → is_lt (by_place m n) ≡ b → AreInOrder (m ∷ ms)
     → AreInOrder (inserted n ms) → AreInOrder (cond b (m ∷ inserted n ms) (n ∷ m ∷ ms))

@@ -83,10 +83,10 @@ impl Listed {
     /// Makes room for an entry, before this token, that is the first one and the last:
     /// it takes room for no more. Most are.
     #[inline(always)]
-    fn room_for_only(&mut self, behind: Token) -> Result<(), AllocError>
+    fn room_for_only(&mut self, next: Token) -> Result<(), AllocError>
         ensures { IfOk result (λ _. view_listed self.new ≡ view_listed self.old) }
     {
-        if self.entries.capacity() == 0 && !self.goes_on(behind) {
+        if self.entries.capacity() == 0 && !self.goes_on(next) {
             self.entries.reserve_exact(1)?;
         }
         Ok(())
@@ -94,10 +94,10 @@ impl Listed {
 
     /// Whether another entry may follow the one before this token.
     #[inline(always)]
-    fn goes_on(&self, behind: Token) -> bool {
-        match behind {
+    fn goes_on(&self, next: Token) -> bool {
+        match next {
             Token::Newline => !self.one_line,
-            _ => behind.begins_pipeline(),
+            _ => next.begins_pipeline(),
         }
     }
 

@@ -133,11 +133,11 @@ impl<'a, S: Source, const TREE: u8> Cursor<'a, S, TREE> {
                 return false;
             }
         }
-        let behind = run[word.len()];
-        if behind == b'\\' {
+        let next = run[word.len()];
+        if next == b'\\' {
             return self.is_broken_word(from, word);
         }
-        ends_words(behind)
+        ends_words(next)
     }
 
     /// The same, past continuations and stretches of the source.

@@ -76,8 +76,8 @@ all_rose before after (e ∷ es) _ _ low (mid, one, rest) (one_tried l m n k by 
     let from = subst (λ (h : SessionOptions). AreRead h.edition (bytes_by e.result before.bytes e.splices) es n k)
     (sym (how_one before e.splices mid e.result one)) more in
     let on = subst (λ B. AreRead mid.how.edition B es n k) (sym (bytes_one before e.splices mid e.result one)) from in
-    let behind = all_rose mid after es n k small rest on in
-    both_rose before.meter mid.meter after.meter l n m k low rose.0 rose.1 behind.0 behind.1
+    let later = all_rose mid after es n k small rest on in
+    both_rose before.meter mid.meter after.meter l n m k low rose.0 rose.1 later.0 later.1
 
 -- the sums are there, as each edit has a window
 sums_one : (r : Result (Unit {0}) LiveError) (edition : Edition) (bytes : List ℕ) (ss : Row ASplice)

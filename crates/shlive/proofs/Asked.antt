@@ -97,10 +97,10 @@ pub some_taken : (old new : Ahead) (taken : List ℕ) → TakesBytes old new tak
     new.waiting.bytes ≡ [] → 0 < length taken
 some_taken old new taken t some none =
     let before = length-append old.waiting.bytes t.more in
-    let behind = length-append taken new.waiting.bytes in
+    let after = length-append taken new.waiting.bytes in
     let same = ap length t.same in
     let empty = ap length none in
-    omega (arith, before, behind, same, empty, some)
+    omega (arith, before, after, same, empty, some)
 
 -- ---- a run that ends where no more bytes come
 
@@ -224,10 +224,10 @@ pub smaller : (m : ℕ) (a b : Ahead) (taken : List ℕ) → TakesBytes a b take
     → m + length b.waiting.bytes - b.waiting.count < m + length a.waiting.bytes - a.waiting.count
 smaller m a b taken t some few =
     let before = length-append a.waiting.bytes t.more in
-    let behind = length-append taken b.waiting.bytes in
+    let after = length-append taken b.waiting.bytes in
     let same = ap length t.same in
     let count = t.counted in
-    omega (arith, before, behind, same, count, some, few)
+    omega (arith, before, after, same, count, some, few)
 
 pub appends_none : (a : Option (List ℕ)) → Appends a a []
 appends_none None = tt

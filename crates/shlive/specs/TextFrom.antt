@@ -5,4 +5,4 @@ use Rattle.shlive.specs.declared.text_from.TextFrom.{TextFrom}
 
 -- the bytes from its base on
 abbrev pub text_from_bytes : TextFrom → List ℕ
-text_from_bytes behind = drop behind.base (buffer_bytes behind.text.now)
+text_from_bytes rest = drop rest.base (buffer_bytes rest.text.now)

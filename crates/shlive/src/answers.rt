@@ -138,11 +138,11 @@ fn print_line(
         return Ok(true);
     };
     print_gap(gap, page)?;
-    let behind = TextFrom::new(printer.source, begin);
+    let rest = TextFrom::new(printer.source, begin);
     let printer = Printer {
         alloc: printer.alloc,
         layout: printer.layout,
-        source: &behind,
+        source: &rest,
     };
     printer.print_entries(&list.entries, page)?;
     Ok(false)

@@ -30,10 +30,10 @@ fn boundaries(alloc: Global, bytes: &[u8]) -> Result<Vec<usize>, Fail> {
 
 /// Where the window ends, if not with the script: at the least new boundary at or past the
 /// end of the new bytes whose old place is a boundary.
-fn end(old: &[usize], new: &[usize], behind: usize, b: usize) -> Option<usize> {
+fn end(old: &[usize], new: &[usize], new_end: usize, b: usize) -> Option<usize> {
     for place in new {
-        let there = b.saturating_add(place.saturating_sub(behind));
-        if behind <= *place && old.binary_search(&there).is_ok() {
+        let there = b.saturating_add(place.saturating_sub(new_end));
+        if new_end <= *place && old.binary_search(&there).is_ok() {
             return Some(*place);
         }
     }
@@ -49,7 +49,7 @@ pub(crate) fn window(alloc: Global, bytes: &[u8], splices: &[Splice<'_>]) -> Res
     let old = boundaries(alloc, bytes)?;
     // What stands after the last splice stays.
     let stays = bytes.len().saturating_sub(last.b);
-    let behind = made.len().saturating_sub(stays);
-    let end = end(&old, &boundaries(alloc, &made)?, behind, last.b).unwrap_or(made.len());
+    let new_end = made.len().saturating_sub(stays);
+    let end = end(&old, &boundaries(alloc, &made)?, new_end, last.b).unwrap_or(made.len());
     Ok(end.saturating_sub(window_begin(&old, first.a)))
 }

@@ -668,7 +668,7 @@ module _ {edition : Edition} {B T : List ℕ} {o : ℕ} (S : StandsIn edition B 
       Gives (g S) (turn_of kind (so_many acc position n)) (state h p) (done (so_many acc position n)) (state h p)
   unfolding item_turn word_turn redirect_turn
   item_stops h of_command acc position n p none = let no = no_item_token n.token none in
-      rw (no.behind, no.redirect) given_here
+      rw (no.after, no.redirect) given_here
   item_stops h of_for acc position n p none = second_of _ _ (no_item_token n.token none).word given_here
   item_stops h of_compound acc position n p none = second_of _ _ (no_item_token n.token none).redirect given_here
 

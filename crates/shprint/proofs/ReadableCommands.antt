@@ -33,7 +33,7 @@ use Rattle.shast.specs.Bodies.{fill_here, fill_item_content, fill_item, fill_ite
 use Rattle.shast.proofs.Going.{items_going, and_or_parts_going, pipes_going}
 use Rattle.shprint.proofs.Good.{GoodHere, GoodOwnComment, an_item_of, a_redirect_of, GoodNumber, GoodRedirect, GoodRedirects, Kind, of_command, of_compound, GoodItem, of_word, of_redirect, of_redirect_after, GoodItems, none_more, SomeItem, GoodSimple, GoodEntry, GoodAndOr, GoodParts, GoodPipeline, GoodPipes, GoodCommand, GoodForm, GoodCompound}
 use Rattle.shprint.proofs.GoodRows.{with_last, items_more, items_last, pipes_more, joined_more}
-use Rattle.shprint.proofs.ReadableForms.{Quiet, Reads, gives, first, after, picks, with_its_bytes, stopped, Adds, add_gives, add_first, behind, add_after, so_adds, add_sees, add_pushes, add_picks, add_stops, add_stopped, Turns, add_repeats, Stands, word_so, reads_next, reads_bang, reads_separator, WordRead, reads_word, reads_comment, Comments, reads_join}
+use Rattle.shprint.proofs.ReadableForms.{Quiet, Reads, gives, first, after, picks, with_its_bytes, stopped, Adds, add_gives, add_first, read_first, add_after, so_adds, add_sees, add_pushes, add_picks, add_stops, add_stopped, Turns, add_repeats, Stands, word_so, reads_next, reads_bang, reads_separator, WordRead, reads_word, reads_comment, Comments, reads_join}
 use Rattle.shast.specs.Nodes.{word_span}
 use Rattle.shgrammar.proofs.NamesBefore.{NameBefore, name_before}
 
@@ -186,7 +186,7 @@ module _ (B : List ℕ) (g : Given) (here : g.text ≡ drop g.offset B) where
         → Adds g D (an_item inner i next) (Turns g (ItemsOn C) (ItemsDone C)) p
     unfolding an_item
     reads_item C i next D p is so =
-        behind g (reads_word g room p) (λ w q read. add_pushes g (behind g (reads_next g next q) (λ n e stands.
+        read_first g (reads_word g room p) (λ w q read. add_pushes g (read_first g (reads_next g next q) (λ n e stands.
         let some = some_last g i.items (item (breaks i) (as_item next w)) in
         add_gives g (
           record {
@@ -341,11 +341,11 @@ module _ (B : List ℕ) (g : Given) (here : g.text ≡ drop g.offset B) where
         Q (so_many (is ++ i ∷ []) next m) E e) → Adds g D (one_redirect inner broken next is n) (Turns g Q Q) p
     unfolding one_redirect
     reads_redirect Q broken place next is n D p so all =
-        add_sees g (λ s. refl) (behind g (reads_number place n p so)
-        (λ d e one. behind g (reads_operator (g.offset + p) (redirect_operator_of d.1.token) e)
-        (λ o f two. behind g (reads_target f) (λ w h three.
+        add_sees g (λ s. refl) (read_first g (reads_number place n p so)
+        (λ d e one. read_first g (reads_operator (g.offset + p) (redirect_operator_of d.1.token) e)
+        (λ o f two. read_first g (reads_target f) (λ w h three.
         add_first g (reads_document o.0 o.1.start (word_span w.0).start w.1 D h)
-        (λ x E k four. add_pushes g (behind g (reads_next g next k) (λ m j stands.
+        (λ x E k four. add_pushes g (read_first g (reads_next g next k) (λ m j stands.
         add_gives g (all (item broken (redirect d.0 o.0 o.1 w.0 x)) m E j
         (redirect_open broken d.0 o.0 o.1 w.0 x w.1 three.0 one three.1 three.2 four) stands))))))))
 
@@ -501,8 +501,8 @@ module _ (B : List ℕ) (g : Given) (here : g.text ≡ drop g.offset B) where
       unfolding a_word_command
       reads_word_command n D p is so =
           let word_is : after_word n.token ≡ Some Suffix = ap after_word is in
-          add_sees g (λ s. refl) (behind g (reads_word g room p)
-          (λ w q read. behind g (reads_next g Suffix q) (λ m e stands.
+          add_sees g (λ s. refl) (read_first g (reads_word g room p)
+          (λ w q read. read_first g (reads_next g Suffix q) (λ m e stands.
           add_picks g (is_paren m.token)
           (λ paren. add_picks g (is_name_at g.text p)
           (λ name. fine.function (word_span w) D e (named_before n p q w is so read name)) (add_stops g))
@@ -549,7 +549,7 @@ module _ (B : List ℕ) (g : Given) (here : g.text ≡ drop g.offset B) where
           Adds g D (one_command inner x) (Turns g (PipesGood C) (PipesGood C)) p
       unfolding one_command
       reads_one_command C x D p so =
-          add_after g tt (λ y e. behind g (reads_join B g here x.next.broken e)
+          add_after g tt (λ y e. read_first g (reads_join B g here x.next.broken e)
           (λ j f join. add_first g (reads_command j.1 D f join.1) (λ c E h good.
           add_pushes g (add_gives g (pipe_more x.parts j.0 c.0 join.0 good so)))))
 
@@ -572,7 +572,7 @@ module _ (B : List ℕ) (g : Given) (here : g.text ≡ drop g.offset B) where
           Adds g D (a_pipeline inner n) (λ x E e. OpenPipeline D x.0 E) p
       unfolding a_pipeline
       reads_pipeline n D p so =
-          behind g (reads_bang g n p so) (λ b e stands. add_first g (reads_command b.1 D e stands) (λ c C f good.
+          read_first g (reads_bang g n p so) (λ b e stands. add_first g (reads_command b.1 D e stands) (λ c C f good.
           add_first g (add_repeats g (pipe_turn inner) (PipesGood C) (PipesGood C) (PipesGood C) (reads_pipe_turn C)
           (λ x E d all. all) (λ x E d all. all) (piped [] c.1) C f (opens_none g fill_pipe tt))
           (λ x E d all. add_gives g (pipeline_open b.0 c.0 x.parts good all))))
@@ -606,7 +606,7 @@ module _ (B : List ℕ) (g : Given) (here : g.text ≡ drop g.offset B) where
       unfolding one_pipeline
       reads_one_pipeline C a o D p so =
           add_after g (tt, (λ u. tt))
-          (λ y e. behind g (reads_join B g here a.next.broken e)
+          (λ y e. read_first g (reads_join B g here a.next.broken e)
           (λ j f join. add_first g (reads_pipeline j.1 D f join.1) (λ x E h good.
           add_pushes g (add_gives g (part_more a.parts o j.0 x.0 join.0 good so)))))
 
@@ -657,6 +657,6 @@ module _ (B : List ℕ) (g : Given) (here : g.text ≡ drop g.offset B) where
       unfolding an_entry
       reads_entry blank n D p so =
           add_first g (reads_and_or n D p so)
-          (λ a E e one. behind g (reads_separator g a.1 e)
-          (λ s f two. behind g (reads_comment B g here (is_some s.0 ≡ true) s.1 f two) (λ c h three.
+          (λ a E e one. read_first g (reads_separator g a.1 e)
+          (λ s f two. read_first g (reads_comment B g here (is_some s.0 ≡ true) s.1 f two) (λ c h three.
           add_gives g (entry_open a.0 _ blank c.0 three.0 one, (λ on. three.1 (still_parted s.0 on))))))

@@ -44,7 +44,7 @@ use Rattle.shast.proofs.FilledBack.{filled_is}
 use Rattle.shast.proofs.Going.{entries_going, branches_going, cases_going, row_filled}
 use Rattle.shprint.proofs.Good.{GoodOwnComment, an_item_of, of_for, of_argument, GoodItems, none_more, GoodWords, GoodForWords, GoodName, GoodEntries, GoodCommand, GoodForm, GoodBranch, GoodBranches, GoodElse, GoodWord, GoodPatterns, GoodCases, GoodCase}
 use Rattle.shprint.proofs.GoodRows.{branches_more, patterns_last, cases_more, entries_join}
-use Rattle.shprint.proofs.ReadableForms.{pattern_is_word, Reads, gives, first, after, sees, pushes, picks, stopped, Turned, repeats, Adds, add_gives, add_first, behind, and_told, add_sees, add_pushes, add_picks, add_stops, add_stopped, Turns, turns_if, add_repeats, Stands, word_so, reads_next, reads_semicolon, reads_newline, reads_reserved_or_paren, reads_closing, WordRead, reads_word, reads_comment, Comments, or_parts, reads_linebreak}
+use Rattle.shprint.proofs.ReadableForms.{pattern_is_word, Reads, gives, first, after, sees, pushes, picks, stopped, Turned, repeats, Adds, add_gives, add_first, read_first, and_told, add_sees, add_pushes, add_picks, add_stops, add_stopped, Turns, turns_if, add_repeats, Stands, word_so, reads_next, reads_semicolon, reads_newline, reads_reserved_or_paren, reads_closing, WordRead, reads_word, reads_comment, Comments, or_parts, reads_linebreak}
 use Rattle.shprint.proofs.ReadableCommands.{item_is, OpenCompound, OpenEntry, word_shape, text_of, substs_in, reads_anywhere, one_more_good, Fine, reads_compound_by, reads_entry}
 use Rattle.shgrammar.proofs.NamesBefore.{NameBefore}
 
@@ -118,7 +118,7 @@ module _ (B : List ℕ) (g : Given) (here : g.text ≡ drop g.offset B) where
       reads_remark : (C : Row Due) (l : ListSo) (D : Row Due) (p : ℕ) → Listing C l D p →
           Adds g D (a_remark l) (Listing C) p
       unfolding a_remark
-      reads_remark C l D p so = behind g (reads_comment B g here ⊥ l.next p (λ no. absurd no))
+      reads_remark C l D p so = read_first g (reads_comment B g here ⊥ l.next p (λ no. absurd no))
           (λ x e one. by_comment x e one.0)
         where
           by_comment : (x : Option Span × Next) (e : ℕ) → GoodOwnComment (option_map (shape_of_comment B) x.0) →
@@ -140,7 +140,7 @@ module _ (B : List ℕ) (g : Given) (here : g.text ≡ drop g.offset B) where
       unfolding list_turn
       reads_list_turn C l D p so =
           add_first g (reads_on_line C l D p so)
-          (λ m E e all. behind g (reads_newline g ⊥ m.next e (λ no. absurd no)) (λ x f more.
+          (λ m E e all. read_first g (reads_newline g ⊥ m.next e (λ no. absurd no)) (λ x f more.
           add_gives g (turns_if g (ListOn C) (Listing C) x.0 _ E f (λ on. (all, more.1 on)) all)))
 
       reads_lines : (n : Next) (D : Row Due) (p : ℕ) → Stands g Command n p →
@@ -217,7 +217,7 @@ module _ (B : List ℕ) (g : Given) (here : g.text ≡ drop g.offset B) where
           Adds g D (a_group inner c n) (λ x E e. OpenEntries D x.what E × Stands g Command x.next e) p
       unfolding a_group
       reads_group c n D p so = add_first g (reads_list n D p so)
-          (λ l E e good. behind g (reads_closing g inner c l.1 e) (λ k f stands. add_gives g (good, stands)))
+          (λ l E e good. read_first g (reads_closing g inner c l.1 e) (λ k f stands. add_gives g (good, stands)))
 
       branch_open : {C D E : Row Due} (c b : Entries) → OpenEntries C c D → OpenEntries D b E →
           OpenBranch C (branch c b) E
@@ -229,7 +229,7 @@ module _ (B : List ℕ) (g : Given) (here : g.text ≡ drop g.offset B) where
       unfolding a_branch
       reads_branch n D p so =
           add_first g (reads_list n D p so)
-          (λ c C e one. behind g (reads_closing g inner closings.Then c.1 e) (λ t f stands.
+          (λ c C e one. read_first g (reads_closing g inner closings.Then c.1 e) (λ t f stands.
           add_first g (reads_list t.1 C f stands) (λ b E h two. add_gives g (branch_open c.0 b.0 one two))))
 
       abbrev OpenBranches : Row Due → Row ABranch → Row Due → Type 0
@@ -244,7 +244,7 @@ module _ (B : List ℕ) (g : Given) (here : g.text ≡ drop g.offset B) where
       unfolding elif_turn
       reads_elif C b D p so =
           add_picks g (is_closing closings.Elif b.next.token)
-          (λ is. behind g (reads_reserved_or_paren g _ _ _ p)
+          (λ is. read_first g (reads_reserved_or_paren g _ _ _ p)
           (λ k e stands. add_first g (reads_branch k.1 D e stands)
           (λ x E f good. add_pushes g
           (add_gives g (opens_last g b.branches x.0 (branches_more B g.edition room) so good)))))
@@ -262,7 +262,7 @@ module _ (B : List ℕ) (g : Given) (here : g.text ≡ drop g.offset B) where
       unfolding an_else
       reads_else n D p =
           add_picks g (is_closing closings.Else n.token)
-          (λ is. behind g (reads_reserved_or_paren g _ _ _ p)
+          (λ is. read_first g (reads_reserved_or_paren g _ _ _ p)
           (λ k e stands. add_first g (reads_list k.1 D e stands) (λ l E f good. add_gives g (else_open l.0 good))))
           (add_gives g no_else_open)
 
@@ -284,7 +284,7 @@ module _ (B : List ℕ) (g : Given) (here : g.text ≡ drop g.offset B) where
           add_first g (add_repeats g (elif_turn inner) (BranchesGood C) (BranchesGood C) (BranchesGood C) (reads_elif C)
           (λ b E d all. all) (λ b E d all. all) (branched [] f.1) C e (opens_none g fill_branch tt)) (λ b A d all.
           add_first g (reads_else b.next A d)
-          (λ x E h other. behind g (reads_closing g inner closings.Fi x.1 h)
+          (λ x E h other. read_first g (reads_closing g inner closings.Fi x.1 h)
           (λ c k stands. add_gives g (if_open f.0 b.branches x.0 one all other, stands)))))
 
       reads_loop : (n : Next) (D : Row Due) (p : ℕ) → Stands g Command n p →
@@ -292,9 +292,9 @@ module _ (B : List ℕ) (g : Given) (here : g.text ≡ drop g.offset B) where
       unfolding a_loop
       reads_loop n D p so =
           add_first g (reads_list n D p so)
-          (λ c C e one. behind g (reads_closing g inner closings.Do c.1 e) (λ d f stands.
+          (λ c C e one. read_first g (reads_closing g inner closings.Do c.1 e) (λ d f stands.
           add_first g (reads_list d.1 C f stands)
-          (λ b E h two. behind g (reads_closing g inner closings.Done b.1 h)
+          (λ b E h two. read_first g (reads_closing g inner closings.Done b.1 h)
           (λ k l stands_after. add_gives g (branch_open c.0 b.0 one two, stands_after)))))
 
       -- ---- `for`
@@ -414,9 +414,9 @@ module _ (B : List ℕ) (g : Given) (here : g.text ≡ drop g.offset B) where
       reads_for : (n : Next) (D : Row Due) (p : ℕ) → Stands g Suffix n p → Adds g D (a_for inner n) (FormGood D) p
       unfolding a_for
       reads_for n D p so =
-          behind g (reads_for_name n p so)
-          (λ x e one. behind g (reads_for_head x.1 e one.1)
-          (λ h f two. behind g (reads_closing g inner closings.Do h.next f) (λ d k stands.
+          read_first g (reads_for_name n p so)
+          (λ x e one. read_first g (reads_for_head x.1 e one.1)
+          (λ h f two. read_first g (reads_closing g inner closings.Do h.next f) (λ d k stands.
           add_first g (reads_group closings.Done d.1 D k stands)
           (λ b E l body. add_gives g (for_open x.0 h.words h.comments b.what one.0 two.0 two.1 body.0, body.1)))))
 
@@ -554,11 +554,11 @@ module _ (B : List ℕ) (g : Given) (here : g.text ≡ drop g.offset B) where
           Adds g D (one_case inner c) (Turns g (CasesOn C) (CasesDone C)) p
       unfolding one_case
       reads_one_case C c D p so stands =
-          add_sees g (λ s. refl) (behind g (reads_bracket c.next p stands)
-          (λ n e begin. behind g (reads_patterns n e begin) (λ ps f words.
-          behind g (reads_closing g inner closings.Paren ps.next f)
+          add_sees g (λ s. refl) (read_first g (reads_bracket c.next p stands)
+          (λ n e begin. read_first g (reads_patterns n e begin) (λ ps f words.
+          read_first g (reads_closing g inner closings.Paren ps.next f)
           (λ k h stands_after. add_first g (reads_body k.1 D h stands_after) (λ b E i body.
-          behind g (reads_item_end _ b.next i) (λ e j end.
+          read_first g (reads_item_end _ b.next i) (λ e j end.
           add_pushes g (add_gives g (
             opens_last g c.items _ (cases_more B g.edition room) so.0
                 (case_open c.comments ps.patterns b.list.entries _ so.1 words body.1 body.0),
@@ -600,11 +600,11 @@ module _ (B : List ℕ) (g : Given) (here : g.text ≡ drop g.offset B) where
       reads_case : (n : Next) (D : Row Due) (p : ℕ) → Stands g Suffix n p → Adds g D (a_case inner n) (FormGood D) p
       unfolding a_case
       reads_case n D p so =
-          behind g (reads_case_head n p so) (λ h e one.
+          read_first g (reads_case_head n p so) (λ h e one.
           add_first g (add_repeats g (case_turn inner) (CasesOn D) (CasesOn D) (CasesDone D) (reads_case_turn D)
           (λ c E d on. on) (λ c E d on. (on.0, on.1)) (cases_so [] h.1 h.2) D e
           (opens_none g fill_case tt, one.1, (λ no. one.2))) (λ c E f all.
-          behind g (reads_closing g inner closings.Esac c.next f)
+          read_first g (reads_closing g inner closings.Esac c.next f)
           (λ k j stands. add_gives g (cases_open h.0 c.items c.comments one.0 all.1 all.0, stands))))
 
       brace_open : {D E : Row Due} (es : Entries) → OpenEntries D es E → OpenForm D (brace es) E
@@ -645,7 +645,7 @@ module _ (B : List ℕ) (g : Given) (here : g.text ≡ drop g.offset B) where
           × Stands g Command c.1 e) p
       unfolding a_compound
       reads_compound o D p =
-          behind g (reads_reserved_or_paren g _ _ _ p)
+          read_first g (reads_reserved_or_paren g _ _ _ p)
           (λ x e stands. add_first g (reads_form o x.1 D e stands)
           (λ f E d good. add_pushes g (add_gives g (f.what, _, refl, good.0, good.1))))
 
@@ -666,9 +666,9 @@ module _ (B : List ℕ) (g : Given) (here : g.text ≡ drop g.offset B) where
           Adds g D (a_function inner name) (λ c E e. OpenFunction D c.0 E) p
       unfolding a_function
       reads_function name D p before =
-          behind g (reads_reserved_or_paren g _ true Command p)
-          (λ o e stands. behind g (reads_closing g inner closings.Paren o.1 e) (λ c f stands_after.
-          behind g (reads_linebreak B g here (Unit {0}) [] c.1 f tt (λ y. stands_after)) (λ l h lines.
+          read_first g (reads_reserved_or_paren g _ true Command p)
+          (λ o e stands. read_first g (reads_closing g inner closings.Paren o.1 e) (λ c f stands_after.
+          read_first g (reads_linebreak B g here (Unit {0}) [] c.1 f tt (λ y. stands_after)) (λ l h lines.
           add_first g (reads_compound_by B g here room fine l.next (opener_of l.next.token) D h)
           (λ b E k one. add_gives g (under_good name l.join.comments b.0 one.0 one.1 before lines.0 one.2)))))
 

@@ -226,10 +226,10 @@ module _ (g : Given) where
       }
 
   -- after a form that adds none
-  pub behind : {X Y : Type 0} {P : X → ℕ → Type 0} {Q : Y → Row Due → ℕ → Type 0} {D : Row Due} {r : Form X}
+  pub read_first : {X Y : Type 0} {P : X → ℕ → Type 0} {Q : Y → Row Due → ℕ → Type 0} {D : Row Due} {r : Form X}
       {q : X → Form Y} {p : ℕ} → Reads r P p
       → ((x : X) (e : ℕ) → P x e → Adds D (q x) Q e) → Adds D (both r q) Q p
-  behind {P = P} {Q = Q} {D = D} one rest =
+  read_first {P = P} {Q = Q} {D = D} one rest =
       record {
         adds = λ s docs. tells_then Whole g {P = Kept D P} {Q = Grown Q} (one.reads D s docs)
             (λ x t so. (rest x t.at so.1).adds t so.0);

@@ -60,11 +60,11 @@ module _ (B : Text) where
         → ((t : Sheet) → written t (item_after y m (shape_of_item B (view_item i))) ≡ written t (one (stretch B b c)))
         → (t : Sheet) → written t before ≡ written t (text (stretch B a c) ∷ items_marks is)
     one_passed a b c before i is ab bc so_far word t =
-        let behind = item_after y m (shape_of_item B (view_item i)) in
+        let one_more = item_after y m (shape_of_item B (view_item i)) in
         let from = written t (one (stretch B a b)) in
         so_far t
-        ∙ sym (written_cons t (behind ++ items_marks is) (text (stretch B a b)))
-        ∙ sym (written_append from behind (items_marks is))
+        ∙ sym (written_cons t (one_more ++ items_marks is) (text (stretch B a b)))
+        ∙ sym (written_append from one_more (items_marks is))
         ∙ ap (λ s. written s (items_marks is)) (word from)
         ∙ written_append from (one (stretch B b c)) (items_marks is)
         ∙ written_cons t (text (stretch B b c) ∷ items_marks is) (text (stretch B a b))

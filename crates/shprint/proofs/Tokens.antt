@@ -557,14 +557,14 @@ none_of (Some x) e = absurd cc
 
 -- and begins neither an item that is a word nor a redirection
 pub record NoItem (t : Token) : Type 0 where
-  pub behind : after_word t ≡ None
+  pub after : after_word t ≡ None
   pub redirect : begins_redirect t ≡ false
   pub word : is_word t ≡ false
 
 pub no_item_token : (t : Token) → begins_simple t ≡ false → NoItem t
 no_item_token t none =
     let parts = or_parts (begins_word t) (begins_redirect t) none in
-    record { behind = none_of (after_word t) parts.0; redirect = parts.1; word = no_word t none }
+    record { after = none_of (after_word t) parts.0; redirect = parts.1; word = no_word t none }
 
 -- ---- redirections
 

@@ -124,12 +124,12 @@ fn wanted_for(pairs: &[Cell], byte: u8) -> Option<&Cell> {
 
 /// A row of BYTES with one of all bytes.
 fn judge_byte(judge: &mut Judge, alloc: Global, row: &[Cell], byte: u8) -> Result<(), Fail> {
-    let [before, behind, pairs @ ..] = row else {
+    let [before, after, pairs @ ..] = row else {
         return Err(Fail::from("no row"));
     };
     let mut script = Vec::from_slice(alloc, &before.bytes)?;
     script.push(byte)?;
-    script.extend_from_slice(&behind.bytes)?;
+    script.extend_from_slice(&after.bytes)?;
     let wanted = wanted_for(pairs, byte).ok_or("no dump")?;
     judge.script(&script, &wanted.bytes, 3)
 }

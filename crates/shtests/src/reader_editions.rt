@@ -48,7 +48,7 @@ const ROWS: &[u8] = br###"
 ("echo $(echo $'a\\')')\n", "fault 1 at 18", "[0-4 5-20$5-20([7-11 12-19])]")
 ("x=$'a\\'b'\n", "fault 1 at 8", "[=0-9]")
 
-// it stands in no word behind `<<`
+// it stands in no word after `<<`
 ("cat <<$'E'\n$E\n", "[0-3 <<4-6:6-10@'11-11]", "fault 10 at 6")
 ("cat <<a$'E'\na$E\n", "[0-3 <<4-6:6-11@'12-12]", "fault 10 at 6")
 ("cat <<$\\\n'E'\n$E\n", "[0-3 <<4-6:6-12@'13-13]", "fault 10 at 6")

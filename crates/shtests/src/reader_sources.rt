@@ -52,10 +52,10 @@ pub(crate) fn all_lines(alloc: Global) -> Result<Vec<u8>, Fail> {
 }
 
 /// A text between these, in pieces of some sizes, each after first pieces of some.
-fn judge_long(alloc: Global, before: &[u8], text: &[u8], behind: &[u8]) -> Result<(), Fail> {
+fn judge_long(alloc: Global, before: &[u8], text: &[u8], after: &[u8]) -> Result<(), Fail> {
     let mut script = Vec::from_slice(alloc, before)?;
     script.extend_from_slice(text)?;
-    script.extend_from_slice(behind)?;
+    script.extend_from_slice(after)?;
     let wanted = dumped(alloc, &mut Reader::new(alloc), &Flat::new(&script))?;
     let mut judge = Judge::new(alloc);
     for first in [0, 1, 2, 61, 1000, 4095] {
@@ -185,7 +185,7 @@ const ENDS: [&[u8]; 22] = [
 ];
 
 /// What stands after that: more bytes than are looked at at once.
-const BEHIND: &[u8] = b" e\n# some more bytes than are looked at at once\nf \"$g\"\n";
+const AFTER: &[u8] = b" e\n# some more bytes than are looked at at once\nf \"$g\"\n";
 
 /// A script with a run of so many bytes is read in one piece as it is in pieces of one byte.
 fn judge_run(
@@ -200,7 +200,7 @@ fn judge_run(
         text.push(before.1)?;
     }
     text.extend_from_slice(end)?;
-    text.extend_from_slice(BEHIND)?;
+    text.extend_from_slice(AFTER)?;
     let pieces = InPieces::cut(&text, 0, 0);
     let wanted = dumped(alloc, &mut Reader::new(alloc), &pieces)?;
     judge.source(&Flat::new(&text), &text, wanted.as_bytes())

@@ -42,7 +42,7 @@ pub(crate) const LINES: &[u8] = br###"
 ("''#a", "[0-4]")
 ("a\\\n#b", "[0-5]")
 ("\\\n#b", "#2-4")
-// items behind a continuation
+// items after a continuation
 ("a \\\nb", "a\\\n b", "a \\\n\r", "[0-1 ^4-5]")
 ("a=1 \\\nb=2", "a=1\\\n b=2", "[=0-3 ^=6-9]")
 ("a=1 \\\nb", "[=0-3 ^6-7]")

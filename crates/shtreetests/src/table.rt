@@ -33,7 +33,7 @@ fn digit(byte: u8) -> u8 {
 }
 
 /// The state after a byte.
-fn behind(state: State, byte: u8) -> State {
+fn state_after(state: State, byte: u8) -> State {
     match state {
         State::Comment if byte != b'\n' => State::Comment,
         State::Comment | State::Outside => match byte {
@@ -110,7 +110,7 @@ pub fn rows(alloc: Global, table: &[u8]) -> Result<Vec<Vec<Cell>>, Fail> {
         if let State::Outside = state {
             mark(alloc, &mut rows, &mut row, *byte)?;
         }
-        state = behind(state, *byte);
+        state = state_after(state, *byte);
     }
     if rows.is_empty() || !row.is_empty() {
         return Err(Fail::from("no rows, or one that does not end"));

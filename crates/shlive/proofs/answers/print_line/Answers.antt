@@ -31,7 +31,7 @@ returns c = λ edition so gap at line is.
     (sym c.list.ensures ∙ ap (option_map (λ list. view_list list.now)) c.in-Some.is) in
     let mid = c.print_gap.new.page in
     let here : Prints mid c.print_entries.new.page (print_entries y mid.margin.items (shape_of (drop so.at B) xs)) =
-    grind (arith, list_seen, at, c.new-behind.ensures, c.in_ok-print_entries.ensures) in (
+    grind (arith, list_seen, at, c.new-rest.ensures, c.in_ok-print_entries.ensures) in (
       sym (ap has_none kind_is),
       line_printed y B so c.args.page.now is edition l xs kind_is
           (subst (λ n. IsTopLine edition (drop n B) l) (sym at) line) mid c.print_entries.new.page

@@ -38,7 +38,7 @@ contents-pieces-preserved g t c =
     let text = text_of c.args.self.now in
     let piece = rw (was.0, was.1, was.2, was.3, c.if-branch.true, ← rest.3.1) at told.value.0 in
     let before = c.pieces.self.documents in
-    let behind = c.skip_plain.new.self.documents in
+    let after = c.skip_plain.new.self.documents in
     let onward : here_of c.pieces.self < here_of c.take_piece.new.self = rw c.if-branch.true at told.onward in
     let plain = rw (same.0, same.1, was.0, was.1) at rest.0 in
     let within = rw (same.0, same.1, was.0, was.1) at rest.2 in (
@@ -46,7 +46,7 @@ contents-pieces-preserved g t c =
         piece_and_plain (level c.args.room) (keep_of c.args.self.now)
             (given c.args.self.now.how.edition text c.args.self.now.origin) c.args.mode
             (c.args.self.now.origin + c.args.opener)
-            (map view_waiting behind.waiting.items) behind.bodies.items
+            (map view_waiting after.waiting.items) after.bodies.items
             (having c.pieces.nested (map view_subst c.pieces.substs.items))
             (having c.take_piece.new.nested (map view_subst c.take_piece.new.substs.items))
             (map view_waiting before.waiting.items) before.bodies.items (here_of c.pieces.self)
@@ -144,14 +144,14 @@ redirect-document-requires g t c =
     let operator = c.operator-span.ensures in
     let same = operator.value.2 in
     let target = c.in_ok-word.ensures in
-    let behind = target.value.2 in
+    let word_read = target.value.2 in
     let before = c.number-number.new.self in
     let is : redirect_operator_of before.next.token ≡ Some c.in-Some.operator = sym c.redirect_operator.ensures
     ∙ c.in-Some.is in (
       omega (arith),
       (
-        (target.place.0, rw (behind.0, behind.1, behind.2) operator.start),
-        λ takes. rw (behind.0, behind.1, same.0, same.1)
+        (target.place.0, rw (word_read.0, word_read.1, word_read.2) operator.start),
+        λ takes. rw (word_read.0, word_read.1, same.0, same.1)
             (here_wants g.row.TREE (text_of before) before.next.token
             (start_of before) c.in-Some.operator before.shows is takes),
       ),

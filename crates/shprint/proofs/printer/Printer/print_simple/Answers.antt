@@ -13,12 +13,12 @@ returns g c =
     let layout = c.args.self.now.layout in
     let page = c.args.page.now in
     let word = c.in-Some-word_span.ensures in
-    let behind = c.words_after-end.ensures in
+    let after = c.words_after-end.ensures in
     let split : c.args.items.now ≡ c.in-Some.first.now ∷ c.in-Some.rest.now =
     grind (arith, c.in-Some.ensures, c.split_first.ensures, c.in-Some.first-is, c.in-Some.rest-is) in
     let told =
     simple_printed bytes layout page.margin.items
     (sheet page) c.in-Some-word_span.span c.words_after-end.result.0 c.in-Some.first.now c.in-Some.rest.now
     c.words_after-end.result.1.now
-    (word.printed bytes layout) word.ordered behind.onward (behind.words layout page.margin.items) in
+    (word.printed bytes layout) word.ordered after.onward (after.words layout page.margin.items) in
     grind (arith, told, split, c.in_ok-print_text.ensures, c.print_items-2.ensures)
