@@ -17,13 +17,13 @@ use Rattle.shgrammar.specs.Form.{moved_on, many, Spelled, as_it_stands, Read, �
 use Rattle.shgrammar.specs.Words.{WordSoFar, having, opened, piece_row, a_piece, single, escaped_turn, backquoted_text, Inner, contents, a_word, dollar_single}
 use Rattle.shgrammar.specs.Levels.{level, ReadsWord}
 use Rattle.shgrammar.proofs.Stretches.{get_drop}
-use Rattle.shgrammar.proofs.Holds.{tells_seen, tells_many, tells_level, tells_any, Holds, holds_then, Tells, Turned, tells_so, tells_then, tells_when, tells_token, AtOrAfter, low, tells_inside}
+use Rattle.shgrammar.proofs.Holds.{tells_seen, tells_many, tells_level, tells_any, Holds, holds_then, Tells, Turned, tells_so, tells_then, tells_when, tells_token, AtOrAfter, no_form_goes_back, tells_inside}
 use Rattle.shgrammar.proofs.SameBytes.{Kept}
 use Rattle.shgrammar.proofs.Inside.{there}
 use Rattle.shgrammar.proofs.PiecesInside.{word_in}
 use Rattle.shgrammar.proofs.WordsElsewhere.{everywhere, substs_shape}
 use Rattle.shgrammar.proofs.Spelling.{raw_at}
-use Rattle.shgrammar.proofs.OneOutcome.{is}
+use Rattle.shgrammar.proofs.OneOutcome.{computed_is_only}
 use Rattle.shgrammar.proofs.SameLine.{same_front}
 use Rattle.shgrammar.specs.declared.edition.Edition.{Edition}
 
@@ -49,7 +49,8 @@ pub word_span : (inner : Inner) (g : Given) (s t : State) (w : AWord) (k : Row S
     may (a_word inner) g s (Ok (w, t)) k → (ss : Row ASubst) × (w ≡ word (span g.offset s.at t.at) (substs_of ss))
 unfolding a_word
 word_span inner g s t w k part =
-    spanned (does (contents inner Plain (g.offset + s.at) []) Whole g s) (sym ((is (a_word inner) g s).only _ _ part))
+    spanned (does (contents inner Plain (g.offset + s.at) []) Whole g s)
+    (sym ((computed_is_only (a_word inner) g s).only _ _ part))
   where
     spanned : (x : Read (Row ASubst)) →
         ◌▸◌ {Y = AWord} (◌▸◌ {Y = Row ASubst × Span} x (λ b u. Ok ((b, span g.offset s.at u.at), u)))
@@ -210,7 +211,7 @@ pub word_may : (room : ℕ) (h : Given) (q n : ℕ) (v : AWord) →
     does (a_word (level room)) Whole h (standing q) ≡ Ok (v, standing (q + n)) →
     may (a_word (level room)) h (standing q) (Ok (v, standing (q + n))) (raw h.text q (q + n) ∷ [])
 word_may room h q n v e =
-    let some = (is (a_word (level room)) h (standing q)).some in
+    let some = (computed_is_only (a_word (level room)) h (standing q)).some in
     let part = subst (λ (x : Read AWord). may (a_word (level room)) h (standing q) x some.0) e some.1 in
     subst (λ (k : Row Spelled). may (a_word (level room)) h (standing q) (Ok (v, standing (q + n))) k)
     (word_told (level room) h (standing q) (standing (q + n)) v some.0 part) part
@@ -225,7 +226,7 @@ pub same_word : (room : ℕ) (g h : Given) (p q n : ℕ) (w : AWord) (told : Row
 unfolding ends_word stands
 same_word room g h p q n w told part same ender no_open B C stands_in stands_there =
     let v = word_there room g h p q n same ender no_open B C stands_in stands_there w
-    (sym ((is (a_word (level room)) g (standing p)).only _ _ part)) in
+    (sym ((computed_is_only (a_word (level room)) g (standing p)).only _ _ part)) in
     (v.0, (word_may room (given g.edition h.text h.offset) q n v.0 v.1.0, sym v.1.1))
 
 pub anywhere : (room : ℕ) (g h : Given) (p q n : ℕ) → ReadsWord room g p n →
@@ -353,8 +354,9 @@ pub word_read : (room : ℕ) (g : Given) (p : ℕ) (w : AWord) (t : State) (told
     may (a_word (level room)) g (standing p) (Ok (w, t)) told
     → may (a_word (level room)) g (standing p) (Ok (w, standing (p + (t.at - p)))) (raw g.text p (p + (t.at - p)) ∷ [])
 word_read room g p w t told part =
-    let is_read = (is (a_word (level room)) g (standing p)).only _ _ part in
-    let on = subst (Holds (AtOrAfter (standing p))) (sym is_read) (low (a_word (level room)) Whole g (standing p)).told in
+    let is_read = (computed_is_only (a_word (level room)) g (standing p)).only _ _ part in
+    let on = subst (Holds (AtOrAfter (standing p))) (sym is_read)
+    (no_form_goes_back (a_word (level room)) Whole g (standing p)).told in
     let stays = subst (Holds (Waits (standing p))) (sym is_read) (waits g room (standing p)).told in
     let told_is = word_told (level room) g (standing p) t w told part in
     let end : t.at ≡ p + (t.at - p) = omega (arith, on) in
@@ -370,7 +372,7 @@ read_word room g p w t told part = (w, word_read room g p w t told part)
 -- at a place no two words are read
 pub one_word : (room : ℕ) (g : Given) (p m n : ℕ) → ReadsWord room g p m → ReadsWord room g p n → m ≡ n
 one_word room g p m n (w, one) (v, two) =
-    let only = (is (a_word (level room)) g (standing p)).only in
+    let only = (computed_is_only (a_word (level room)) g (standing p)).only in
     let same : ◌≡◌ {A = Read AWord} (Ok (w, standing (p + m))) (Ok (v, standing (p + n))) = only _ _ one
     ∙ sym (only _ _ two) in
     let pair : ◌≡◌ {A = AWord × State} (w, standing (p + m)) (v, standing (p + n)) = cc in

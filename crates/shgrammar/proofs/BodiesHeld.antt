@@ -13,7 +13,7 @@ use Rattle.shgrammar.specs.HereDocuments.{Change, waits, bodies_here, changed, p
 use Rattle.shgrammar.specs.Form.{Form, give, see, move, push, stop, both, when, token, loop, ends_as, change, with_bytes, a_level, Step, again, done, in_substitution}
 use Rattle.shgrammar.proofs.Places.{next_newline_low}
 use Rattle.shgrammar.proofs.Delimiters.{between, bodies_low}
-use Rattle.shgrammar.proofs.Holds.{Tells, Turned, tells_any, tells_change, tells_ending, tells_level, tells_loop, tells_so, tells_then, tells_token, tells_when, tells_with_bytes, low, tells_inside}
+use Rattle.shgrammar.proofs.Holds.{Tells, Turned, tells_any, tells_change, tells_ending, tells_level, tells_loop, tells_so, tells_then, tells_token, tells_when, tells_with_bytes, no_form_goes_back, tells_inside}
 
 module _ (g : Given) (limit : ℕ) where
   -- the reading does not stand above the limit
@@ -27,7 +27,7 @@ module _ (g : Given) (limit : ℕ) where
   pub unless_above : {X : Type 0} {P : X → State → Type 0} (r : Form X) (s : State) →
       (Before s → Tells Whole g r (λ x t. Before t → P x t) s) → Tells Whole g r (λ x t. Before t → P x t) s
   unless_above r s so =
-      ⊎_elim (λ lt. tells_so Whole g (low r Whole g s) (λ x t on. λ b. absurd (omega (arith, lt, on, b))))
+      ⊎_elim (λ lt. tells_so Whole g (no_form_goes_back r Whole g s) (λ x t on. λ b. absurd (omega (arith, lt, on, b))))
       (λ ge. so (omega (arith, ge))) (cases_lt limit (g.offset + s.at))
 
   -- ---- the bodies after a newline

@@ -32,7 +32,7 @@ use Rattle.shgrammar.proofs.Ahead.{same_and, spelled_none, spelled_more, past_by
 use Rattle.shgrammar.proofs.PiecesInside.{From, word_from}
 use Rattle.shgrammar.proofs.WordsElsewhere.{everywhere}
 use Rattle.shgrammar.proofs.PlainBytes.{plain_stays, ordinary_by}
-use Rattle.shgrammar.proofs.OneOutcome.{is}
+use Rattle.shgrammar.proofs.OneOutcome.{computed_is_only}
 use Rattle.shgrammar.proofs.Anywhere.{WordOf, from_to, kept, padded, padded_is, same_word}
 use Rattle.shast.specs.Shape.{Shape, shape_of_word}
 use Rattle.shast.specs.Tree.{SubstsOf, word as shape_word}
@@ -139,7 +139,7 @@ module _ {edition : Edition} {T U : List ℕ} {a L : ℕ} {to : ℕ → ℕ} (K 
 
   word_goes : (p n : ℕ) → a ≤ p → p + n ≡ L → ReadsWord room (given edition T o) p n → Goes p
   word_goes p n low end (w, part) =
-      let is_read = (is (a_word (level room)) (given edition T o) (standing p)).only _ _ part in
+      let is_read = (computed_is_only (a_word (level room)) (given edition T o) (standing p)).only _ _ part in
       held (Begins p) (does (a_word (level room)) Whole (given edition T o) (standing p)) w (standing (p + n))
       (sym is_read) (word_begins p low) end
 

@@ -27,7 +27,7 @@ use Rattle.shgrammar.specs.Levels.{most_open, level}
 use Rattle.shgrammar.specs.Lines.{AKind, an_open_line, a_line, ALine, IsLine, blank_line, entries_line, end_line, faulty_line, line_read, line_stops, kind_of, EntrySpansWithin}
 use Rattle.shgrammar.specs.Scripts.{the_line}
 use Rattle.shast.specs.Everywhere.{IsSome, Throughout}
-use Rattle.shgrammar.proofs.OneOutcome.{is}
+use Rattle.shgrammar.proofs.OneOutcome.{computed_is_only}
 use Rattle.shgrammar.proofs.Holds.{Holds}
 use Rattle.shgrammar.proofs.UpToLimit.{UpTo, Stepped, adds, after, bare_token, ending, first, first_on, follows, gives, in_level, in_subst, picks, pushes, repeats, sees, stands, step_so, stops, unless}
 use Rattle.shgrammar.proofs.EachSpan.{AreIn, BranchIn, CaseIn, CommandIn, ElseIn, EntriesIn, EntryIn, ForWordsIn, FormIn, ItemIn, SubstIn, WordIn, all_within, all_within_more, bodies_in, branches_in, cases_in, commands_end_low, entries_in, have_items, items_in, spans_in, words_in}
@@ -359,5 +359,5 @@ pub line_everywhere : (edition : Edition) → (T : List ℕ) (l : ALine) → IsL
 line_everywhere edition T l (line_read es newline t k part) =
     kind_everywhere t.at es newline
     (line_throughout edition T 0 false newline es t
-    (sym ((is (the_line false) (given edition T 0) (standing 0)).only _ _ part)) t.at (omega arith))
+    (sym ((computed_is_only (the_line false) (given edition T 0) (standing 0)).only _ _ part)) t.at (omega arith))
 line_everywhere edition T l (line_stops f k part) = tt

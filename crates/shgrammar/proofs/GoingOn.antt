@@ -14,7 +14,7 @@ use Rattle.shgrammar.specs.HereDocuments.{Change, waits, bodies_here, changed, p
 use Rattle.shgrammar.specs.Form.{change, with_bytes, a_level, nothing_read, raw, Spelled, Telling, Read, ◌▸◌, Form, give, see, move, push, stop, both, when, token, loop, many, ends_as, Step, again, done, leads_on, turns, does, in_substitution}
 use Rattle.shgrammar.specs.Commands.{pick}
 use Rattle.shgrammar.proofs.Turns.{turns_on, turns_rest, turns_done, turns_fault}
-use Rattle.shgrammar.proofs.Holds.{Holds, Tells, Turned, tells_so, tells_then, tells_when, tells_token, tells_loop, tells_ending, tells_change, tells_with_bytes, tells_level, change_low, AtOrAfter, low, move_low, tells_inside}
+use Rattle.shgrammar.proofs.Holds.{Holds, Tells, Turned, tells_so, tells_then, tells_when, tells_token, tells_loop, tells_ending, tells_change, tells_with_bytes, tells_level, change_low, AtOrAfter, no_form_goes_back, move_low, tells_inside}
 use Rattle.shgrammar.proofs.Alike.{SameStep}
 use Rattle.shgrammar.proofs.Ahead.{ListEnds}
 use Rattle.shgrammar.proofs.Asked.{Good, high, moves, on, same_raw}
@@ -316,7 +316,9 @@ module _ {edition : Edition} {T U : List ℕ} {a M : ℕ} {to : ℕ → ℕ} {li
   pub go_place : {X Y : Type 0} {S : X → Y → Type 0} {how : Telling} {r : Form X} {q : Form Y} → Goes S r q →
       Goes (WithSpan S) (token how r) (token how q)
   go_place {S = S} {how = how} {r = r} {q = q} one =
-      record { go = λ s from. place_by S how q s from (does r Whole g s) (low r Whole g s).told (one.go s from) }
+      record {
+        go = λ s from. place_by S how q s from (does r Whole g s) (no_form_goes_back r Whole g s).told (one.go s from);
+      }
 
   -- what is read, with the same bytes
   abbrev pub WithBytes : {X Y : Type 0} → (X → Y → Type 0) → X × Spelled → Y × Spelled → Type 0
@@ -408,7 +410,7 @@ module _ {edition : Edition} {T U : List ℕ} {a M : ℕ} {to : ℕ → ℕ} {li
         Holds (Looped y s) (turns g one x s)
     all_turns zero x y s few from so = absurd (omega (arith, few))
     all_turns (suc n) x y s few from so =
-        turn_by x y s from (one x s) refl (good (turn x) s from).told (low (turn x) Whole g s).told
+        turn_by x y s from (one x s) refl (good (turn x) s from).told (no_form_goes_back (turn x) Whole g s).told
         ((each x y so).go s from) (λ b c t on less same. all_turns n b c t (omega (arith, less, few)) on same)
 
     pub go_many : (x : A) (y : C) → S x y → Goes S (many turn x) (many turn2 y)

@@ -262,25 +262,27 @@ change_low bodies_here g s t is =
 abbrev pub AtOrAfter : {X : Type 0} → State → X → State → Type 0
 AtOrAfter s x t = s.at ≤ t.at
 
-pub low : {X : Type 0} (r : Form X) (keep : Keep) (g : Given) (s : State) → Tells keep g r (AtOrAfter s) s
-low (give x) keep g s = record { told = omega arith }
-low (see f) keep g s = record { told = omega arith }
-low (move m) keep g s = record { told = move_low m g.text s.at }
-low (push xs x) keep g s = record { told = omega arith }
-low (stop kind at) keep g s = record { told = tt }
-low (both r q) keep g s = tells_then keep g (low r keep g s)
-    (λ a t on. tells_so keep g (low (q a) keep g t) (λ b u more. omega (arith, on, more)))
-low (when f r q) keep g s = tells_when keep g (low r keep g s) (low q keep g s)
-low (token how r) keep g s = tells_token keep g (low r keep g s) (λ a t on. on)
-low {X = X} (loop turn a) keep g s =
-    tells_loop keep g turn (AtOrAfter s) (λ b t on. tells_so keep g (low (turn b) keep g t) (turned t on)) a s
+pub no_form_goes_back : {X : Type 0} (r : Form X) (keep : Keep) (g : Given) (s : State) → Tells keep g r (AtOrAfter s) s
+no_form_goes_back (give x) keep g s = record { told = omega arith }
+no_form_goes_back (see f) keep g s = record { told = omega arith }
+no_form_goes_back (move m) keep g s = record { told = move_low m g.text s.at }
+no_form_goes_back (push xs x) keep g s = record { told = omega arith }
+no_form_goes_back (stop kind at) keep g s = record { told = tt }
+no_form_goes_back (both r q) keep g s = tells_then keep g (no_form_goes_back r keep g s)
+    (λ a t on. tells_so keep g (no_form_goes_back (q a) keep g t) (λ b u more. omega (arith, on, more)))
+no_form_goes_back (when f r q) keep g s =
+    tells_when keep g (no_form_goes_back r keep g s) (no_form_goes_back q keep g s)
+no_form_goes_back (token how r) keep g s = tells_token keep g (no_form_goes_back r keep g s) (λ a t on. on)
+no_form_goes_back {X = X} (loop turn a) keep g s =
+    tells_loop keep g turn (AtOrAfter s)
+    (λ b t on. tells_so keep g (no_form_goes_back (turn b) keep g t) (turned t on)) a s
     (omega arith)
   where
     turned : (t : State) → s.at ≤ t.at → (c : Step X) (u : State) → t.at ≤ u.at → Turned keep g (AtOrAfter s) c u
     turned t on (again c) u more = omega (arith, on, more)
     turned t on (done c) u more = omega (arith, on, more)
-low (ends_as kind at r) keep g s = tells_ending keep g (low r keep g s)
-low (change c) keep g s = tells_change keep g (λ t is. change_low c g s t is)
-low (with_bytes r) keep g s = tells_with_bytes keep g (low r keep g s) (λ a t on. on)
-low (a_level r) keep g s = tells_level keep g (low r keep g (own_level s)) (λ a t on. on)
-low (in_substitution r) keep g s = tells_inside keep g (low r (inside keep) g s)
+no_form_goes_back (ends_as kind at r) keep g s = tells_ending keep g (no_form_goes_back r keep g s)
+no_form_goes_back (change c) keep g s = tells_change keep g (λ t is. change_low c g s t is)
+no_form_goes_back (with_bytes r) keep g s = tells_with_bytes keep g (no_form_goes_back r keep g s) (λ a t on. on)
+no_form_goes_back (a_level r) keep g s = tells_level keep g (no_form_goes_back r keep g (own_level s)) (λ a t on. on)
+no_form_goes_back (in_substitution r) keep g s = tells_inside keep g (no_form_goes_back r (inside keep) g s)

@@ -20,12 +20,12 @@ use Rattle.shgrammar.proofs.Stretches.{place_low, past_more, past_none, stands_i
 use Rattle.shgrammar.proofs.Places.{after_low, next_of_low, next_escaped_low}
 use Rattle.shgrammar.proofs.Shifted.{state_from}
 use Rattle.shgrammar.proofs.Turns.{turns_on, turns_rest, turns_done, turns_fault}
-use Rattle.shgrammar.proofs.Holds.{Holds, AtOrAfter, low, holds_so}
+use Rattle.shgrammar.proofs.Holds.{Holds, AtOrAfter, no_form_goes_back, holds_so}
 use Rattle.shgrammar.proofs.Alike.{SameStep}
 use Rattle.shgrammar.proofs.SameBytes.{Kept, Here, here, here_after, here_stands, here_stands_in, raw_same, raw_there}
 use Rattle.shgrammar.proofs.Ahead.{past_byte_is}
 use Rattle.shgrammar.proofs.NoFurther.{less_same}
-use Rattle.shgrammar.proofs.OneOutcome.{is}
+use Rattle.shgrammar.proofs.OneOutcome.{computed_is_only}
 use Rattle.shgrammar.specs.declared.edition.Edition.{Edition}
 
 taken_one : (T : List ℕ) (q : ℕ) → raw_stands T q backslash ≡ false → past_taken T q ≡ q + 1
@@ -252,7 +252,7 @@ module _ {edition : Edition} {T U : List ℕ} {a L : ℕ} {to : ℕ → ℕ} (K 
       all_turns : (n : ℕ) (c : A) (s : State) → length T - s.at < n → a ≤ s.at → Holds (Looped c s) (turns g one c s)
       all_turns zero c s few from = absurd (omega arith)
       all_turns (suc n) c s few from =
-          by_turn c s from (one c s) refl (each c s from) (low (turn c) Whole g s).told
+          by_turn c s from (one c s) refl (each c s from) (no_form_goes_back (turn c) Whole g s).told
           (λ z t on less. all_turns n z t (omega (arith, less, few)) on)
 
       pub looped : (c : A) (s : State) → a ≤ s.at → Holds (Looped c s) (does (loop turn c) Whole g s)

@@ -23,7 +23,7 @@ use Rattle.shgrammar.specs.Lines.{line_end_by, end_of_line, an_open_line, a_line
 use Rattle.shgrammar.specs.Lists.{list_so, none_listed, entry_turn, a_remark, on_line}
 use Rattle.shgrammar.specs.Scripts.{AScript, SoFar, is_blank_line, with_line, the_line, line_from, script_by, script_below, script_on}
 use Rattle.shgrammar.proofs.Places.{after_low}
-use Rattle.shgrammar.proofs.Holds.{Holds, holds_then, holds_so, Tells, AtOrAfter, change_low, tells_give, tells_level, tells_then, tells_so, low}
+use Rattle.shgrammar.proofs.Holds.{Holds, holds_then, holds_so, Tells, AtOrAfter, change_low, tells_give, tells_level, tells_then, tells_so, no_form_goes_back}
 use Rattle.shgrammar.specs.declared.edition.Edition.{Edition}
 
 -- ---- a line that a newline ends
@@ -53,7 +53,8 @@ ended_by inner keep g s false true n = by_waiting (first_waiting s)
     by_waiting (Some b) = tt
 ended_by inner keep g s false false n =
     holds_then (λ w t. Unit {0}) (Ended s) (does (what_is_wrong inner n) keep g s) _
-    (holds_so (AtOrAfter s) (λ w t. Unit {0}) _ (low (what_is_wrong inner n) keep g s).told (λ c t on. tt))
+    (holds_so (AtOrAfter s) (λ w t. Unit {0}) _
+    (no_form_goes_back (what_is_wrong inner n) keep g s).told (λ c t on. tt))
     (λ w t so. tt)
 
 pub end_ended : (inner : Inner) (keep : Keep) (g : Given) (s : State) (n : Next) →
@@ -65,8 +66,9 @@ abbrev LineEnded : State → Row AnEntry × Bool → State → Type 0
 LineEnded s x t = x.1 ≡ true → s.at < t.at
 
 -- what is at t or past it is so of s, which is before t
-further : (keep : Keep) (g : Given) {X : Type 0} (r : Form X) (s t : State) → s.at ≤ t.at → Tells keep g r (AtOrAfter s) t
-further keep g r s t on = tells_so keep g (low r keep g t) (λ x u more. omega (arith, on, more))
+further : (keep : Keep) (g : Given) {X : Type 0} (r : Form X) (s t : State) → s.at ≤ t.at →
+    Tells keep g r (AtOrAfter s) t
+further keep g r s t on = tells_so keep g (no_form_goes_back r keep g t) (λ x u more. omega (arith, on, more))
 
 open_ended_low : (inner : Inner) (blank : Bool) (keep : Keep) (g : Given) (s : State) →
     Tells keep g (an_open_line inner blank) (LineEnded s) s

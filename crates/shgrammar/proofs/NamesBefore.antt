@@ -30,7 +30,7 @@ use Rattle.shgrammar.proofs.Ahead.{same_and, spelled_none, spelled_more, past_by
 use Rattle.shgrammar.proofs.PlainBytes.{plain_stays, ordinary_by, closer_at}
 use Rattle.shgrammar.proofs.WordsWithin.{word_ends}
 use Rattle.shgrammar.proofs.Elsewhere.{ReadAt, is_a_word, ItemByte, all_plain, all_spelled, item_byte, item_token}
-use Rattle.shgrammar.proofs.OneOutcome.{is}
+use Rattle.shgrammar.proofs.OneOutcome.{computed_is_only}
 use Rattle.shgrammar.proofs.Anywhere.{WordOf, from_to, kept, word_may}
 use Rattle.shgrammar.proofs.Spelling.{raw_at}
 use Rattle.shast.specs.Shape.{text_at}
@@ -147,7 +147,7 @@ module _ (room : ℕ) (g : Given) (p n : ℕ) (read : ReadsWord room g p n) (sti
   ended = word_ends room g p n read (omega (arith, below))
 
   end_is : past is_name T p ≡ p + n
-  end_is = sym (ap place_in ((is (a_word (level room)) g (standing p)).only _ _ read.1
+  end_is = sym (ap place_in ((computed_is_only (a_word (level room)) g (standing p)).only _ _ read.1
       ∙ name_is_word g.edition room T g.offset p (name_parts T p name).1))
 
   size : length w ≡ n

@@ -13,8 +13,8 @@ use Rattle.shgrammar.specs.Comments.{span}
 use Rattle.shgrammar.specs.Sights.{Given, given, State, Sight, here, the_byte, the_piece, the_rest, the_end, a_raw, last_backslash, the_token, the_comment, is_a_name, a_document_waits, seen, the_delimiter}
 use Rattle.shgrammar.specs.HereDocuments.{Change, changed, own_level}
 use Rattle.shgrammar.specs.Form.{change, with_bytes, a_level, Changed, changes, cannot, WithBytes, with_its_bytes, without_bytes, OwnLevel, level_read, level_stops, Spelled, Telling, untold, as_it_stands, bared, by, tell, Read, Form, give, see, move, push, stop, both, when, token, loop, ends_as, Step, again, done, Just, just, Halts, halted, Then, and_then, or_stops, holds, fails, raw, OneToken, whole, broken_off, leads_on, Turns, last, rests, more, halts, Ending, goes_through, stops_inside, moved_on, may, in_substitution}
-use Rattle.shgrammar.proofs.OneOutcome.{is}
-use Rattle.shgrammar.proofs.Holds.{Holds, AtOrAfter, low}
+use Rattle.shgrammar.proofs.OneOutcome.{computed_is_only}
+use Rattle.shgrammar.proofs.Holds.{Holds, AtOrAfter, no_form_goes_back}
 use Rattle.shgrammar.proofs.Ahead.{ListEnds, same_name, same_place, same_next}
 use Rattle.shgrammar.proofs.BodiesThere.{change_there}
 use Rattle.shgrammar.proofs.Asked.{Good, NoBracket, newline_near, high, on, moves, same_end_here, same_raw_stands, same_last_backslash, same_comment, same_piece, same_mode, same_raw}
@@ -23,9 +23,10 @@ use Rattle.shgrammar.specs.Tokens.{next_in}
 use Rattle.shgrammar.specs.Pieces.{piece_in}
 
 -- what may be read is not before where it begins
-pub read_at_or_after : {X : Type 0} (r : Form X) (g : Given) (s : State) (y : Read X) (k : Row Spelled) → may r g s y k →
-    Holds (AtOrAfter s) y
-read_at_or_after r g s y k part = subst (Holds (AtOrAfter s)) (sym ((is r g s).only y k part)) (low r Whole g s).told
+pub read_at_or_after : {X : Type 0} (r : Form X) (g : Given) (s : State) (y : Read X) (k : Row Spelled) →
+    may r g s y k → Holds (AtOrAfter s) y
+read_at_or_after r g s y k part =
+    subst (Holds (AtOrAfter s)) (sym ((computed_is_only r g s).only y k part)) (no_form_goes_back r Whole g s).told
 
 -- two that say the same of less
 pub less_same : (x y z w : ℕ) → (x < y → z < w) → (z < w → x < y) → ltb z w ≡ ltb x y
@@ -208,32 +209,33 @@ module _ {edition : Edition} {T U : List ℕ} {a M : ℕ} {to : ℕ → ℕ} (E 
         (w.0, more w.1 (same_leads s t from onward (high E r.0) ∙ on') r.1)
     loop_back b s y k (halts part) from good = absurd good
 
-  pub back : {X : Type 0} (r : Form X) (s : State) → a ≤ s.at → (y : Read X) (k : Row Spelled) → may r g s y k →
-      Back r s y k
-  back (give x) s from y k part = just_in (Back (give x) s) (λ good. (good, just)) y k part
-  back {X = X} (see l) s from y k part =
+  pub reads_the_same : {X : Type 0} (r : Form X) (s : State) → a ≤ s.at → (y : Read X) (k : Row Spelled) →
+      may r g s y k → Back r s y k
+  reads_the_same (give x) s from y k part = just_in (Back (give x) s) (λ good. (good, just)) y k part
+  reads_the_same {X = X} (see l) s from y k part =
       just_in (Back (see l) s) (λ good. (
         good,
         subst (λ (z : X). Just (seen l h (there s)) (there s) (Ok (z, there s)) [])
             (same_seen l s from good) just,
       )) y k part
-  back (move m) s from y k part =
+  reads_the_same (move m) s from y k part =
       just_in (Back (move m) s) (λ good. let w = moves E m s.at from good in (
         w.0,
         subst (λ (z : ℕ). Just tt (moved_on m h (there s))
             (Ok (tt, record { at = z; waiting = s.waiting; bodies = s.bodies })) []) w.1 just,
       )) y k part
-  back (push xs x) s from y k part = just_in (Back (push xs x) s) (λ good. (good, just)) y k part
-  back (stop kind at) s from y k part = halts_in (Back (stop kind at) s) _ (λ good. absurd good) y k part
-  back (both r q) s from y k part = both_back r q s (back r s from) (λ x t. back (q x) t) from y k part
-  back (when l r q) s from y k (holds e part) = λ good. let w = back r s from y k part good in
+  reads_the_same (push xs x) s from y k part = just_in (Back (push xs x) s) (λ good. (good, just)) y k part
+  reads_the_same (stop kind at) s from y k part = halts_in (Back (stop kind at) s) _ (λ good. absurd good) y k part
+  reads_the_same (both r q) s from y k part =
+      both_back r q s (reads_the_same r s from) (λ x t. reads_the_same (q x) t) from y k part
+  reads_the_same (when l r q) s from y k (holds e part) = λ good. let w = reads_the_same r s from y k part good in
       (w.0, holds (same_seen l s from w.0 ∙ e) w.1)
-  back (when l r q) s from y k (fails e part) = λ good. let w = back q s from y k part good in
+  reads_the_same (when l r q) s from y k (fails e part) = λ good. let w = reads_the_same q s from y k part good in
       (w.0, fails (same_seen l s from w.0 ∙ e) w.1)
-  back (token how r) s from y k part = token_back how r s (back r s from) from y k part
-  back (loop turn b) s from y k part = loop_back turn (λ c t. back (turn c) t) b s y k part from
-  back (ends_as kind at r) s from y k part = ending_back kind at r s (back r s from) y k part
-  back (change c) s from y k part = change_back c s from y k part
-  back (with_bytes r) s from y k part = bytes_back r s (back r s from) from y k part
-  back (a_level r) s from y k part = level_back r s (back r (own_level s) from) y k part
-  back (in_substitution r) s from y k part = back r s from y k part
+  reads_the_same (token how r) s from y k part = token_back how r s (reads_the_same r s from) from y k part
+  reads_the_same (loop turn b) s from y k part = loop_back turn (λ c t. reads_the_same (turn c) t) b s y k part from
+  reads_the_same (ends_as kind at r) s from y k part = ending_back kind at r s (reads_the_same r s from) y k part
+  reads_the_same (change c) s from y k part = change_back c s from y k part
+  reads_the_same (with_bytes r) s from y k part = bytes_back r s (reads_the_same r s from) from y k part
+  reads_the_same (a_level r) s from y k part = level_back r s (reads_the_same r (own_level s) from) y k part
+  reads_the_same (in_substitution r) s from y k part = reads_the_same r s from y k part

@@ -12,7 +12,7 @@ use Rattle.shgrammar.specs.Form.{Spelled, Read, Comes, Step, again, done, Form, 
 use Rattle.shgrammar.proofs.Turns.{turns_on, turns_rest, turns_done, turns_fault}
 
 -- x is what may be read, and nothing else
-pub record Is {X : Type 0} (r : Read X → Row Spelled → Type 0) (x : Read X) : Type 0 where
+pub record HasOneOutcome {X : Type 0} (r : Read X → Row Spelled → Type 0) (x : Read X) : Type 0 where
   pub some : (k : Row Spelled) × r x k
   pub only : (y : Read X) (k : Row Spelled) → r y k → y ≡ x
 
@@ -22,13 +22,13 @@ just_only x t y k just = refl
 halts_only : {X : Type 0} (f : Fault) (y : Read X) (k : Row Spelled) → Halts f y k → y ≡ Err f
 halts_only f y k halted = refl
 
-is_just : {X : Type 0} (x : X) (t : State) → Is (Just x t) (Ok (x, t))
+is_just : {X : Type 0} (x : X) (t : State) → HasOneOutcome (Just x t) (Ok (x, t))
 is_just x t = record { some = ([], just); only = just_only x t }
 
 -- ---- one form and then another
 
 module _ {X Y : Type 0} (r : Comes X) (q : X → Comes Y) (f : X → State → Read Y)
-    (rest : (x : X) (t : State) → Is (q x t) (f x t)) (s : State) where
+    (rest : (x : X) (t : State) → HasOneOutcome (q x t) (f x t)) (s : State) where
   then_some : (x : Read X) → (k : Row Spelled) → r s x k → (l : Row Spelled) × Then r q s (x ▸ f) l
   then_some (Ok (x, t)) k first = (k ++ (rest x t).some.0, and_then first (rest x t).some.1)
   then_some (Err e) k first = (k, or_stops first)
@@ -44,13 +44,14 @@ module _ {X Y : Type 0} (r : Comes X) (q : X → Comes Y) (f : X → State → R
       absurd cc
   then_only (Err d) one y l (or_stops {f = e} {k = k} first) = let is = one (Err e) k first in cc
 
-  is_then : (x : Read X) → Is (r s) x → Is (Then r q s) (x ▸ f)
+  is_then : (x : Read X) → HasOneOutcome (r s) x → HasOneOutcome (Then r q s) (x ▸ f)
   is_then x first = record { some = then_some x first.some.0 first.some.1; only = then_only x first.only }
 
 -- ---- one form or another
 
-module _ {X : Type 0} (r q : Comes X) (s : State) (x y : Read X) (one : Is (r s) x) (two : Is (q s) y) where
-  is_either : (test : Bool) → Is (Either test r q s) (cond test x y)
+module _ {X : Type 0} (r q : Comes X) (s : State) (x y : Read X) (one : HasOneOutcome (r s) x)
+    (two : HasOneOutcome (q s) y) where
+  is_either : (test : Bool) → HasOneOutcome (Either test r q s) (cond test x y)
   is_either true = record {
     some = (one.some.0, holds refl one.some.1);
     only = λ z k. elim [ holds e part ↦ one.only z k part | fails e part ↦ absurd cc ];
@@ -75,13 +76,13 @@ module _ {X : Type 0} (how : Telling) (g : Given) (r : Comes X) (s : State) wher
   token_only x one y l (whole {x = b} {t = u} {k = k} part) = rw (← one (Ok (b, u)) k part) refl
   token_only x one y l (broken_off {f = e} {k = k} part) = rw (← one (Err e) k part) refl
 
-  is_token : (x : Read X) → Is (r s) x → Is (OneToken how g r s) (spanned x)
+  is_token : (x : Read X) → HasOneOutcome (r s) x → HasOneOutcome (OneToken how g r s) (spanned x)
   is_token x one = record { some = token_some x one.some.0 one.some.1; only = token_only x one.only }
 
 -- ---- turns
 
 module _ {A : Type 0} (g : Given) (turn : A → Comes (Step A)) (f : A → State → Read (Step A))
-    (each : (a : A) (s : State) → Is (turn a s) (f a s)) where
+    (each : (a : A) (s : State) → HasOneOutcome (turn a s) (f a s)) where
   -- by the outcome of one turn
   turn_some : (a : A) (s : State) (x : Read (Step A)) → f a s ≡ x → (k : Row Spelled) → turn a s x k
       → ((b : A) (t : State) → length g.text - t.at < length g.text - s.at → (l : Row Spelled)
@@ -111,7 +112,7 @@ module _ {A : Type 0} (g : Given) (turn : A → Comes (Step A)) (f : A → State
       ∙ sym (turns_on g f a b s t (sym ((each a s).only _ _ part)) on)
   turns_only a s y k (halts {f = e} part) = sym (turns_fault g f a s e (sym ((each a s).only _ _ part)))
 
-  is_many : (a : A) (s : State) → Is (Turns g turn a s) (turns g f a s)
+  is_many : (a : A) (s : State) → HasOneOutcome (Turns g turn a s) (turns g f a s)
   is_many a s = record { some = turns_some (suc (length g.text - s.at)) a s (omega arith); only = turns_only a s }
 
 -- ---- the fault at the end
@@ -126,7 +127,7 @@ module _ {X : Type 0} (kind : FaultKind) (at : ℕ) (r : Comes X) (s : State) wh
   ending_only x one y l (goes_through {x = b} {t = u} part) = ap (with_end kind at) (one (Ok (b, u)) l part)
   ending_only x one y l (stops_inside {f = f} part) = ap (with_end kind at) (one (Err f) l part)
 
-  is_ending : (x : Read X) → Is (r s) x → Is (Ending kind at r s) (with_end kind at x)
+  is_ending : (x : Read X) → HasOneOutcome (r s) x → HasOneOutcome (Ending kind at r s) (with_end kind at x)
   is_ending x one = record { some = (one.some.0, ending_some x one.some.0 one.some.1); only = ending_only x one.only }
 
 -- ---- what waits, bytes, and levels
@@ -139,7 +140,7 @@ changed_only : (x : Result State Fault) (y : Read (Unit {0})) (k : Row Spelled) 
 changed_only x y k (changes part) = rw part refl
 changed_only x y k (cannot part) = rw part refl
 
-is_changed : (x : Result State Fault) → Is (Changed x) (nothing_read x)
+is_changed : (x : Result State Fault) → HasOneOutcome (Changed x) (nothing_read x)
 is_changed x = record { some = ([], changed_some x); only = changed_only x }
 
 module _ {X : Type 0} (g : Given) (r : Comes X) (s : State) where
@@ -155,7 +156,7 @@ module _ {X : Type 0} (g : Given) (r : Comes X) (s : State) where
   bytes_only x one y l (with_its_bytes {x = b} {t = u} {k = k} part) = rw (← one (Ok (b, u)) k part) refl
   bytes_only x one y l (without_bytes {f = e} {k = k} part) = rw (← one (Err e) k part) refl
 
-  is_with_bytes : (x : Read X) → Is (r s) x → Is (WithBytes g r s) (with_raw x)
+  is_with_bytes : (x : Read X) → HasOneOutcome (r s) x → HasOneOutcome (WithBytes g r s) (with_raw x)
   is_with_bytes x one = record { some = (one.some.0, bytes_some x one.some.0 one.some.1); only = bytes_only x one.only }
 
 module _ {X : Type 0} (r : Comes X) (s : State) where
@@ -171,25 +172,30 @@ module _ {X : Type 0} (r : Comes X) (s : State) where
   level_only x one y l (level_read {x = b} {t = u} {k = k} part) = rw (← one (Ok (b, u)) k part) refl
   level_only x one y l (level_stops {f = e} {k = k} part) = rw (← one (Err e) k part) refl
 
-  is_own_level : (x : Read X) → Is (r (own_level s)) x → Is (OwnLevel r s) (with_bodies_of x)
+  is_own_level : (x : Read X) → HasOneOutcome (r (own_level s)) x → HasOneOutcome (OwnLevel r s) (with_bodies_of x)
   is_own_level x one = record { some = (one.some.0, level_some x one.some.0 one.some.1); only = level_only x one.only }
 
 -- ---- every form
 
-pub is : {X : Type 0} (r : Form X) (g : Given) (s : State) → Is (may r g s) (does r Whole g s)
-is (give x) g s = is_just x s
-is (see f) g s = is_just (seen f g s) s
-is (move m) g s = is_just tt (moved_on m g s)
-is (push xs x) g s = is_just (xs ++ x ∷ []) s
-is (stop kind at) g s = record { some = ([], halted); only = halts_only (record { kind = kind; at = at }) }
-is (both r q) g s = is_then (may r g) (λ x. may (q x) g) (λ x t. does (q x) Whole g t) (λ x t. is (q x) g t) s
-    (does r Whole g s) (is r g s)
-is (when f r q) g s = is_either (may r g) (may q g) s (does r Whole g s) (does q Whole g s) (is r g s) (is q g s)
-    (seen f g s)
-is (token how r) g s = is_token how g (may r g) s (does r Whole g s) (is r g s)
-is (loop turn a) g s = is_many g (λ b. may (turn b) g) (λ b t. does (turn b) Whole g t) (λ b t. is (turn b) g t) a s
-is (ends_as kind at r) g s = is_ending kind at (may r g) s (does r Whole g s) (is r g s)
-is (change c) g s = is_changed (changed c g s)
-is (with_bytes r) g s = is_with_bytes g (may r g) s (does r Whole g s) (is r g s)
-is (a_level r) g s = is_own_level (may r g) s (does r Whole g (own_level s)) (is r g (own_level s))
-is (in_substitution r) g s = is r g s
+pub computed_is_only : {X : Type 0} (r : Form X) (g : Given) (s : State) → HasOneOutcome (may r g s) (does r Whole g s)
+computed_is_only (give x) g s = is_just x s
+computed_is_only (see f) g s = is_just (seen f g s) s
+computed_is_only (move m) g s = is_just tt (moved_on m g s)
+computed_is_only (push xs x) g s = is_just (xs ++ x ∷ []) s
+computed_is_only (stop kind at) g s =
+    record { some = ([], halted); only = halts_only (record { kind = kind; at = at }) }
+computed_is_only (both r q) g s =
+    is_then (may r g) (λ x. may (q x) g) (λ x t. does (q x) Whole g t) (λ x t. computed_is_only (q x) g t) s
+    (does r Whole g s) (computed_is_only r g s)
+computed_is_only (when f r q) g s =
+    is_either (may r g) (may q g) s (does r Whole g s) (does q Whole g s) (computed_is_only r g s)
+    (computed_is_only q g s) (seen f g s)
+computed_is_only (token how r) g s = is_token how g (may r g) s (does r Whole g s) (computed_is_only r g s)
+computed_is_only (loop turn a) g s =
+    is_many g (λ b. may (turn b) g) (λ b t. does (turn b) Whole g t) (λ b t. computed_is_only (turn b) g t) a s
+computed_is_only (ends_as kind at r) g s = is_ending kind at (may r g) s (does r Whole g s) (computed_is_only r g s)
+computed_is_only (change c) g s = is_changed (changed c g s)
+computed_is_only (with_bytes r) g s = is_with_bytes g (may r g) s (does r Whole g s) (computed_is_only r g s)
+computed_is_only (a_level r) g s =
+    is_own_level (may r g) s (does r Whole g (own_level s)) (computed_is_only r g (own_level s))
+computed_is_only (in_substitution r) g s = computed_is_only r g s

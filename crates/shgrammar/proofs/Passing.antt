@@ -18,7 +18,7 @@ use Rattle.shgrammar.proofs.AlikeLists.{alike_level, alike_line}
 use Rattle.shgrammar.proofs.Answered.{fault_alone, fault_answered}
 use Rattle.shgrammar.proofs.FirstFault.{beyond_kept}
 use Rattle.shgrammar.proofs.MovedLine.{line_moved, line_outer}
-use Rattle.shgrammar.proofs.OneOutcome.{is as is_form}
+use Rattle.shgrammar.proofs.OneOutcome.{computed_is_only}
 use Rattle.shgrammar.proofs.SameLine.{line_again, newline_at, same_front, same_texts}
 use Rattle.shgrammar.proofs.Stretches.{get_drop}
 use Rattle.shgrammar.proofs.TokensShown.{shown_level}
@@ -41,14 +41,15 @@ pub line_there : (edition : Edition) → (T U : List ℕ) (n : ℕ) (es : Row An
     does (the_line false) Whole (given edition U 0) (standing 0) ≡ Ok ((es, true), t)
 line_there edition T U n es t ends newline same read =
     let inner = level most_open in
-    let one = (is_form (a_line inner false) (given edition T 0) (standing 0)).some in
+    let one = (computed_is_only (a_line inner false) (given edition T 0) (standing 0)).some in
     let part : may (a_line inner false) (given edition T 0) (standing 0) (Ok ((es, true), t)) one.0 =
     subst (λ (y : Read (Row AnEntry × Bool)). may (a_line inner false) (given edition T 0) (standing 0) y one.0)
     read one.1 in
     let E = same_texts edition T U n same newline in
     let again = line_again E 0 0 (λ p from. refl) inner (shown_level (given edition T 0) most_open) false (standing 0)
     (omega arith) (Ok ((es, true), t)) one.0 part (refl, ends) in
-    sym ((is_form (a_line inner false) (given edition U 0) (standing 0)).only (Ok ((es, true), t)) again.1.0 again.1.1)
+    sym ((computed_is_only (a_line inner false) (given edition U 0) (standing 0)).only
+    (Ok ((es, true), t)) again.1.0 again.1.1)
 
 -- bytes that are the same after the first p of them
 same_after : (p n : ℕ) (B D : List ℕ) → take (p + n) D ≡ take (p + n) B → (r : ℕ) → r < n →

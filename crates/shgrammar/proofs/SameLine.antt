@@ -21,7 +21,7 @@ use Rattle.shgrammar.specs.Tokens.{is_end}
 use Rattle.shgrammar.specs.Commands.{is_newline_token, next_token, none_waits, nothing_waits, what_is_wrong}
 use Rattle.shgrammar.specs.Lines.{line_end_by, end_of_line, an_open_line, a_line, ALine, IsLine, SameBytes, NoFurther, line_read, line_stops, kind_of}
 use Rattle.shgrammar.specs.Lists.{ListSo, list_so, none_listed, on_line}
-use Rattle.shgrammar.proofs.OneOutcome.{is as is_form}
+use Rattle.shgrammar.proofs.OneOutcome.{computed_is_only}
 use Rattle.shgrammar.proofs.Holds.{Holds, Tells, change_low}
 use Rattle.shgrammar.proofs.Lined.{line_ended_low}
 use Rattle.shgrammar.proofs.SameBytes.{at_limit, byte_other, goes_on, halts, no_backslash}
@@ -29,7 +29,7 @@ use Rattle.shgrammar.proofs.Ahead.{ListEnds, newline_ends, same_after}
 use Rattle.shgrammar.proofs.BodiesThere.{read_to_limit}
 use Rattle.shgrammar.proofs.TokensShown.{Begins, Fine, newline_here, shown_level, shown_next, shown_on_line}
 use Rattle.shgrammar.proofs.Asked.{Good}
-use Rattle.shgrammar.proofs.NoFurther.{back, read_at_or_after as onward, there, elsewhere}
+use Rattle.shgrammar.proofs.NoFurther.{reads_the_same, read_at_or_after as onward, there, elsewhere}
 use Rattle.shgrammar.specs.declared.edition.Edition.{Edition}
 
 module _ {edition : Edition} {T U : List ℕ} {a M : ℕ} {to : ℕ → ℕ} (E : ListEnds edition T U a M to 10) (o o2 : ℕ)
@@ -57,7 +57,7 @@ module _ {edition : Edition} {T U : List ℕ} {a M : ℕ} {to : ℕ → ℕ} (E 
       Again (both r q) s y
   both_again r q s from rest y k (and_then {x = x} {t = t} {k = k1} {l = l} one two) closed =
       let b = rest x t (omega (arith, from, onward r g s (Ok (x, t)) k1 one)) (k1, one) y l two closed in
-      let c = back E o o2 off r s from (Ok (x, t)) k1 one b.0 in
+      let c = reads_the_same E o o2 off r s from (Ok (x, t)) k1 one b.0 in
       (c.0, (k1 ++ b.1.0, and_then c.1 b.1.1))
   both_again r q s from rest y k (or_stops one) closed = absurd closed
 
@@ -107,7 +107,7 @@ module _ {edition : Edition} {T U : List ℕ} {a M : ℕ} {to : ℕ → ℕ} (E 
       newline_good s from newline still (omega (arith, at_newline, onward, behind_is s.at, still)) in
       let there_is : changed bodies_here h (there E o o2 off (past s)) ≡ Ok (there E o o2 off t) =
       read_to_limit E o o2 off (past s) t low at_newline refl is in
-      let one = (is_form (ending inner es true end n) h (there E o o2 off s)).some in
+      let one = (computed_is_only (ending inner es true end n) h (there E o o2 off s)).some in
       let read : does (ending inner es true end n) Whole h (there E o o2 off s) ≡ Ok ((es, true), there E o o2 off t) =
       ap (λ (p : ℕ). line_true es (changed bodies_here h (record { at = p; waiting = s.waiting; bodies = s.bodies })))
       (same_after E good) ∙ ap (line_true es) there_is in (
@@ -155,7 +155,7 @@ module _ {edition : Edition} {T U : List ℕ} {a M : ℕ} {to : ℕ → ℕ} (E 
   unfolding end_of_line
   ending_again inner l s from begins y k part =
       ending_by inner l.list.entries (is_newline_token l.next.token) (is_end l.next.token) l.next s from
-      (λ e. newline_here g l.next s begins e) y ((is_form (at_end inner l) g s).only y k part)
+      (λ e. newline_here g l.next s begins e) y ((computed_is_only (at_end inner l) g s).only y k part)
 
   abbrev at_entries : Inner → Bool → Next → Form (Row AnEntry × Bool)
   at_entries inner blank n = both (on_line inner (list_so (none_listed blank) n)) (at_end inner)
@@ -163,7 +163,7 @@ module _ {edition : Edition} {T U : List ℕ} {a M : ℕ} {to : ℕ → ℕ} (E 
   -- what a form gives of which this holds
   held : {X : Type 0} {P : X → State → Type 0} (r : Form X) (s : State) (x : X) (t : State) (k : Row Spelled) →
       Tells Whole g r P s → may r g s (Ok (x, t)) k → P x t
-  held {P = P} r s x t k told part = subst (Holds P) (sym ((is_form r g s).only (Ok (x, t)) k part)) told.told
+  held {P = P} r s x t k told part = subst (Holds P) (sym ((computed_is_only r g s).only (Ok (x, t)) k part)) told.told
 
   open_again : (inner : Inner) → Fine g inner → (blank : Bool) (s : State) → a ≤ s.at →
       (y : Read (Row AnEntry × Bool)) (k : Row Spelled) → may (an_open_line inner blank) g s y k →
@@ -230,7 +230,7 @@ ended_alone edition T U l (line_read es newline t k part) ended same =
     let M = t.at - 1 in
     let inner = level most_open in
     let some : 0 < t.at = subst (Holds (λ (x : Row AnEntry × Bool) (u : State). x.1 ≡ true → 0 < u.at))
-    (sym ((is_form (a_line inner false) (given edition T 0) (standing 0)).only _ _ part))
+    (sym ((computed_is_only (a_line inner false) (given edition T 0) (standing 0)).only _ _ part))
     (line_ended_low inner false Whole (given edition T 0) (standing 0)).told both.0 in
     let E = same_texts edition T U M (λ r lt. same r (omega (arith, lt, some))) (newline_at T M both.1) in
     let again = line_again E 0 0 (λ p from. refl) inner (shown_level (given edition T 0) most_open) false (standing 0)

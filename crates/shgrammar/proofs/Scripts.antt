@@ -6,7 +6,7 @@ use Rattle.shgrammar.specs.Sights.{given, standing}
 use Rattle.shgrammar.specs.Form.{Read, Spelled, may}
 use Rattle.shgrammar.specs.Lines.{ALine, IsLine, line_read, line_stops}
 use Rattle.shgrammar.specs.Scripts.{AScript, SoFar, is_blank_line, with_line, the_line, Lines, line_ended, last_line, faulty, nothing_yet, Outcome, line_from, script_by, script_below, script_on, script_at, as_line, line_of_text}
-use Rattle.shgrammar.proofs.OneOutcome.{Is, is}
+use Rattle.shgrammar.proofs.OneOutcome.{HasOneOutcome, computed_is_only}
 use Rattle.shgrammar.proofs.Lined.{leaves_less, line_more, line_last, line_faulty}
 use Rattle.shgrammar.specs.declared.edition.Edition.{Edition}
 
@@ -20,25 +20,25 @@ line_by edition T (Err f) k part = line_stops f k part
 -- the line that is computed is one
 pub line_is : (edition : Edition) → (T : List ℕ) → IsLine edition T (line_of_text edition T)
 unfolding line_of_text
-line_is edition T = let one = (is (the_line false) (given edition T 0) (standing 0)).some in
+line_is edition T = let one = (computed_is_only (the_line false) (given edition T 0) (standing 0)).some in
     line_by edition T _ one.0 one.1
 
 -- and there is no other
 pub line_only : (edition : Edition) → (T : List ℕ) (l : ALine) → IsLine edition T l → l ≡ line_of_text edition T
 unfolding line_of_text
 line_only edition T l (line_read es newline t k part) =
-    ap (as_line T) ((is (the_line false) (given edition T 0) (standing 0)).only _ _ part)
+    ap (as_line T) ((computed_is_only (the_line false) (given edition T 0) (standing 0)).only _ _ part)
 line_only edition T l (line_stops f k part) =
-    ap (as_line T) ((is (the_line false) (given edition T 0) (standing 0)).only _ _ part)
+    ap (as_line T) ((computed_is_only (the_line false) (given edition T 0) (standing 0)).only _ _ part)
 
 -- ---- a script
 
 module _ (edition : Edition) (B : List ℕ) where
   -- the line at p has one outcome
   line_at : (so : SoFar) (p : ℕ) →
-      Is (may (the_line (is_blank_line so)) (given edition (drop p B) p) (standing 0))
+      HasOneOutcome (may (the_line (is_blank_line so)) (given edition (drop p B) p) (standing 0))
       (line_from edition B Whole (is_blank_line so) p)
-  line_at so p = is (the_line (is_blank_line so)) (given edition (drop p B) p) (standing 0)
+  line_at so p = computed_is_only (the_line (is_blank_line so)) (given edition (drop p B) p) (standing 0)
 
   -- by the outcome of one line
   lines_by : (rest : SoFar → ℕ → AScript) (so : SoFar) (p : ℕ) (x : Read (Row AnEntry × Bool)) (k : Row Spelled) →

@@ -14,7 +14,7 @@ use Rattle.shgrammar.specs.HereDocuments.{own_level}
 use Rattle.shgrammar.specs.Form.{Form, Read, Telling, a_level, both, does, ends_as, give, many, move, moved_on, push, see, stop, token, with_bytes, Step, again, done, step_if, in_substitution}
 use Rattle.shgrammar.specs.Commands.{pick}
 use Rattle.shgrammar.proofs.Places.{next_newline_low}
-use Rattle.shgrammar.proofs.Holds.{Holds, Tells, Turned, low, tells_ending, tells_level, tells_so, tells_then, tells_token, tells_until, tells_with_bytes, tells_inside}
+use Rattle.shgrammar.proofs.Holds.{Holds, Tells, Turned, no_form_goes_back, tells_ending, tells_level, tells_so, tells_then, tells_token, tells_until, tells_with_bytes, tells_inside}
 use Rattle.shgrammar.proofs.Within.{before_blanks_low}
 use Rattle.shgrammar.proofs.BodiesHeld.{HoldsWithin, held, unless_above}
 
@@ -90,7 +90,7 @@ module _ {g : Given} {limit : ℕ} where
         told = tells_then Whole g {P = λ a t. (g.offset + t.at ≤ limit → P a) × (s.at ≤ t.at)}
             (record {
               told = holds_and (λ a t. g.offset + t.at ≤ limit → P a) (λ a t. s.at ≤ t.at)
-                  (does r Whole g s) one.told.told (low r Whole g s).told;
+                  (does r Whole g s) one.told.told (no_form_goes_back r Whole g s).told;
             })
             (λ x t so. (unless (λ b. rest x t so.1 (so.0 b))).told);
       }
@@ -104,7 +104,7 @@ module _ {g : Given} {limit : ℕ} where
       ((x : X) (t : State) → UpTo g limit (q x) Q t) → UpTo g limit (both r q) Q s
   after {r = r} {s = s} rest = record {
     told =
-        tells_then Whole g {r = r} {s = s} (low r Whole g s) (λ x t on. (rest x t).told);
+        tells_then Whole g {r = r} {s = s} (no_form_goes_back r Whole g s) (λ x t on. (rest x t).told);
   }
 
   -- what is seen, or on to another place, and then the rest
@@ -138,7 +138,7 @@ module _ {g : Given} {limit : ℕ} where
             {Q = λ x t. g.offset + t.at ≤ limit → P x.0 × IsSpanWithin limit x.1}
             (record {
               told = holds_and (λ a t. g.offset + t.at ≤ limit → P a) (λ a t. s.at ≤ t.at)
-                  (does r Whole g s) one.told.told (low r Whole g s).told;
+                  (does r Whole g s) one.told.told (no_form_goes_back r Whole g s).told;
             })
             (λ a t so. λ b. (so.0 b, (omega (arith, so.1, b), b)));
       }
@@ -147,7 +147,8 @@ module _ {g : Given} {limit : ℕ} where
   pub bare_token : {X : Type 0} {how : Telling} {r : Form X} {s : State} →
       UpTo g limit (token how r) (λ x. IsSpanWithin limit x.1) s
   bare_token {r = r} {s = s} = follows
-      (tokens {P = λ x. Unit {0}} (record { told = tells_so Whole g (low r Whole g s) (λ x t on. λ b. tt) }))
+      (tokens {P = λ x. Unit {0}}
+      (record { told = tells_so Whole g (no_form_goes_back r Whole g s) (λ x t on. λ b. tt) }))
       (λ x so. so.1)
 
   -- a repetition: P holds before the first turn, and Q, from which P follows, after each

@@ -40,10 +40,10 @@ use Rattle.shgrammar.specs.Substitutions.{substitution_list, a_substitution, one
 use Rattle.shgrammar.specs.Levels.{most_open, level}
 use Rattle.shgrammar.specs.Lines.{an_open_line, a_line, ALine, IsLine, line_read, line_stops, kind_of, EntryNodesWithin}
 use Rattle.shgrammar.specs.Scripts.{SoFar, the_line, with_line}
-use Rattle.shgrammar.proofs.OneOutcome.{is}
+use Rattle.shgrammar.proofs.OneOutcome.{computed_is_only}
 use Rattle.shgrammar.proofs.Ahead.{past_byte_is}
 use Rattle.shgrammar.proofs.Places.{after_low, next_newline_low}
-use Rattle.shgrammar.proofs.Holds.{Holds, Tells, Turned, tells_with_bytes, tells_level, tells_give, tells_then, tells_token, tells_many, tells_so, tells_ending, tells_seen, tells_moved, low, tells_inside}
+use Rattle.shgrammar.proofs.Holds.{Holds, Tells, Turned, tells_with_bytes, tells_level, tells_give, tells_then, tells_token, tells_many, tells_so, tells_ending, tells_seen, tells_moved, no_form_goes_back, tells_inside}
 use Rattle.shgrammar.specs.declared.keep.Keep.TheVariants.{Whole}
 use Rattle.shgrammar.specs.declared.edition.Edition.{Edition}
 
@@ -91,7 +91,7 @@ module _ (keep : Keep) (g : Given) (limit : ℕ) where
   -- of what begins above the limit nothing is said, since no form goes back
   unless : {X : Type 0} {P : X → Type 0} {r : Form X} {s : State} → (Before s → R r P s) → R r P s
   unless {r = r} {s = s} so =
-      ⊎_elim (λ lt. tells_so keep g (low r keep g s) (λ x t on. λ b. absurd (omega (arith, lt, on, b))))
+      ⊎_elim (λ lt. tells_so keep g (no_form_goes_back r keep g s) (λ x t on. λ b. absurd (omega (arith, lt, on, b))))
       (λ ge. so (omega (arith, ge))) (cases_lt limit (g.offset + s.at))
 
   -- what is given, if P holds of it
@@ -106,7 +106,7 @@ module _ (keep : Keep) (g : Given) (limit : ℕ) where
   -- what a form gives may be anything
   after : {X Y : Type 0} {Q : Y → Type 0} {r : Form X} {q : X → Form Y} {s : State} →
       ((x : X) (t : State) → R (q x) Q t) → R (both r q) Q s
-  after {r = r} {s = s} rest = tells_then keep g {r = r} {s = s} (low r keep g s) (λ x t on. rest x t)
+  after {r = r} {s = s} rest = tells_then keep g {r = r} {s = s} (no_form_goes_back r keep g s) (λ x t on. rest x t)
 
   -- P holds of a row with one more element, and of the row as it was, where none is kept
   pushed_all : {A : Type 0} (P : A → Type 0) (grow : Bool) (xs : Row A) (x : A) → All P xs → P x →
@@ -126,7 +126,7 @@ module _ (keep : Keep) (g : Given) (limit : ℕ) where
       {Q = λ x t. Before t → P x.0 × IsSpanWithin limit x.1}
       (record {
         told = holds_and (λ a t. Before t → P a) (λ a t. s.at ≤ t.at) (does r keep g s) one.told
-            (low r keep g s).told;
+            (no_form_goes_back r keep g s).told;
       })
       (λ a t so. λ b. (so.0 b, (omega (arith, so.1, b), b)))
 
@@ -268,7 +268,8 @@ module _ (keep : Keep) (g : Given) (limit : ℕ) where
     unfolding a_number
     number_fits n s =
         picks (is_number_token n.token)
-        (first (tokens {P = λ x. Unit {0}} (tells_so keep g (low (move the_digits) keep g s) (λ x t on. λ b. tt)))
+        (first (tokens {P = λ x. Unit {0}}
+        (tells_so keep g (no_form_goes_back (move the_digits) keep g s) (λ x t on. λ b. tt)))
         (λ x t one. after (λ m u. gives one.1))) (gives tt)
 
     operator_fits : (o : RedirectOperator) (s : State) → R (an_operator o) (λ x. Unit {0} × IsSpanWithin limit x.1) s
@@ -276,7 +277,7 @@ module _ (keep : Keep) (g : Given) (limit : ℕ) where
     operator_fits o s =
         tokens {P = λ x. Unit {0}} (after
         (λ x t. after (λ y u. picks (is_strip o)
-        (tells_so keep g (low (move one_byte) keep g u) (λ z v on. λ b. tt)) (gives tt))))
+        (tells_so keep g (no_form_goes_back (move one_byte) keep g u) (λ z v on. λ b. tt)) (gives tt))))
 
     operator_fits_by : (p : ℕ) (o : Option RedirectOperator) (s : State) →
         R (operator_by p o) (λ x. IsSpanWithin limit x.1) s
@@ -791,7 +792,8 @@ module _ (keep : Keep) (g : Given) (limit : ℕ) where
         tells_then keep g {P = λ es t. (Before t → NodesWithin limit es.0) × (s.at ≤ t.at)}
         (record {
           told = holds_and (λ es t. Before t → NodesWithin limit es.0) (λ es t. s.at ≤ t.at) (does body keep g s)
-              (in_level (tells_ending keep g (substitution_list_fits (own_level s)))).told (low body keep g s).told;
+              (in_level (tells_ending keep g (substitution_list_fits (own_level s)))).told
+              (no_form_goes_back body keep g s).told;
         })
         (λ es t one. tells_seen keep g
         (record {
@@ -863,7 +865,7 @@ pub entries_within : (edition : Edition) → (T : List ℕ) (l : ALine) → IsLi
     EntryNodesWithin l.next l.kind
 entries_within edition T l (line_read es newline t k part) =
     kind_within t.at es newline (line_within edition T 0 Whole false newline es t
-    (sym ((is (the_line false) (given edition T 0) (standing 0)).only _ _ part)) t.at (omega arith))
+    (sym ((computed_is_only (the_line false) (given edition T 0) (standing 0)).only _ _ part)) t.at (omega arith))
 entries_within edition T l (line_stops f k part) = tt
 
 -- ---- scripts

@@ -26,7 +26,7 @@ use Rattle.shgrammar.specs.Lists.{ListSo, list_so, none_listed, list_turn}
 use Rattle.shgrammar.specs.Compounds.{is_closing}
 use Rattle.shgrammar.specs.Substitutions.{substitution_list, a_substitution, one_substitution}
 use Rattle.shgrammar.specs.Levels.{level}
-use Rattle.shgrammar.proofs.Holds.{Holds, AtOrAfter, low}
+use Rattle.shgrammar.proofs.Holds.{Holds, AtOrAfter, no_form_goes_back}
 use Rattle.shgrammar.proofs.SameBytes.{Kept, Here, at_limit}
 use Rattle.shgrammar.proofs.Ahead.{ListEnds, bracket_ends, past_byte_is, same_after, same_byte, seen}
 use Rattle.shgrammar.proofs.Asked.{Good, high}
@@ -129,7 +129,8 @@ module _ (room : ℕ) (all : Everywhere (level room)) where
     word_go s from =
         let body = contents inner Plain (o + s.at) [] in
         subst (Holds (FoundWord s)) (joined (does body Whole (given edition T o) s))
-        (word_by s from (does body Whole (given edition T o) s) refl (low body Whole (given edition T o) s).told
+        (word_by s from (does body Whole (given edition T o) s) refl
+        (no_form_goes_back body Whole (given edition T o) s).told
         (λ le. contents_end (given edition T o) inner (stays_in (given edition T o) room) Plain (o + s.at) [] s le))
       where
         joined : (x : Read (Row ASubst))
@@ -369,8 +370,8 @@ module _ (room : ℕ) (all : Everywhere (level room)) where
       substitution_there =
           by_lines (does (all_lines the_next) Whole g start) refl
           (shown_lines g inner (shown_level g room) the_next start (shown_next g Command s).told).told
-          (low (all_lines the_next) Whole g start).told
-          (low (next_token Command) Whole g s).told
+          (no_form_goes_back (all_lines the_next) Whole g start).told
+          (no_form_goes_back (next_token Command) Whole g s).told
 
 -- by how many more may be opened
 pub everywhere : (room : ℕ) → Everywhere (level room)

@@ -16,7 +16,7 @@ use Rattle.shgrammar.specs.Form.{Form, give, see, move, push, stop, both, when, 
 use Rattle.shgrammar.specs.Words.{WordSoFar, having, opened, piece_row, a_piece, single, escaped_turn, backquoted_text, Inner, contents, a_word, dollar_single}
 use Rattle.shgrammar.specs.Substitutions.{a_substitution, one_substitution}
 use Rattle.shgrammar.specs.Levels.{level}
-use Rattle.shgrammar.proofs.OneOutcome.{is}
+use Rattle.shgrammar.proofs.OneOutcome.{computed_is_only}
 use Rattle.shgrammar.proofs.Anywhere.{word_told}
 
 -- a place, where that waits which waits at t
@@ -225,10 +225,10 @@ pub word_waiting : (room : ℕ) (g : Given) (p q : ℕ) (w : AWord) (told : Row 
     may (a_word (level room)) g (standing p) (Ok (w, standing q)) told
     → may (a_word (level room)) g (place_of t p) (Ok (w, place_of t q)) told
 word_waiting room g p q w told t part =
-    let read = (is (a_word (level room)) g (standing p)).only _ _ part in
+    let read = (computed_is_only (a_word (level room)) g (standing p)).only _ _ part in
     let there : does (a_word (level room)) Whole g (place_of t p) ≡ Ok (w, place_of t q) =
     (blind_word g room).alike (standing p) t ∙ ap (onto t) (sym read) in
-    let some = (is (a_word (level room)) g (place_of t p)).some in
+    let some = (computed_is_only (a_word (level room)) g (place_of t p)).some in
     let again_read = subst (λ (x : Read AWord). may (a_word (level room)) g (place_of t p) x some.0) there some.1 in
     subst (λ (k : Row Spelled). may (a_word (level room)) g (place_of t p) (Ok (w, place_of t q)) k)
     (word_told (level room) g (place_of t p) (place_of t q) w some.0 again_read

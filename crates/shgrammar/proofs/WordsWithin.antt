@@ -28,10 +28,10 @@ use Rattle.shgrammar.specs.Levels.{level, ReadsWord}
 use Rattle.shgrammar.proofs.Stretches.{place_low}
 use Rattle.shgrammar.proofs.Places.{after_low, after_high, stands_low, not_end_low, next_of_low, parameter_low, parameter_high, quote_clear, next_escaped_low}
 use Rattle.shgrammar.proofs.Turns.{turns_fault, many_again, many_done}
-use Rattle.shgrammar.proofs.Holds.{tells_level, Holds, holds_then, Tells, Turned, tells_then, tells_many, tells_after, tells_seen, tells_ending, AtOrAfter, low, tells_inside}
+use Rattle.shgrammar.proofs.Holds.{tells_level, Holds, holds_then, Tells, Turned, tells_then, tells_many, tells_after, tells_seen, tells_ending, AtOrAfter, no_form_goes_back, tells_inside}
 use Rattle.shgrammar.proofs.TokensShown.{Begins, Fine, paren_here, shown_level, shown_lines, shown_next}
 use Rattle.shgrammar.proofs.Ahead.{past_byte_is}
-use Rattle.shgrammar.proofs.OneOutcome.{is}
+use Rattle.shgrammar.proofs.OneOutcome.{computed_is_only}
 use Rattle.shgrammar.specs.Tokens.{is_later}
 
 -- after a byte, or two
@@ -338,7 +338,7 @@ module _ (g : Given) where
 
     contents_on : Holds (λ x t. (s.at ≤ t.at) × (t.at ≤ length T)) (does (contents inner mode b ss) Whole g s)
     contents_on = holds_both (does (contents inner mode b ss) Whole g s)
-        (low (contents inner mode b ss) Whole g s).told contents_end
+        (no_form_goes_back (contents inner mode b ss) Whole g s).told contents_end
       where
         holds_both : (x : Read (Row ASubst)) → Holds (AtOrAfter s) x → Holds (λ x t. Last mode t) x →
             Holds (λ x t. (s.at ≤ t.at) × (t.at ≤ length T)) x
@@ -386,7 +386,7 @@ module _ (g : Given) where
     substitution_end : (b : ℕ) (ss : Row ASubst) (s : State) →
         Holds (λ x t. (s.at ≤ t.at) × (t.at ≤ length T)) (does (a_substitution inner b ss) Whole g s)
     substitution_end b ss s = holds_also (does (a_substitution inner b ss) Whole g s)
-        (low (a_substitution inner b ss) Whole g s).told (substitution_high b ss s).told
+        (no_form_goes_back (a_substitution inner b ss) Whole g s).told (substitution_high b ss s).told
       where
         holds_also : (x : Read (Row ASubst)) → Holds (AtOrAfter s) x → Holds (λ x t. t.at ≤ length T) x →
             Holds (λ x t. (s.at ≤ t.at) × (t.at ≤ length T)) x
@@ -417,6 +417,6 @@ module _ (g : Given) where
 pub word_ends : (room : ℕ) (g : Given) (p n : ℕ) → ReadsWord room g p n → p ≤ length g.text → (p + n ≤ length g.text)
     × (ends_word g.text (p + n) ≡ true)
 word_ends room g p n (w, part) le =
-    let is_read = (is (a_word (level room)) g (standing p)).only _ _ part in
+    let is_read = (computed_is_only (a_word (level room)) g (standing p)).only _ _ part in
     let so = subst (Holds (λ x t. Last g Plain t)) (sym is_read) (word_last g room p le) in
     (so.0, so.1 refl)

@@ -25,10 +25,10 @@ use Rattle.shgrammar.specs.Lists.{list_so, none_listed, on_line}
 use Rattle.shgrammar.specs.Sights.{Given, State, given, standing}
 use Rattle.shgrammar.proofs.EachSpan.{EntryIn, entries_in, throughout_so}
 use Rattle.shgrammar.proofs.Everywhere.{level_in}
-use Rattle.shgrammar.proofs.Holds.{Holds, Tells, low, tells_give, tells_level, tells_then}
+use Rattle.shgrammar.proofs.Holds.{Holds, Tells, no_form_goes_back, tells_give, tells_level, tells_then}
 use Rattle.shgrammar.proofs.Lined.{end_ended}
 use Rattle.shgrammar.proofs.ListsEverywhere.{ListIn, on_line_in}
-use Rattle.shgrammar.proofs.OneOutcome.{is as is_form}
+use Rattle.shgrammar.proofs.OneOutcome.{computed_is_only}
 use Rattle.shheld.proofs.Nodes.{kind_nodes}
 
 -- ---- what is read before the newline
@@ -65,7 +65,7 @@ module _ (g : Given) where
   open_line_begins : (blank : Bool) (s : State) → Tells Whole g (an_open_line (level most_open) blank) (LineBegins g) s
   unfolding an_open_line
   open_line_begins blank s =
-      tells_then Whole g (low (next_token Command) Whole g s)
+      tells_then Whole g (no_form_goes_back (next_token Command) Whole g s)
       (λ n t one. tells_then Whole g (on_line_here blank n t)
       (λ l u all. tells_then Whole g (end_ended (level most_open) Whole g u l.next)
       (λ newline w more. tells_give Whole g
@@ -96,7 +96,8 @@ nodes_before_end edition T l (line_read es newline t k part) ended =
     let both = and_parts _ _ ended in
     let told = (line_begins (given edition T 0) false (standing 0)).told in
     let so = subst (Holds (LineBegins (given edition T 0)))
-    (sym ((is_form (a_line (level most_open) false) (given edition T 0) (standing 0)).only _ _ part)) told both.0 in
+    (sym ((computed_is_only (a_line (level most_open) false) (given edition T 0) (standing 0)).only _ _ part))
+    told both.0 in
     let here : 0 + t.at ≡ t.at = omega arith in
     kind_begins t.at es newline (subst (λ p. BeginBefore p es) here so)
 nodes_before_end edition T l (line_stops f k part) ended = absurd cc

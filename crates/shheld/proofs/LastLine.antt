@@ -24,7 +24,7 @@ use Rattle.shgrammar.specs.Words.{Inner}
 use Rattle.shgrammar.specs.Scripts.{line_of_text}
 use Rattle.shgrammar.proofs.BodiesThere.{ends_line}
 use Rattle.shgrammar.proofs.Holds.{Holds, Tells, tells_change, tells_give, tells_level, tells_moved, tells_then}
-use Rattle.shgrammar.proofs.OneOutcome.{is as is_form}
+use Rattle.shgrammar.proofs.OneOutcome.{computed_is_only}
 use Rattle.shgrammar.proofs.Places.{end_high}
 use Rattle.shgrammar.proofs.Scripts.{line_is}
 use Rattle.shwindow.specs.Lines.{IsRow, last_line, more_lines}
@@ -118,7 +118,7 @@ pub whole : (edition : Edition) (T : List ℕ) (a : ALine) → IsLine edition T 
 whole edition T a (line_read es newline t k part) not_ended =
     let g = given edition T 0 in
     let inner = level most_open in
-    let read = (is_form (a_line inner false) g (standing 0)).only _ _ part in
+    let read = (computed_is_only (a_line inner false) g (standing 0)).only _ _ part in
     let told = (line_rest g inner (stays_at g most_open) false (standing 0) (omega arith)).told in
     subst (Holds (LineRest g)) (sym read) told not_ended
 whole edition T a (line_stops f k part) not_ended = refl

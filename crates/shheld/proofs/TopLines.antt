@@ -13,7 +13,7 @@ use Rattle.shgrammar.specs.Sights.{State, given, standing}
 use Rattle.shgrammar.specs.Standing.{is_byte, raw_stands}
 use Rattle.shgrammar.proofs.Holds.{Holds}
 use Rattle.shgrammar.proofs.Lined.{line_ended_low}
-use Rattle.shgrammar.proofs.OneOutcome.{is as is_form}
+use Rattle.shgrammar.proofs.OneOutcome.{computed_is_only}
 use Rattle.shgrammar.proofs.SameLine.{no_further}
 use Rattle.shgrammar.proofs.Scripts.{line_only}
 use Rattle.shwindow.specs.Lines.{Reads}
@@ -40,7 +40,7 @@ ended_by : (edition : Edition) (T : List ℕ) (a : ALine) → IsLine edition T a
 ended_by edition T a (line_read es newline t k part) ended =
     let both = and_parts _ _ ended in
     let some : 0 < t.at = subst (Holds (λ (x : Row AnEntry × Bool) (u : State). x.1 ≡ true → 0 < u.at))
-    (sym ((is_form (a_line (level most_open) false) (given edition T 0) (standing 0)).only _ _ part))
+    (sym ((computed_is_only (a_line (level most_open) false) (given edition T 0) (standing 0)).only _ _ part))
     (line_ended_low (level most_open) false Whole (given edition T 0) (standing 0)).told both.0
     in
     let high = stands_within T (t.at - 1) both.1 in

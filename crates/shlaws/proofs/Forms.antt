@@ -10,8 +10,8 @@ use Rattle.shgrammar.specs.Form.{Changed, Either, Ending, Form, Halts, Just, One
 use Rattle.shgrammar.specs.HereDocuments.{Change, changed, own_level}
 use Rattle.shgrammar.specs.Shows.{IsRead}
 use Rattle.shgrammar.specs.Sights.{Given, Move, Sight, State, seen}
-use Rattle.shgrammar.proofs.Holds.{AtOrAfter, Holds, low}
-use Rattle.shgrammar.proofs.OneOutcome.{is}
+use Rattle.shgrammar.proofs.Holds.{AtOrAfter, Holds, no_form_goes_back}
+use Rattle.shgrammar.proofs.OneOutcome.{computed_is_only}
 use Rattle.shgrammar.proofs.Stretches.{place_low}
 use Rattle.shlaws.specs.Onward.{TurnsOn, last as last_on, more as more_on, halts as halts_on, may_onward}
 
@@ -202,7 +202,7 @@ module _ (g : Given) where
       }
     where
       back : (y : Read _) (k : Row Spelled) → may r g s y k → Holds (AtOrAfter s) y
-      back y k part = subst (Holds (AtOrAfter s)) (sym ((is r g s).only y k part)) (low r Whole g s).told
+      back y k part = subst (Holds (AtOrAfter s)) (sym ((is r g s).only y k part)) (no_form_goes_back r Whole g s).told
 
   -- ---- repetitions
 

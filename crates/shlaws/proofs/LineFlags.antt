@@ -14,7 +14,7 @@ use Rattle.shgrammar.specs.Words.{Inner}
 use Rattle.shgrammar.specs.declared.keep.Keep.TheVariants.{Whole}
 use Rattle.shgrammar.specs.declared.token.Next.{Next}
 use Rattle.shgrammar.proofs.Holds.{Holds, Tells, Turned, tells_after, tells_give, tells_many, tells_pushed, tells_then}
-use Rattle.shgrammar.proofs.OneOutcome.{is}
+use Rattle.shgrammar.proofs.OneOutcome.{computed_is_only}
 use Rattle.shlaws.specs.Blank.{AreBlankAtFirst, HasMore}
 use Rattle.shlaws.proofs.BlankLines.{not_empty}
 
@@ -137,7 +137,7 @@ module _ (inner : Inner) (g : Given) (before : Listed) where
 pub line_flags : (room : ℕ) (l m : ListSo) (g : Given) (s t : State) (told : Row Spelled)
     → may (on_line (level room) l) g s (Ok (m, t)) told → HasMore l.list m.list
 line_flags room l m g s t told part =
-    let read = (is (on_line (level room) l) g s).only _ _ part in
+    let read = (computed_is_only (on_line (level room) l) g s).only _ _ part in
     subst (Holds (λ (n : ListSo) (u : State). HasMore l.list n.list)) (sym read)
     (line_so (level room) g l.list l s (nothing_read l.list)).told
 
@@ -145,6 +145,6 @@ pub newline_flags : (room : ℕ) (l m : ListSo) (g : Given) (s t : State) (told 
     → may (list_turn (level room) l) g s (Ok (again m, t)) told
     → (line : Listed) × HasMore l.list line × (m.list ≡ next_line line)
 newline_flags room l m g s t told part =
-    let read = (is (list_turn (level room) l) g s).only _ _ part in
+    let read = (computed_is_only (list_turn (level room) l) g s).only _ _ part in
     subst (Holds (Parted (level room) g l.list)) (sym read)
     (newline_so (level room) g l.list l s (nothing_read l.list)).told

@@ -28,7 +28,7 @@ use Rattle.shgrammar.specs.Unquoting.{left_of}
 use Rattle.shgrammar.specs.Words.{WordSoFar, a_piece, a_word, contents, having, piece_row, single}
 use Rattle.shgrammar.proofs.Anywhere.{anywhere}
 use Rattle.shgrammar.proofs.Levels.{level_below, level_closed}
-use Rattle.shgrammar.proofs.OneOutcome.{is}
+use Rattle.shgrammar.proofs.OneOutcome.{computed_is_only}
 use Rattle.shgrammar.proofs.Places.{after_low, next_of_low, not_end_low, quote_clear}
 use Rattle.shgrammar.proofs.Stretches.{place_low}
 use Rattle.shgrammar.proofs.Turns.{many_again, many_done, turns_fault}
@@ -422,7 +422,7 @@ module _ (edition : Edition) (W : List ℕ) (o : ℕ) where
   word_goes room n w told part clear = by (pieces_by room) refl
     where
       read : ◌≡◌ {A = Read AWord} (Ok (w, standing n)) (word_by (pieces_by room))
-      read = (is (a_word (level room)) g (standing 0)).only _ _ part ∙ word_is room
+      read = (computed_is_only (a_word (level room)) g (standing 0)).only _ _ part ∙ word_is room
 
       by : (x : Read WordSoFar) → pieces_by room ≡ x → Goes Plain 0 n
       by (Err f) whole =

@@ -11,7 +11,7 @@ use Rattle.shgrammar.specs.Sights.{State, given, standing}
 use Rattle.shgrammar.specs.Moved.{SameBy, moved_fault}
 use Rattle.shgrammar.proofs.LineInPiece.{outer_alone}
 use Rattle.shgrammar.proofs.MovedLine.{line_outer}
-use Rattle.shgrammar.proofs.OneOutcome.{is as is_form}
+use Rattle.shgrammar.proofs.OneOutcome.{computed_is_only}
 
 module _ (e : Edition) (B : List ℕ) (p : ℕ) where
   -- what the grammar has for the line by itself, and the tokens passed
@@ -20,7 +20,7 @@ module _ (e : Edition) (B : List ℕ) (p : ℕ) where
 
   reads : (x : Read (Row AnEntry × Bool)) → line_told e B Whole false p 0 ≡ x → (told : Row Spelled) × Reads x told
   reads x is = subst (λ y. (told : Row Spelled) × Reads y told) is
-      ((is_form (the_line false) (given e (drop p B) 0) (standing 0)).some)
+      ((computed_is_only (the_line false) (given e (drop p B) 0) (standing 0)).some)
 
   pub outer_line : (blank newline : Bool) (es : Row AnEntry) (t : State) →
       line_from e B Outer blank p ≡ Ok ((es, newline), t)

@@ -18,7 +18,7 @@ use Rattle.shgrammar.specs.Scripts.{line_told, the_line}
 use Rattle.shgrammar.specs.Sights.{State, given, standing}
 use Rattle.shgrammar.proofs.EachSpan.{throughout_so}
 use Rattle.shgrammar.proofs.MovedLine.{line_moved}
-use Rattle.shgrammar.proofs.OneOutcome.{is}
+use Rattle.shgrammar.proofs.OneOutcome.{computed_is_only}
 use Rattle.shgrammar.proofs.ShapeMoved.{SameText, shape_same}
 
 -- ---- the shape of a list at a base
@@ -93,5 +93,5 @@ pub line_plain : (edition : Edition) (T : List ℕ) (a : ALine) → IsLine editi
 line_plain edition T _ (line_read es newline t k part) xs kind_is =
     kind_plain es newline xs kind_is
     (row_plain edition T es newline t
-    ((is (the_line false) (given edition T 0) (standing 0)).only (Ok ((es, newline), t)) k part))
+    ((computed_is_only (the_line false) (given edition T 0) (standing 0)).only (Ok ((es, newline), t)) k part))
 line_plain edition T _ (line_stops f k part) xs kind_is = absurd cc

@@ -23,7 +23,7 @@ use Rattle.shgrammar.proofs.Within.{more_within}
 use Rattle.shgrammar.specs.Moved.{Same, SameBy}
 use Rattle.shgrammar.specs.Scripts.{AScript, Outcome, SoFar, faulty, is_blank_line, last_line, line_ended, line_from, line_told, the_line, with_line}
 use Rattle.shgrammar.proofs.MovedLine.{line_moved, line_outer}
-use Rattle.shgrammar.proofs.OneOutcome.{is}
+use Rattle.shgrammar.proofs.OneOutcome.{computed_is_only}
 
 -- ---- what is read of a line, where its first entry is blank as the lines before it have it
 
@@ -34,7 +34,7 @@ blank_is before so stood = ap (λ b. b && before.begun) stood.0 ∙ ap (λ b. so
 pub line_read : (edition : Edition) (B : Row ℕ) (so : SoFar) (p : ℕ) (blank : Bool) (x : Read (Row AnEntry × Bool)) →
     blank ≡ is_blank_line so → line_from edition B Whole blank p ≡ x → LineReads edition B so p x
 line_read edition B so p blank x is_blank read =
-    let one = (is (the_line blank) (given edition (drop p B) p) (standing 0)).some in (
+    let one = (computed_is_only (the_line blank) (given edition (drop p B) p) (standing 0)).some in (
       one.0,
       subst (λ b. may (the_line b) (given edition (drop p B) p) (standing 0) x one.0) is_blank
           (subst (λ y. may (the_line blank) (given edition (drop p B) p) (standing 0) y one.0) read one.1),
@@ -44,7 +44,8 @@ line_read edition B so p blank x is_blank read =
 pub line_only : (edition : Edition) (B : Row ℕ) (so : SoFar) (p : ℕ) (x : Read (Row AnEntry × Bool)) →
     LineReads edition B so p x → line_from edition B Whole (is_blank_line so) p ≡ x
 line_only edition B so p x read =
-    sym ((is (the_line (is_blank_line so)) (given edition (drop p B) p) (standing 0)).only x read.0 read.1)
+    sym ((computed_is_only (the_line (is_blank_line so)) (given edition (drop p B) p) (standing 0)).only
+    x read.0 read.1)
 
 -- a fault without the trees in command substitutions is that of the line with them
 whole_fault : (p : ℕ) (blank : Bool) (f : Fault) (x alone : Read (Row AnEntry × Bool))

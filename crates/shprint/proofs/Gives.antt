@@ -5,8 +5,8 @@ use Rattle.shgrammar.specs.Comments.{span}
 use Rattle.shgrammar.specs.Sights.{Given, State, Sight, seen, Move}
 use Rattle.shgrammar.specs.Form.{Spelled, Telling, Form, give, see, move, push, both, token, many, may, moved_on, just, and_then, whole, Step, again, done, last, more, leads_on}
 use Rattle.shgrammar.specs.Commands.{pick}
-use Rattle.shgrammar.proofs.Holds.{Holds, AtOrAfter, low}
-use Rattle.shgrammar.proofs.OneOutcome.{is}
+use Rattle.shgrammar.proofs.Holds.{Holds, AtOrAfter, no_form_goes_back}
+use Rattle.shgrammar.proofs.OneOutcome.{computed_is_only}
 
 pub record Gives (g : Given) {X : Type 0} (r : Form X) (s : State) (x : X) (t : State) : Type 0 where
   pub passes : Row Spelled
@@ -59,4 +59,5 @@ one_turn turn one on rest = gives _ (more one.reads on rest.reads)
 
 -- no row goes back
 pub gives_on : {g : Given} {X : Type 0} (r : Form X) (s : State) (x : X) (t : State) → Gives g r s x t → s.at ≤ t.at
-gives_on {g = g} r s x t one = subst (Holds (AtOrAfter s)) (sym ((is r g s).only _ _ one.reads)) (low r Whole g s).told
+gives_on {g = g} r s x t one =
+    subst (Holds (AtOrAfter s)) (sym ((computed_is_only r g s).only _ _ one.reads)) (no_form_goes_back r Whole g s).told

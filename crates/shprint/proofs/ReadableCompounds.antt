@@ -31,7 +31,7 @@ use Rattle.shgrammar.specs.Tokens.{is_end}
 use Rattle.shgrammar.specs.Scripts.{AScript, SoFar, Lines, line_ended, last_line, faulty, nothing_yet, Outcome}
 use Rattle.shgrammar.proofs.Shown.{falls_later}
 use Rattle.shgrammar.proofs.TokensShown.{shown_level, shown_lines}
-use Rattle.shgrammar.proofs.OneOutcome.{is}
+use Rattle.shgrammar.proofs.OneOutcome.{computed_is_only}
 use Rattle.shgrammar.proofs.Holds.{Holds, Tells, tells_after, tells_change, tells_give, tells_level, tells_then, tells_moved}
 use Rattle.shgrammar.proofs.WordsWaiting.{place_of}
 use Rattle.shgrammar.proofs.Spelling.{raw_at}
@@ -693,7 +693,7 @@ module _ (edition : Edition) (B : List ℕ) where
       let g = given edition (drop p B) p in
       let line = reads_line B g refl most_open (reads_level B g refl most_open) blank 0 in
       subst (Holds (λ x t. GoodEntries edition most_open (shape_of B (entries_of x.0))))
-      (sym ((is (a_line (level most_open) blank) g (standing 0)).only _ _ part)) line.told
+      (sym ((computed_is_only (a_line (level most_open) blank) g (standing 0)).only _ _ part)) line.told
 
   lines_good : (so : SoFar) (p : ℕ) (s : AScript) (k : Row Spelled) → Lines edition B so p s k →
       GoodEntries edition most_open (shape_of B (entries_of so.entries)) →

@@ -26,7 +26,7 @@ use Rattle.shgrammar.specs.Commands.{pick, next_token, is_newline_token, is_semi
 use Rattle.shgrammar.specs.Compounds.{is_closing, reserved_or_paren, closing, a_linebreak, begins_pattern}
 use Rattle.shgrammar.specs.Levels.{level}
 use Rattle.shgrammar.proofs.Places.{place_same, blanks_stop}
-use Rattle.shgrammar.proofs.OneOutcome.{is}
+use Rattle.shgrammar.proofs.OneOutcome.{computed_is_only}
 use Rattle.shgrammar.proofs.Holds.{Holds, Tells, Stepped, tells_after, tells_change, tells_give, tells_then, tells_token, tells_so, tells_until, tells_seen, tells_moved, tells_pushed, tells_with_bytes}
 use Rattle.shgrammar.proofs.Anywhere.{word_read, word_span as spanned}
 use Rattle.shgrammar.proofs.WordsWaiting.{blind_word, onto, place_of}
@@ -402,7 +402,7 @@ module _ (g : Given) where
 
   pub reads_word : (room p : ℕ) → Reads (a_word (level room)) (WordRead room p) p
   reads_word room p =
-      let some = (is (a_word (level room)) g (standing p)).some in
+      let some = (computed_is_only (a_word (level room)) g (standing p)).some in
       let word_is = holds_by (λ w t. WordRead room p w t.at) (may (a_word (level room)) g (standing p)) _ some.0 some.1
       (λ w t k part. let spans = spanned (level room) g (standing p) t w k part in
       record { part = word_read room g p w t k part; substs = spans.0; is = spans.1 }) in
