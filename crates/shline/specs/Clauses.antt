@@ -121,7 +121,12 @@ abbrev pub keep_of : {S : Type 0} {k : ℕ} {g : _} → Cursor S k g → Keep
 keep_of {k = k} cursor = kept k cursor.how.keep
 
 abbrev pub view_waiting : the_waiting.Waiting → Waiting
-view_waiting w = record { operator = w.operator; delimiter = w.delimiter.items; literal = w.literal; strip = w.strip }
+view_waiting w = record {
+  operator = w.operator_at;
+  delimiter = w.delimiter.items;
+  literal = w.literal;
+  strip = w.strip;
+}
 
 -- a place, with the here-documents of a level
 abbrev pub standing_with : the_documents.Documents → ℕ → State

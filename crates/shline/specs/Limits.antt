@@ -18,4 +18,4 @@ limits k origin text = record { furthest = origin + length text; memory = wants_
 
 -- a here-document that waits stands within the text, and memory may be wanted
 abbrev pub Waits : Limits → the_waiting.Waiting → Type 0
-Waits bound w = (w.operator ≤ bound.furthest) × (bound.memory ≡ true)
+Waits bound w = (w.operator_at ≤ bound.furthest) × (bound.memory ≡ true)

@@ -74,42 +74,42 @@ impl<'a, S: Source, const TREE: u8> Cursor<'a, S, TREE> {
     fn item_turn(
         &mut self,
         items: &mut Vec<Item>,
-        place: &mut Position,
+        position: &mut Position,
         room: usize,
     ) -> Result<bool, Stop>
-        ensures { Turns self.old (item_turn (level room) (so_many (view_items items.old) place.old
-            self.old.next)) result (so_many (view_items items.new) place.new
+        ensures { Turns self.old (item_turn (level room) (so_many (view_items items.old)
+            position.old self.old.next)) result (so_many (view_items items.new) position.new
             self.new.next) self.new }
     {
-        if let Some(position) = self.next.token.after_word() {
-            *place = position;
-            self.item(items, position, room)?;
+        if let Some(word_position) = self.next.token.after_word() {
+            *position = word_position;
+            self.item(items, word_position, room)?;
             return Ok(true);
         }
         if !self.next.token.begins_redirect() {
             return Ok(false);
         }
         let broken = !items.is_empty() && self.next.broken;
-        *place = place.after_redirect();
-        self.redirect(items, broken, *place, room)?;
+        *position = position.after_redirect();
+        self.redirect(items, broken, *position, room)?;
         Ok(true)
     }
 
-    /// The items of a simple command after these. The token in hand stands in the position `place`.
+    /// The items of a simple command after these. The token in hand stands in this position.
     #[cycle(commands)]
     #[tactic(auto, using(shgrammar::proofs::Turns::many_again, shgrammar::proofs::Turns::many_done, crate::proofs::Stops::many_stop))]
     fn items(
         &mut self,
         items: &mut Vec<Item>,
-        place: &mut Position,
+        position: &mut Position,
         room: usize,
     ) -> Result<(), Stop>
         ensures { TokenToToken self.old
             (many (item_turn (level room)) (so_many (view_items items.old)
-            place.old self.old.next)) result (λ _. so_many (view_items items.new) place.new
+            position.old self.old.next)) result (λ _. so_many (view_items items.new) position.new
             self.new.next) self.new }
     {
-        'turns: while self.item_turn(items, place, room)? {}
+        'turns: while self.item_turn(items, position, room)? {}
         Ok(())
     }
 
@@ -123,8 +123,8 @@ impl<'a, S: Source, const TREE: u8> Cursor<'a, S, TREE> {
             (λ x. (view_command x, self.new.next)) self.new }
     {
         let mut items = self.room_for_items();
-        let mut place = Position::Command;
-        self.items(&mut items, &mut place, room)?;
+        let mut position = Position::Command;
+        self.items(&mut items, &mut position, room)?;
         Ok(simple_of(items))
     }
 
@@ -166,8 +166,8 @@ impl<'a, S: Source, const TREE: u8> Cursor<'a, S, TREE> {
         // Made here and not handed over: a vector that was just pushed to is slow to move.
         let mut items = self.room_for_items();
         self.add_first(word, &mut items)?;
-        let mut place = Position::Suffix;
-        self.items(&mut items, &mut place, room)?;
+        let mut position = Position::Suffix;
+        self.items(&mut items, &mut position, room)?;
         Ok(simple_of(items))
     }
 

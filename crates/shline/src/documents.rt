@@ -23,7 +23,7 @@ use std::mem;
 #[derive(Drop)]
 pub(crate) struct Waiting {
     /// The offset of its operator.
-    pub(crate) operator: usize,
+    pub(crate) operator_at: usize,
     pub(crate) delimiter: Vec<u8>,
     /// A part of its delimiter is quoted: nothing is expanded in it.
     pub(crate) literal: bool,
@@ -78,7 +78,7 @@ impl<'a, S: Source, const TREE: u8> Cursor<'a, S, TREE> {
         if self.documents.waiting.is_empty() {
             return None;
         }
-        Some(self.documents.waiting[0].operator)
+        Some(self.documents.waiting[0].operator_at)
     }
 
     /// Refuses that a level ends here where a here-document waits.
@@ -157,13 +157,13 @@ impl<'a, S: Source, const TREE: u8> Cursor<'a, S, TREE> {
     pub(crate) fn document(
         &mut self,
         operator: RedirectOperator,
-        mark: usize,
+        operator_at: usize,
         start: usize,
     ) -> Result<Option<HereDocument>, Stop>
-        requires places { (start ≤ here_of self.old) × (mark ≤ end_of self.old) }
+        requires places { (start ≤ here_of self.old) × (operator_at ≤ end_of self.old) }
         requires memory { takes_here operator ≡ true → (limits_of self.old).memory ≡ true }
         ensures value { PlaceToPlace self.old
-            (a_document operator mark (self.old.origin + start) (raw
+            (a_document operator operator_at (self.old.origin + start) (raw
             (text_of self.old) start (here_of self.old))) result (option_map view_here) self.new }
         ensures place { here_of self.new ≡ here_of self.old }
     {
@@ -181,7 +181,7 @@ impl<'a, S: Source, const TREE: u8> Cursor<'a, S, TREE> {
         let literal = delimiter.literal;
         let strip = is_strip(operator);
         self.documents.waiting.push(Waiting {
-            operator: mark,
+            operator_at,
             delimiter: delimiter.text,
             literal,
             strip,
@@ -331,7 +331,7 @@ impl<'a, S: Source, const TREE: u8> Cursor<'a, S, TREE> {
         let Some(line) = self.delimiter_line(document) else {
             return Err(Stop::Wrong(Fault {
                 kind: FaultKind::UnclosedHere,
-                at: document.operator,
+                at: document.operator_at,
             }));
         };
         self.documents.bodies.push(Span {

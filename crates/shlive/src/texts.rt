@@ -9,15 +9,15 @@ use shtree::{NodeKind, NodeLine, Span};
 use std::alloc::{AllocError, Global};
 
 /// The longest text of a kind.
-const KIND: usize = 8;
+const KIND_LEN: usize = 8;
 
 /// The longest line of a node up to its name: the end of the line before, two numbers
 /// of 20 digits with a blank after each, and a kind.
-const LINE: usize = 43 + KIND;
+const LINE_LEN: usize = 43 + KIND_LEN;
 
 /// What a reply calls a kind of node, at the end of as many bytes for each, and how
 /// many of them stand before it unused.
-fn kind_text(kind: NodeKind) -> (&'static [u8; KIND], usize)
+fn kind_text(kind: NodeKind) -> (&'static [u8; KIND_LEN], usize)
     ensures within { result.1 ≤ 8 }
     ensures text { drop result.1 result.0.now ≡ kind_text kind }
 {
@@ -55,13 +55,13 @@ fn write_number(line: &mut [u8], end: usize, number: usize, before: u8) -> usize
 
 /// Writes the line of a node up to its name to the end of these bytes, with the end of
 /// the line before it in front. Answers where it begins.
-fn write_node(line: &mut [u8; LINE], node: &NodeLine) -> usize
+fn write_node(line: &mut [u8; LINE_LEN], node: &NodeLine) -> usize
     ensures { drop result line.new ≡ codes "\n" ++ decimal node.now.start ++ codes " "
         ++ decimal node.now.end ++ codes " " ++ kind_text node.now.kind }
 {
     let (kind, unused) = kind_text(node.kind);
-    line[LINE - KIND..].copy_from_slice(kind);
-    let blank = LINE - KIND + unused - 1;
+    line[LINE_LEN - KIND_LEN..].copy_from_slice(kind);
+    let blank = LINE_LEN - KIND_LEN + unused - 1;
     line[blank] = b' ';
     let end = write_number(line, blank, node.end, b' ');
     write_number(line, end, node.start, b'\n')
@@ -86,7 +86,7 @@ fn add_node(text: &mut Vec<u8>, script: &Buffer, node: &NodeLine) -> Result<(), 
     ensures { IfOk result (λ _. text.new.items ++ codes "\n" ≡ (text.old.items ++ codes "\n")
         ++ node_text (buffer_bytes script.now) node.now) }
 {
-    let mut line = [0; LINE];
+    let mut line = [0; LINE_LEN];
     let start = write_node(&mut line, node);
     text.extend_from_slice(&line[start..])?;
     add_name(text, script, node.name)

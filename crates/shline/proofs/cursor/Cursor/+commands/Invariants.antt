@@ -235,8 +235,8 @@ decreases-contents-pieces g l = length (text_of l.self) - here_of l.self
 abbrev pub invariant-items-turns : goal.invariant-items-turns
 invariant-items-turns g l =
     Rests l.fn.self (many (item_turn (level l.room))
-    (so_many (map view_item l.fn.items.items) l.fn.place l.fn.self.next)) (at_token l.fn.self)
-    (many (item_turn (level l.room)) (so_many (map view_item l.items.items) l.place l.self.next))
+    (so_many (map view_item l.fn.items.items) l.fn.position l.fn.self.next)) (at_token l.fn.self)
+    (many (item_turn (level l.room)) (so_many (map view_item l.items.items) l.position l.self.next))
     (at_token l.self) l.self
 
 abbrev pub decreases-items-turns : goal.decreases-items-turns
