@@ -9,7 +9,7 @@ use Rattle.clap.specs.Simple.{App, Shape, built, entered, is_simple, names_of, s
 use Rattle.clap.specs.Walk.{Names, Rule, Text, Walk, finished, idle, nothing_held, stop_after, subcommand_met, walk, walk_from, walked}
 use Rattle.clap.proofs.FaultLemmas.{stopped_fault}
 use Rattle.clap.proofs.WalkLemmas.{walk_stopped}
-use Rattle.shform.specs.Words.{Years, alone_app, app_for, check_app, print_app, session_app, tool_app}
+use Rattle.shform.specs.Words.{Years, alone_app, app_for, check_app, print_app, session_app, app_with_all_tools}
 
 -- the walk stops at the word, and the others are left to the subcommand
 stops : (c : List Rule) (names : Names) (word : Text) (words : List Text) → subcommand_met names idle word ≡ Some word
@@ -42,15 +42,15 @@ pub record Same (years : Years) (a : App) (words : List Text) : Type 0 where
   pub simple : is_simple a ≡ true
   pub free : is_simple_and_free a ≡ true
   pub required : a.top.subcommand_required ≡ true
-  pub matches : subcommand_of a words ≡ subcommand_of (tool_app years) words
-  pub faults : fault_of a words ≡ fault_of (tool_app years) words
+  pub matches : subcommand_of a words ≡ subcommand_of (app_with_all_tools years) words
+  pub faults : fault_of a words ≡ fault_of (app_with_all_tools years) words
 
-whole : (years : Years) (words : List Text) → Same years (tool_app years) words
+whole : (years : Years) (words : List Text) → Same years (app_with_all_tools years) words
 whole years words = record { simple = refl; free = refl; required = refl; matches = refl; faults = refl }
 
 module _ (years : Years) (words : List Text) where
   abbrev all : App
-  all = built (tool_app years)
+  all = built (app_with_all_tools years)
 
   -- a subcommand alone, whose name both meet, and which both enter and fail by alike
   alone : (sub : App) (name : Text) → is_simple (alone_app sub) ≡ true → is_simple_and_free (alone_app sub) ≡ true
@@ -85,7 +85,7 @@ module _ (years : Years) (words : List Text) where
   named : (word : Text) (c p s : Bool) → bytes_eq word (codes "check") ≡ c → bytes_eq word (codes "print") ≡ p
       → bytes_eq word (codes "session") ≡ s
       → Same years (if c then alone_app (check_app years) else (if p then alone_app (print_app years)
-      else (if s then alone_app (session_app years) else tool_app years))) (word ∷ words)
+      else (if s then alone_app (session_app years) else app_with_all_tools years))) (word ∷ words)
   named word true p s c-is p-is s-is = by_name check c-is
   named word false true s c-is p-is s-is = by_name print p-is
   named word false false true c-is p-is s-is = by_name session s-is

@@ -16,7 +16,7 @@ use Rattle.shform.specs.declared.asked.Tool.{Tool}
 use Rattle.shform.specs.declared.asked.Tool.TheVariants.{Check, Print, Session}
 use Rattle.shgrammar.specs.declared.edition.Edition.TheVariants.{Y2017}
 use Rattle.shprint.specs.declared.layout.Layout.{Layout}
-use Rattle.shform.specs.Words.{AreToolAndFile, AreSettingsOf, AreYears, IsFlag, IsLayoutFor, Years, check_app, file_in, file_rule, flag_rule, print_app, tool_app}
+use Rattle.shform.specs.Words.{AreToolAndFile, AreSettingsOf, AreYears, IsFlag, IsLayoutFor, Years, check_app, file_in, file_rule, flag_rule, print_app, app_with_all_tools}
 use Rattle.shform.proofs.FirstWord.{enters, fails}
 
 -- the row of an argument that has one value
@@ -43,8 +43,8 @@ print_rows file = row file_rule CommandLine file ∷ flag_row (codes "case-inden
 
 -- a subcommand takes FILE alone, with these rows
 record Taken (years : Years) (name file : Text) (rows : List Row) : Type 0 where
-  matches : subcommand_of (tool_app years) (name ∷ file ∷ []) ≡ Some (name, rows)
-  faultless : fault_of (tool_app years) (name ∷ file ∷ []) ≡ []
+  matches : subcommand_of (app_with_all_tools years) (name ∷ file ∷ []) ≡ Some (name, rows)
+  faultless : fault_of (app_with_all_tools years) (name ∷ file ∷ []) ≡ []
 
 module _ (c : ℕ) (cs : Text) (plain : (c == 45) ≡ false) where
   abbrev word : Text
@@ -93,23 +93,23 @@ module _ (c : ℕ) (cs : Text) (plain : (c == 45) ≡ false) where
 
   module _ (years : Years) where
     abbrev sub : App → Shape
-    sub a = built_leaf (inherited (tool_app years).top a.top)
+    sub a = built_leaf (inherited (app_with_all_tools years).top a.top)
 
     check : Taken years (codes "check") word (check_rows word)
     unfolding defaults_fault
     check = let s = sub (check_app years) in record {
-      matches = enters (built (tool_app years)) (codes "check") (word ∷ []) refl
+      matches = enters (built (app_with_all_tools years)) (codes "check") (word ∷ []) refl
           ∙ ap (λ (w : Walk). Some (codes "check", finished s.rules w.held)) (goes s.rules);
-      faultless = fails (built (tool_app years)) (codes "check") (word ∷ []) refl refl
+      faultless = fails (built (app_with_all_tools years)) (codes "check") (word ∷ []) refl refl
           ∙ ap (λ kinds. or_else kinds []) (level s);
     }
 
     print : Taken years (codes "print") word (print_rows word)
     unfolding defaults_fault
     print = let s = sub (print_app years) in record {
-      matches = enters (built (tool_app years)) (codes "print") (word ∷ []) refl
+      matches = enters (built (app_with_all_tools years)) (codes "print") (word ∷ []) refl
           ∙ ap (λ (w : Walk). Some (codes "print", finished s.rules w.held)) (goes s.rules);
-      faultless = fails (built (tool_app years)) (codes "print") (word ∷ []) refl refl
+      faultless = fails (built (app_with_all_tools years)) (codes "print") (word ∷ []) refl refl
           ∙ ap (λ kinds. or_else kinds []) (level s);
     }
 
@@ -175,16 +175,16 @@ plain_run words Session layout file text is are plain = absurd are
 
 -- and fail at none
 pub plain_passes : (words : List Text) (tool : Tool) (file : Text) → AreToolAndFile words tool file
-    → (some : Years) × AreYears some × (fault_of (tool_app some) words ≡ [])
+    → (some : Years) × AreYears some × (fault_of (app_with_all_tools some) words ≡ [])
 plain_passes words Check (c ∷ cs) are = (
   years,
   refl,
-  ap (fault_of (tool_app years)) are.0 ∙ (check c cs (unless (c == 45) are.1) years).faultless,
+  ap (fault_of (app_with_all_tools years)) are.0 ∙ (check c cs (unless (c == 45) are.1) years).faultless,
 )
 plain_passes words Print (c ∷ cs) are = (
   years,
   refl,
-  ap (fault_of (tool_app years)) are.0 ∙ (print c cs (unless (c == 45) are.1) years).faultless,
+  ap (fault_of (app_with_all_tools years)) are.0 ∙ (print c cs (unless (c == 45) are.1) years).faultless,
 )
 plain_passes words Check [] are = let never : false ≡ true = are.1 in cc
 plain_passes words Print [] are = let never : false ≡ true = are.1 in cc

@@ -87,26 +87,26 @@ abbrev pub alone_app : App → App
 alone_app sub = with_subcommand top_app sub.top
 
 -- shform check
-abbrev pub first_app : Years → App
-first_app years = alone_app (check_app years)
+abbrev pub app_with_check : Years → App
+app_with_check years = alone_app (check_app years)
 
 -- shform check, shform print
-abbrev pub second_app : Years → App
-second_app years = with_subcommand (first_app years) (print_app years).top
+abbrev pub app_with_check_and_print : Years → App
+app_with_check_and_print years = with_subcommand (app_with_check years) (print_app years).top
 
 -- shform check, shform print, shform session
-abbrev pub tool_app : Years → App
-tool_app years = with_subcommand (second_app years) (session_app years).top
+abbrev pub app_with_all_tools : Years → App
+app_with_all_tools years = with_subcommand (app_with_check_and_print years) (session_app years).top
 
 -- shform with the subcommand of a name alone; where there is none, with all
 abbrev pub app_named : Years → Text → App
 app_named years name = if bytes_eq name (codes "check") then alone_app (check_app years)
     else (if bytes_eq name (codes "print") then alone_app (print_app years)
-    else (if bytes_eq name (codes "session") then alone_app (session_app years) else tool_app years))
+    else (if bytes_eq name (codes "session") then alone_app (session_app years) else app_with_all_tools years))
 
 -- what is built for some words: that for the first of them
 abbrev pub app_for : Years → List Text → App
-app_for years [] = tool_app years
+app_for years [] = app_with_all_tools years
 app_for years (word ∷ words) = app_named years word
 
 -- ---- plain words, which need no clap
@@ -166,7 +166,7 @@ pub record AreSettingsOf (words : List Text) (s : Settings) : Type 0 where
   pub are_years : AreYears years
   pub name : Text
   pub own : List Row
-  pub matches : subcommand_of (tool_app years) words ≡ Some (name, own)
+  pub matches : subcommand_of (app_with_all_tools years) words ≡ Some (name, own)
   pub tool : s.tool ≡ tool_named name
   pub edition : s.edition ≡ edition_in (first_of (codes "edition") own)
   pub layout : IsLayoutFor s.tool own s.layout
@@ -176,13 +176,14 @@ pub record AreSettingsOf (words : List Text) (s : Settings) : Type 0 where
 pub record HasWideIndent (years : Years) (words : List Text) : Type 0 where
   pub name : Text
   pub own : List Row
-  pub matches : subcommand_of (tool_app years) words ≡ Some (name, own)
+  pub matches : subcommand_of (app_with_all_tools years) words ≡ Some (name, own)
   pub tool : tool_named name ≢ Check
   pub indent : 16 < indent_in (one_of (codes "indent") own)
 
 -- What there is in place of settings: clap's answer, of a kind that its model has for
 -- the words, or an indent that clap should not let pass.
 abbrev pub FailsFor : List Text → Result Settings Usage → Type 0
-FailsFor words (Ok s) = (years : Years) × AreYears years × (fault_of (tool_app years) words ≡ [])
-FailsFor words (Err (Words e)) = (years : Years) × AreYears years × HasKind (fault_of (tool_app years) words) e
+FailsFor words (Ok s) = (years : Years) × AreYears years × (fault_of (app_with_all_tools years) words ≡ [])
+FailsFor words (Err (Words e)) = (years : Years) × AreYears years
+    × HasKind (fault_of (app_with_all_tools years) words) e
 FailsFor words (Err (Indent e)) = (years : Years) × AreYears years × HasWideIndent years words

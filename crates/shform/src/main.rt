@@ -55,7 +55,7 @@ fn output_to<W: Write>(rt: &HostRuntime, device: W) -> Output<Gathering<W>>
 }
 
 /// Runs the tool over FILE, where the settings name one, and over the program's own ends.
-fn on_ends(rt: &HostRuntime, settings: &Settings<'_>, mut file: Option<Input<fs::File>>) -> u8
+fn run_on_ends(rt: &HostRuntime, settings: &Settings<'_>, mut file: Option<Input<fs::File>>) -> u8
     requires named { is_some file ≡ is_some settings.now.file }
     requires fresh { IfSome file IsOpen }
 {
@@ -86,22 +86,22 @@ fn has_input(rt: &HostRuntime) -> bool {
 }
 
 /// Does what the settings ask for, where the FILE that they name can be opened.
-fn on_settings(rt: &HostRuntime, settings: &Settings<'_>) -> u8 {
+fn open_and_run(rt: &HostRuntime, settings: &Settings<'_>) -> u8 {
     if settings.tool == Tool::Session && !has_input(rt) {
         return 2;
     }
     let Some(name) = settings.file else {
-        return on_ends(rt, settings, None);
+        return run_on_ends(rt, settings, None);
     };
     match fs::open(rt, name) {
-        Ok(file) => on_ends(rt, settings, Some(Input::new(file))),
+        Ok(file) => run_on_ends(rt, settings, Some(Input::new(file))),
         Err(_) => give_up_on(rt, name, RunError::Unreadable),
     }
 }
 
 /// Prints what `clap` says of words that ask for no run. Help and the version go to
 /// standard output, with status 0.
-fn on_words(rt: &HostRuntime, error: &clap::Error) -> u8
+fn tell_wrong_words(rt: &HostRuntime, error: &clap::Error) -> u8
     ensures { (result ≡ 0) ⊎ (result ≡ 2) }
 {
     if error.kind() == ErrorKind::OutOfMemory {
@@ -119,11 +119,11 @@ fn on_words(rt: &HostRuntime, error: &clap::Error) -> u8
 
 /// Says why words ask for no run. It stands apart for the reason that `settings` does.
 #[inline(never)]
-fn on_usage(rt: &HostRuntime, usage: &Usage) -> u8
+fn tell_usage(rt: &HostRuntime, usage: &Usage) -> u8
     ensures { (result ≡ 0) ⊎ (result ≡ 2) }
 {
     match usage {
-        Usage::Words(error) => on_words(rt, error),
+        Usage::Words(error) => tell_wrong_words(rt, error),
         Usage::Indent(_) => {
             let _ = rt.eprint("shform: indent above 16\n");
             2
@@ -149,8 +149,8 @@ fn run(rt: &HostRuntime, all: env::Args) -> Result<u8, AllocError> {
         words.push(word.as_str())?;
     }
     Ok(match settings(rt.alloc(), &words) {
-        Ok(settings) => on_settings(rt, &settings),
-        Err(usage) => on_usage(rt, &usage),
+        Ok(settings) => open_and_run(rt, &settings),
+        Err(usage) => tell_usage(rt, &usage),
     })
 }
 

@@ -4,7 +4,7 @@ ghost use Rattle.clap.specs.Matches.{has_subcommand};
 ghost use Rattle.clap.specs.Words.{FailsBy, app_of, fault_of, first_of, found_of, one_of, rows_of, rule_of, subcommand_of, subcommand_rows_of, with_rule};
 ghost use Rattle.clap.specs.declared.builder.command.Command.TheViews.{out-Command};
 ghost use Rattle.shform.specs.declared.asked.Tool.TheVariants.{Check};
-ghost use Rattle.shform.specs.Words.{AreOptions, AreSettingsOf, FailsFor, IsLayoutFor, app_for, app_named, check_app, edition_in, edition_rule, file_in, file_rule, first_app, flag_rule, indent_in, indent_rule, print_app, printing_app, reading_app, second_app, session_app, tool_app, tool_named, top_app};
+ghost use Rattle.shform.specs.Words.{AreOptions, AreSettingsOf, FailsFor, IsLayoutFor, app_for, app_named, check_app, edition_in, edition_rule, file_in, file_rule, app_with_check, flag_rule, indent_in, indent_rule, print_app, printing_app, reading_app, app_with_check_and_print, session_app, app_with_all_tools, tool_named, top_app};
 
 use crate::asked::{Settings, Tool};
 use crate::plain_words::plain_settings;
@@ -177,27 +177,27 @@ fn top_command<'a>(alloc: Global) -> Result<Command<'a>, AllocError>
 }
 
 /// The program's command with `check` alone.
-fn first_command<'a>(alloc: Global, years: &'a [&'a str]) -> Result<Command<'a>, AllocError>
-    ensures app { IfOk result (λ c. app_of c ≡ first_app years.entry) }
+fn with_check<'a>(alloc: Global, years: &'a [&'a str]) -> Result<Command<'a>, AllocError>
+    ensures app { IfOk result (λ c. app_of c ≡ app_with_check years.entry) }
     ensures local { IfOk result (λ c. (out-Command c).has_globals ≡ false) }
 {
     top_command(alloc)?.subcommand(check_command(alloc, years)?)
 }
 
 /// The program's command with `check` and `print`.
-fn second_command<'a>(alloc: Global, years: &'a [&'a str]) -> Result<Command<'a>, AllocError>
-    ensures app { IfOk result (λ c. app_of c ≡ second_app years.entry) }
+fn with_check_and_print<'a>(alloc: Global, years: &'a [&'a str]) -> Result<Command<'a>, AllocError>
+    ensures app { IfOk result (λ c. app_of c ≡ app_with_check_and_print years.entry) }
     ensures local { IfOk result (λ c. (out-Command c).has_globals ≡ false) }
 {
-    first_command(alloc, years)?.subcommand(print_command(alloc, years)?)
+    with_check(alloc, years)?.subcommand(print_command(alloc, years)?)
 }
 
 /// The program's command.
-fn tool_command<'a>(alloc: Global, years: &'a [&'a str]) -> Result<Command<'a>, AllocError>
-    ensures app { IfOk result (λ c. app_of c ≡ tool_app years.entry) }
+fn with_all_tools<'a>(alloc: Global, years: &'a [&'a str]) -> Result<Command<'a>, AllocError>
+    ensures app { IfOk result (λ c. app_of c ≡ app_with_all_tools years.entry) }
     ensures local { IfOk result (λ c. (out-Command c).has_globals ≡ false) }
 {
-    second_command(alloc, years)?.subcommand(session_command(alloc, years)?)
+    with_check_and_print(alloc, years)?.subcommand(session_command(alloc, years)?)
 }
 
 /// The program's command with the subcommand of this name alone; where there is none, with all.
@@ -210,10 +210,10 @@ fn command_named<'a>(
     ensures local { IfOk result (λ c. (out-Command c).has_globals ≡ false) }
 {
     match name {
-        "check" => first_command(alloc, years),
+        "check" => with_check(alloc, years),
         "print" => top_command(alloc)?.subcommand(print_command(alloc, years)?),
         "session" => top_command(alloc)?.subcommand(session_command(alloc, years)?),
-        _ => tool_command(alloc, years),
+        _ => with_all_tools(alloc, years),
     }
 }
 
@@ -229,7 +229,7 @@ fn command_for<'a>(
 {
     match words.split_first() {
         Some((name, _)) => command_named(alloc, years, name),
-        None => tool_command(alloc, years),
+        None => with_all_tools(alloc, years),
     }
 }
 
@@ -241,10 +241,10 @@ fn matches_of<'a>(
 ) -> Result<ArgMatches<'a>, clap::Error>
     ensures rows { IfOk result
         (λ m. subcommand_rows_of m
-        ≡ subcommand_of (tool_app years.entry) (map (λ w. w.now) words.entry.now)) }
+        ≡ subcommand_of (app_with_all_tools years.entry) (map (λ w. w.now) words.entry.now)) }
     ensures some { IfOk result (λ m. has_subcommand m ≡ true) }
-    ensures fails { FailsBy (fault_of (tool_app years.entry) (map (λ w. w.now) words.entry.now))
-        result }
+    ensures fails { FailsBy (fault_of (app_with_all_tools years.entry)
+        (map (λ w. w.now) words.entry.now)) result }
 {
     command_for(alloc, years, words)?.try_get_matches_from(words)
 }
