@@ -137,8 +137,8 @@ unfolding continues raw_stands
 pair_front T p q pair le =
     let parts : (is_byte (slice_get T p) 92 ≡ true) × (is_byte (slice_get T (p + 1)) 10 ≡ true) = and_parts _ _ pair in
     let next : p + 1 + 1 ≡ p + 2 = omega arith in
-    raw_front T p q 92 (is_that (slice_get T p) 92 parts.0) (omega (arith, le))
-    ∙ ap (λ z. 92 ∷ z) (raw_front T (p + 1) q 10 (is_that (slice_get T (p + 1)) 10 parts.1) (omega (arith, le))
+    raw_front T p q 92 (that_byte (slice_get T p) 92 parts.0) (omega (arith, le))
+    ∙ ap (λ z. 92 ∷ z) (raw_front T (p + 1) q 10 (that_byte (slice_get T (p + 1)) 10 parts.1) (omega (arith, le))
     ∙ ap (λ r. 10 ∷ raw T r q) next)
 
 abbrev Digits : Text → Type 0

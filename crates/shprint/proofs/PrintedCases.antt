@@ -291,11 +291,11 @@ module _ {edition : Edition} {B T : List ℕ} {o : ℕ} {S : StandsIn edition B 
       let at_q = subst (λ r. At S h r (text (codes "|") ∷ X)) (sym gap.blanks)
       (at_text S h f (codes " ") (text (codes "|") ∷ X) at) in
       let there_q = at_q ∙ laid_text h (codes "|") X in
-      let r_q = byte_here T q 124 (lay h X) refl there_q in
+      let the_bar = byte_here T q 124 (lay h X) refl there_q in
       let moved : Gives (g S) (move one_byte) (state h q) tt (state h (q + 1)) =
       subst (λ p. Gives (g S) (move one_byte) (state h q) tt (state h p)) r_q.place_after (moved_here one_byte) in
       let v = word_at h Suffix begins_word (codes " ") w (q + 1) (more_marks ws ms) refl good.0
-      (more_follows ws ms) r_q.rest in
+      (more_follows ws ms) the_bar.rest in
       let others = patterns_read h ws (acc ++ v.value ∷ []) v.e ms good.1 v.at in
       let n = asked S Suffix f in
       let turned : Gives (g S) (pattern_turn (level room) (patterned acc n)) (state h q)
@@ -408,7 +408,7 @@ module _ {edition : Edition} {B T : List ℕ} {o : ℕ} {S : StandsIn edition B 
 
   record EnderRead (h : Held) (e : ℕ) (falls : Bool) (ms : Marks) : Type 0 where
     token_is : told S Command (past_blanks T e) ≡ ender_token falls
-    no_comment_it : raw_stands T (past_blanks T e) 35 ≡ false
+    not_comment : raw_stands T (past_blanks T e) 35 ≡ false
     f : ℕ
     at : At S h f ms
     low : past_blanks T e < f
@@ -428,7 +428,7 @@ module _ {edition : Edition} {B T : List ℕ} {o : ℕ} {S : StandsIn edition B 
       let at_after = byte_after S q 59 d (lay h ms) at_q in
       record {
         token_is = token_is q (lay h ms) at_q;
-        no_comment_it = no_byte S q 59 (d ∷ lay h ms) 35 refl at_q;
+        not_comment = no_byte S q 59 (d ∷ lay h ms) 35 refl at_q;
         f = q + 1 + 1;
         at = next_one T (q + 1) d (lay h ms) at_after;
         low = omega arith;
@@ -451,9 +451,9 @@ module _ {edition : Edition} {B T : List ℕ} {o : ℕ} {S : StandsIn edition B 
       let d = ender_read h m e falls ms blank later at in
       let none = begins_none falls in
       record {
-        no_entry_it = ap begins_pipeline d.token_is ∙ none.0;
-        no_newline_it = ap is_newline_token d.token_is ∙ none.1;
-        no_comment_it = d.no_comment_it;
+        not_entry = ap begins_pipeline d.token_is ∙ none.0;
+        not_newline = ap is_newline_token d.token_is ∙ none.1;
+        not_comment = d.not_comment;
       }
 
   -- ---- bodies
@@ -629,9 +629,9 @@ module _ {edition : Edition} {B T : List ℕ} {o : ℕ} {S : StandsIn edition B 
       let vs = patterns_read h ws (v.value ∷ []) v.e D good.0.1.1 v.at in
       let bracket = bracket_next h Suffix vs.e D vs.at in
       let z = past_blanks T vs.e in
-      let r_z = byte_here T z 41 (lay h D) refl
+      let the_paren = byte_here T z 41 (lay h D) refl
       (subst (λ p. drop p T ≡ 41 ∷ lay h D) (sym bracket.1) (vs.at ∙ laid_text h (codes ")") D)) in
-      let b = item_body_read h P body mark.falls (z + 1) N blank_p good.0.3 good.0.2 two_of.1 one_of.1 r_z.rest in
+      let b = item_body_read h P body mark.falls (z + 1) N blank_p good.0.3 good.0.2 two_of.1 one_of.1 the_paren.rest in
       let d = b.ended in
       let l = break_read P (items_margin y m items) blank_p (items_blank y m items blank)
       (items_marks y m items tail rest) (λ h. items_operand h m items tail rest good.1 stop) b.later
@@ -663,7 +663,7 @@ module _ {edition : Edition} {B T : List ℕ} {o : ℕ} {S : StandsIn edition B 
       second_of _ _ other.esac
       (seen_here the_place ⟫ second_of _ _ other.bracket given_here ⟫ listed
       ⟫ first_of _ _ (ap (λ (n : Next). is_closing closings.Paren n.token) bracket.0)
-      (paren_alone S h (closing_text closings.Paren) z r_z.place_after)
+      (paren_alone S h (closing_text closings.Paren) z the_paren.place_after)
       ⟫ b.reads ⟫ ended ⟫ pushed_here acc it ⟫ given_here) in
       let onward : q < past_blanks T l.e =
       omega (
@@ -728,7 +728,7 @@ module _ {edition : Edition} {B T : List ℕ} {o : ℕ} {S : StandsIn edition B 
         at = c.key.at;
         texts = λ ts. c.texts ts ∙ l.texts (cases_bodies items ts);
         reads = (first_of _ _ v.begin (v.reads ⟫ next_read S h Command v.e ⟫ given_here) ⟫ no_lines S h
-            (asked S Command v.e) (past_blanks T v.e) k.no_comment_it (ap is_newline_token k.token_is)
+            (asked S Command v.e) (past_blanks T v.e) k.not_comment (ap is_newline_token k.token_is)
             ⟫ closing_read fine h closings.In reserved.In v.e X refl refl k ⟫ l.reads ⟫ given_here) ⟫ c.reads ⟫
             closing_read fine c.later closings.Esac reserved.Esac c.f rest refl refl c.key ⟫ given_here;
         is = case_shape v.value c.value c.comments w items tail v.shape c.shape c.tail_shape;

@@ -333,33 +333,34 @@ module _ {edition : Edition} {B T : List ℕ} {o : ℕ} {S : StandsIn edition B 
       → is_pipe n.token ≡ true → n.broken ≡ false →
       At S h q (text (codes "|") ∷ (join_rest y m j ++ (print_command y d c ++ ms))) → PipeRead h acc n q j c ms
   unfolding pipe_turn one_command
-  one_pipe h m d j c acc n q ms t blank blank_d normal_j good_j good normal f none is_it unbroken at =
+  one_pipe h m d j c acc n q ms t blank blank_d normal_j good_j good normal f none pipe_is unbroken at =
       let X = print_command y d c ++ ms in
       let there = at ∙ laid_text h (codes "|") (join_rest y m j ++ X) in
       let r = byte_here T q 124 (lay h (join_rest y m j ++ X)) refl there in
       let moved : Gives (g S) (move one_byte) (state h q) tt (state h (q + 1)) =
       subst (λ p. Gives (g S) (move one_byte) (state h q) tt (state h p)) r.place_after (moved_here one_byte) in
-      let jr = join_read S h y m X (deeper_blank y m blank)
+      let join_got = join_read S h y m X (deeper_blank y m blank)
       (λ h p at. begins_operand S p (command_begins h d c p ms good f.follow at)) j.broken j.comments
       (q + 1) normal_j good_j (at_text S h q (codes "|") (join_rest y m j ++ X) at) in
-      let cr = command_read jr.later d c jr.next jr.q ms t blank_d good normal f none jr.token_is jr.at in
-      let part : APipelinePart = record { join = jr.join; command = cr.value } in
-      let joined_it : Gives (g S) (a_join n.broken) (state h (q + 1)) (jr.join, jr.next) (state jr.later jr.q) =
-      rw unbroken jr.reads in
-      let low_j = gives_on (a_join false) _ _ _ jr.reads in
-      let low_c = gives_on (a_command (level room) jr.next) _ _ _ cr.reads in
+      let command_got = command_read join_got.later d c join_got.next join_got.q ms t blank_d good normal f none
+      join_got.token_is join_got.at in
+      let part : APipelinePart = record { join = join_got.join; command = command_got.value } in
+      let joined_it : Gives (g S) (a_join n.broken) (state h (q + 1)) (join_got.join, join_got.next)
+      (state join_got.later join_got.q) = rw unbroken join_got.reads in
+      let low_j = gives_on (a_join false) _ _ _ join_got.reads in
+      let low_c = gives_on (a_command (level room) join_got.next) _ _ _ command_got.reads in
       record {
         part = part;
-        «end» = cr.«end»;
-        later = cr.later;
-        at = cr.at;
-        reads = first_of _ _ is_it
-            (told_here (by (codes "|")) moved ⟫ joined_it ⟫ cr.reads ⟫ pushed_here acc part ⟫ given_here);
-        on = leads S h cr.later q (past_blanks T cr.«end») (omega (arith, low_j, low_c))
+        «end» = command_got.«end»;
+        later = command_got.later;
+        at = command_got.at;
+        reads = first_of _ _ pipe_is
+            (told_here (by (codes "|")) moved ⟫ joined_it ⟫ command_got.reads ⟫ pushed_here acc part ⟫ given_here);
+        on = leads S h command_got.later q (past_blanks T command_got.«end») (omega (arith, low_j, low_c))
             (some_here S q 124 (lay h (join_rest y m j ++ X)) there);
-        join_is = jr.shape;
-        command_is = cr.is;
-        texts = λ ts. cr.texts ts ∙ jr.texts (command_bodies c ts);
+        join_is = join_got.shape;
+        command_is = command_got.is;
+        texts = λ ts. command_got.texts ts ∙ join_got.texts (command_bodies c ts);
       }
 
   pipes_read : (h : Held) (m : Text) (b : Bool) (cs : Shape PipelinePartsOf) (acc : Row APipelinePart) (e : ℕ)
@@ -367,18 +368,18 @@ module _ {edition : Edition} {B T : List ℕ} {o : ℕ} {S : StandsIn edition B 
       → Follower S rest t → begins_simple t ≡ false → is_pipe t ≡ false → At S h e (print_pipes y m b cs ++ rest) →
       PipesRead h acc (asked S Command e) (past_blanks T e) cs rest
   unfolding pipe_turn open_pipes pipes_bodies
-  pipes_read h m b no_pipe acc e rest t blank good normal f none no_pipe_it at = record {
+  pipes_read h m b no_pipe acc e rest t blank good normal f none not_pipe at = record {
     parts = [];
     «end» = e;
     later = h;
     at = at;
     reads = rw (append-nil acc)
         (last_turn (pipe_turn (level room))
-        (second_of _ _ (ap (λ (n : Next). is_pipe n.token) (f.seen_as h e at Command) ∙ no_pipe_it) given_here));
+        (second_of _ _ (ap (λ (n : Next). is_pipe n.token) (f.seen_as h e at Command) ∙ not_pipe) given_here));
     shape = refl;
     texts = λ ts. refl;
   }
-  pipes_read h m b (more_pipes j c cs) acc e rest t blank good normal f none no_pipe_it at =
+  pipes_read h m b (more_pipes j c cs) acc e rest t blank good normal f none not_pipe at =
       let d = operand_margin y m (b || breaks_line j) in
       let ms = print_pipes y m (b || breaks_line j) cs ++ rest in
       let X = print_command y d c ++ ms in
@@ -397,7 +398,7 @@ module _ {edition : Edition} {B T : List ℕ} {o : ℕ} {S : StandsIn edition B 
       follow.no_item
       (ap (λ (n : Next). is_pipe n.token) n_is) (ap (λ (n : Next). n.broken) n_is) at_q in
       let others = pipes_read one.later m (b || breaks_line j) cs
-      (acc ++ one.part ∷ []) one.«end» rest t blank good.2 parts.1 f none no_pipe_it one.at in
+      (acc ++ one.part ∷ []) one.«end» rest t blank good.2 parts.1 f none not_pipe one.at in
       record {
         parts = one.part ∷ others.parts;
         «end» = others.«end»;
@@ -487,9 +488,9 @@ module _ {edition : Edition} {B T : List ℕ} {o : ℕ} {S : StandsIn edition B 
       let r = byte_here T p 33 (32 ∷ lay h ms) refl there in
       let moved : Gives (g S) (move one_byte) (state h p) tt (state h (p + 1)) =
       subst (λ q. Gives (g S) (move one_byte) (state h p) tt (state h q)) r.place_after (moved_here one_byte) in
-      let space : At S h (p + 1) (text (codes " ") ∷ ms) = r.rest ∙ sym (laid_text h (codes " ") ms) in
-      let at_after = at_text S h (p + 1) (codes " ") ms space in
-      let gap = margin_gap S h (codes " ") (p + 1) ms refl space (begins (p + 1 + 1) at_after).start in
+      let at_space : At S h (p + 1) (text (codes " ") ∷ ms) = r.rest ∙ sym (laid_text h (codes " ") ms) in
+      let at_after = at_text S h (p + 1) (codes " ") ms at_space in
+      let gap = margin_gap S h (codes " ") (p + 1) ms refl at_space (begins (p + 1 + 1) at_after).start in
       record {
         value = Some (span o p (p + 1));
         next = asked S Command (p + 1);
@@ -515,24 +516,26 @@ module _ {edition : Edition} {B T : List ℕ} {o : ℕ} {S : StandsIn edition B 
       At S h p (print_pipeline y m x ++ rest)
       → Got S h (a_pipeline (level room) n) p rest (pipeline_bodies x) (λ v. shape_of_pipeline B v ≡ open_pipeline [] x)
   unfolding a_pipeline pipeline_bodies
-  pipeline_read h m (pipeline bang c cs) n p rest t blank good normal f none no_pipe_it token_is at =
+  pipeline_read h m (pipeline bang c cs) n p rest t blank good normal f none not_pipe token_is at =
       let parts = and_parts _ _ normal in
       let follow = pipes_follow m false cs rest t f none in
       let ms = print_pipes y m false cs ++ rest in
-      let br = bang_read h n p bang (print_command y m c ++ ms)
+      let bang_got = bang_read h n p bang (print_command y m c ++ ms)
       (λ q at. command_begins h m c q ms good.0 follow.follower.follow at) token_is
       (at ∙ ap (lay h) (pipeline_marks m bang c cs rest)) in
-      let cr = command_read h m c br.next br.q ms follow.token blank good.0 parts.0 follow.follower follow.no_item
-      br.token_is br.at in
-      let pr = pipes_read cr.later m false cs [] cr.«end» rest t blank good.1 parts.1 f none no_pipe_it cr.at in
+      let command_got = command_read h m c bang_got.next bang_got.q ms follow.token blank good.0 parts.0
+      follow.follower follow.no_item bang_got.token_is bang_got.at in
+      let pipes_got = pipes_read command_got.later m false cs [] command_got.«end» rest t blank good.1 parts.1
+      f none not_pipe command_got.at in
       record {
-        value = pipeline br.value cr.value (pipeline_parts_of pr.parts);
-        «end» = pr.«end»;
-        later = pr.later;
-        at = pr.at;
-        texts = λ ts. pr.texts ts ∙ cr.texts (pipes_bodies cs ts);
-        reads = br.reads ⟫ cr.reads ⟫ pr.reads ⟫ given_here;
-        is = pipeline_shape br.value cr.value pr.parts bang c cs br.shape cr.is pr.shape;
+        value = pipeline bang_got.value command_got.value (pipeline_parts_of pipes_got.parts);
+        «end» = pipes_got.«end»;
+        later = pipes_got.later;
+        at = pipes_got.at;
+        texts = λ ts. pipes_got.texts ts ∙ command_got.texts (pipes_bodies cs ts);
+        reads = bang_got.reads ⟫ command_got.reads ⟫ pipes_got.reads ⟫ given_here;
+        is = pipeline_shape bang_got.value command_got.value pipes_got.parts bang c cs bang_got.shape command_got.is
+            pipes_got.shape;
       }
 
   -- ---- and-or lists
@@ -559,13 +562,13 @@ module _ {edition : Edition} {B T : List ℕ} {o : ℕ} {S : StandsIn edition B 
     token : Token
     follower : Follower S ms token
     no_item : begins_simple token ≡ false
-    no_pipe_it : is_pipe token ≡ false
+    not_pipe : is_pipe token ≡ false
 
   parts_follow : (m : Text) (b : Bool) (xs : Shape AndOrPartsOf) (rest : Marks) (t : Token) → Follower S rest t →
       begins_simple t ≡ false → is_pipe t ≡ false → PartsFollow (print_and_or_parts y m b xs ++ rest)
-  parts_follow m b no_and_or rest t f none no_pipe_it =
-      record { token = t; follower = f; no_item = none; no_pipe_it = no_pipe_it }
-  parts_follow m b (more_and_or k j x xs) rest t f none no_pipe_it =
+  parts_follow m b no_and_or rest t f none not_pipe =
+      record { token = t; follower = f; no_item = none; not_pipe = not_pipe }
+  parts_follow m b (more_and_or k j x xs) rest t f none not_pipe =
       let ms = print_pipeline y (operand_margin y m (b || breaks_line j)) x
       ++ (print_and_or_parts y m (b || breaks_line j) xs ++ rest) in
       let other = operator_no_item k in
@@ -574,7 +577,7 @@ module _ {edition : Edition} {B T : List ℕ} {o : ℕ} {S : StandsIn edition B 
         follower = subst (λ ks. Follower S ks (operator_token k)) (sym (part_marks m b k j x xs rest))
             (operator_follower S k (join_rest y m j ++ ms));
         no_item = other.0;
-        no_pipe_it = other.1;
+        not_pipe = other.1;
       }
 
   -- two bytes are passed
@@ -639,35 +642,35 @@ module _ {edition : Edition} {B T : List ℕ} {o : ℕ} {S : StandsIn edition B 
       At S h q (text (and_or_text k) ∷ (join_rest y m j ++ (print_pipeline y d x ++ ms))) →
       PartRead h acc n q k j x ms
   unfolding and_or_turn one_pipeline
-  one_part h m d k j x acc n q ms t blank blank_d normal_j good_j good normal f none no_pipe_it is_it unbroken
+  one_part h m d k j x acc n q ms t blank blank_d normal_j good_j good normal f none not_pipe operator_is unbroken
       at =
       let X = print_pipeline y d x ++ ms in
       let moved = operator_passed h k q (join_rest y m j ++ X) at in
       let at_after = subst (λ n. At S h (q + n) (join_rest y m j ++ X)) (operator_length k)
       (at_text S h q (and_or_text k) (join_rest y m j ++ X) at) in
-      let jr = join_read S h y m X (deeper_blank y m blank)
+      let join_got = join_read S h y m X (deeper_blank y m blank)
       (λ h p at. (pipeline_begins h d x p ms t good f none at).operand) j.broken j.comments
       (q + 2) normal_j good_j at_after in
-      let xr = pipeline_read jr.later d x jr.next jr.q ms t blank_d good normal f none no_pipe_it jr.token_is
-      jr.at in
-      let part : AnAndOrPart = record { operator = k; join = jr.join; pipeline = xr.value } in
-      let joined_it : Gives (g S) (a_join n.broken) (state h (q + 2)) (jr.join, jr.next) (state jr.later jr.q) =
-      rw unbroken jr.reads in
-      let low_j = gives_on (a_join false) _ _ _ jr.reads in
-      let low_x = gives_on (a_pipeline (level room) jr.next) _ _ _ xr.reads in
+      let pipeline_got = pipeline_read join_got.later d x join_got.next join_got.q ms t blank_d good normal f none
+      not_pipe join_got.token_is join_got.at in
+      let part : AnAndOrPart = record { operator = k; join = join_got.join; pipeline = pipeline_got.value } in
+      let joined_it : Gives (g S) (a_join n.broken) (state h (q + 2)) (join_got.join, join_got.next)
+      (state join_got.later join_got.q) = rw unbroken join_got.reads in
+      let low_j = gives_on (a_join false) _ _ _ join_got.reads in
+      let low_x = gives_on (a_pipeline (level room) join_got.next) _ _ _ pipeline_got.reads in
       record {
         part = part;
-        «end» = xr.«end»;
-        later = xr.later;
-        at = xr.at;
-        reads = rw is_it (told_here
-            (by (and_or_text k)) moved ⟫ joined_it ⟫ xr.reads ⟫ pushed_here acc part ⟫ given_here);
-        on = leads S h xr.later q (past_blanks T xr.«end») (omega (arith, low_j, low_x))
+        «end» = pipeline_got.«end»;
+        later = pipeline_got.later;
+        at = pipeline_got.at;
+        reads = rw operator_is (told_here
+            (by (and_or_text k)) moved ⟫ joined_it ⟫ pipeline_got.reads ⟫ pushed_here acc part ⟫ given_here);
+        on = leads S h pipeline_got.later q (past_blanks T pipeline_got.«end») (omega (arith, low_j, low_x))
             (operator_here h k q (join_rest y m j ++ X) at);
         operator_is = refl;
-        join_is = jr.shape;
-        pipeline_is = xr.is;
-        texts = λ ts. xr.texts ts ∙ jr.texts (pipeline_bodies x ts);
+        join_is = join_got.shape;
+        pipeline_is = pipeline_got.is;
+        texts = λ ts. pipeline_got.texts ts ∙ join_got.texts (pipeline_bodies x ts);
       }
 
   record PartsRead (h : Held) (acc : Row AnAndOrPart) (n : Next) (p : ℕ) (xs : Shape AndOrPartsOf)
@@ -713,7 +716,7 @@ module _ {edition : Edition} {B T : List ℕ} {o : ℕ} {S : StandsIn edition B 
       At S h e (print_and_or_parts y m b xs ++ rest) →
       PartsRead h acc (asked S Command e) (past_blanks T e) xs rest
   unfolding open_and_or_parts and_or_parts_bodies
-  parts_read h m b no_and_or acc e rest t blank good normal f none no_pipe_it no_operator at = record {
+  parts_read h m b no_and_or acc e rest t blank good normal f none not_pipe no_operator at = record {
     parts = [];
     «end» = e;
     later = h;
@@ -725,7 +728,7 @@ module _ {edition : Edition} {B T : List ℕ} {o : ℕ} {S : StandsIn edition B 
     shape = refl;
     texts = λ ts. refl;
   }
-  parts_read h m b (more_and_or k j x xs) acc e rest t blank good normal f none no_pipe_it no_operator at =
+  parts_read h m b (more_and_or k j x xs) acc e rest t blank good normal f none not_pipe no_operator at =
       let d = operand_margin y m (b || breaks_line j) in
       let ms = print_and_or_parts y m (b || breaks_line j) xs ++ rest in
       let X = print_pipeline y d x ++ ms in
@@ -737,14 +740,14 @@ module _ {edition : Edition} {B T : List ℕ} {o : ℕ} {S : StandsIn edition B 
       let q = past_blanks T e in
       let at_q = subst (λ r. At S h r (text (and_or_text k) ∷ (join_rest y m j ++ X))) (sym gap.blanks)
       (at_text S h e (codes " ") (text (and_or_text k) ∷ (join_rest y m j ++ X)) there) in
-      let follow = parts_follow m (b || breaks_line j) xs rest t f none no_pipe_it in
+      let follow = parts_follow m (b || breaks_line j) xs rest t f none not_pipe in
       let one = one_part h m d k j x acc (asked S Command e) q ms follow.token blank
       (operand_blank y m (b || breaks_line j) blank) first_parts.0 good.0 good.1 first_parts.1 follow.follower
-      follow.no_item follow.no_pipe_it
+      follow.no_item follow.not_pipe
       (ap (λ (n : Next). and_or_operator_of n.token) n_is ∙ (operator_no_item k).2)
       (ap (λ (n : Next). n.broken) n_is) at_q in
       let others = parts_read one.later m (b || breaks_line j) xs
-      (acc ++ one.part ∷ []) one.«end» rest t blank good.2 parts.1 f none no_pipe_it no_operator one.at in
+      (acc ++ one.part ∷ []) one.«end» rest t blank good.2 parts.1 f none not_pipe no_operator one.at in
       record {
         parts = one.part ∷ others.parts;
         «end» = others.«end»;
@@ -765,8 +768,8 @@ module _ {edition : Edition} {B T : List ℕ} {o : ℕ} {S : StandsIn edition B 
   pub and_or_begins : (h : Held) (m : Text) (a : Shape AnAndOrOf) (p : ℕ) (rest : Marks) (t : Token) →
       GoodAndOr edition room a → Follower S rest t → begins_simple t ≡ false → is_pipe t ≡ false
       → At S h p (print_and_or y m a ++ rest) → PipelineBegins S p
-  and_or_begins h m (and_or x xs) p rest t good f none no_pipe_it at =
-      let follow = parts_follow m false xs rest t f none no_pipe_it in
+  and_or_begins h m (and_or x xs) p rest t good f none not_pipe at =
+      let follow = parts_follow m false xs rest t f none not_pipe in
       pipeline_begins h m x p (print_and_or_parts y m false xs ++ rest) follow.token good.0 follow.follower
       follow.no_item (at ∙ ap (lay h) (and_or_marks m x xs rest))
 
@@ -783,20 +786,20 @@ module _ {edition : Edition} {B T : List ℕ} {o : ℕ} {S : StandsIn edition B 
       n.token ≡ told S Command p → At S h p (print_and_or y m a ++ rest)
       → Got S h (an_and_or (level room) n) p rest (and_or_bodies a) (λ v. shape_of_and_or B v ≡ open_and_or [] a)
   unfolding an_and_or and_or_bodies
-  and_or_read h m (and_or x xs) n p rest t blank good normal f none no_pipe_it no_operator token_is at =
+  and_or_read h m (and_or x xs) n p rest t blank good normal f none not_pipe no_operator token_is at =
       let parts = and_parts _ _ normal in
-      let follow = parts_follow m false xs rest t f none no_pipe_it in
-      let xr = pipeline_read h m x n p
+      let follow = parts_follow m false xs rest t f none not_pipe in
+      let pipeline_got = pipeline_read h m x n p
       (print_and_or_parts y m false xs ++ rest) follow.token blank good.0 parts.0 follow.follower
-      follow.no_item follow.no_pipe_it token_is (at ∙ ap (lay h) (and_or_marks m x xs rest)) in
-      let pr = parts_read xr.later m false xs [] xr.«end» rest t blank good.1 parts.1 f none no_pipe_it
-      no_operator xr.at in
+      follow.no_item follow.not_pipe token_is (at ∙ ap (lay h) (and_or_marks m x xs rest)) in
+      let parts_got = parts_read pipeline_got.later m false xs [] pipeline_got.«end» rest t blank good.1 parts.1
+      f none not_pipe no_operator pipeline_got.at in
       record {
-        value = and_or xr.value (and_or_parts_of pr.parts);
-        «end» = pr.«end»;
-        later = pr.later;
-        at = pr.at;
-        texts = λ ts. pr.texts ts ∙ xr.texts (and_or_parts_bodies xs ts);
-        reads = xr.reads ⟫ pr.reads ⟫ given_here;
-        is = and_or_shape xr.value pr.parts x xs xr.is pr.shape;
+        value = and_or pipeline_got.value (and_or_parts_of parts_got.parts);
+        «end» = parts_got.«end»;
+        later = parts_got.later;
+        at = parts_got.at;
+        texts = λ ts. parts_got.texts ts ∙ pipeline_got.texts (and_or_parts_bodies xs ts);
+        reads = pipeline_got.reads ⟫ parts_got.reads ⟫ given_here;
+        is = and_or_shape pipeline_got.value parts_got.parts x xs pipeline_got.is parts_got.shape;
       }

@@ -175,7 +175,7 @@ module _ {edition : Edition} {B T : List ℕ} {o : ℕ} (S : StandsIn edition B 
   -- a reserved word after a margin
   pub record ReservedRead (h : Held) (e : ℕ) (r : Reserved) (ms : Marks) : Type 0 where
     pub token_is : told S Command (past_blanks T e) ≡ tokens.Reserved r
-    pub no_comment_it : raw_stands T (past_blanks T e) 35 ≡ false
+    pub not_comment : raw_stands T (past_blanks T e) 35 ≡ false
     pub s : Span
     pub f : ℕ
     pub at : At S h f ms
@@ -212,7 +212,7 @@ module _ {edition : Edition} {B T : List ℕ} {o : ℕ} (S : StandsIn edition B 
       let kq = key h q (at_q ∙ laid_text h w ms) in
       record {
         token_is = tell S kq.token;
-        no_comment_it = no_sharp S q kq.start.place (ap is_comment (tell S kq.token));
+        not_comment = no_sharp S q kq.start.place (ap is_comment (tell S kq.token));
         s = span o q (q + length w);
         f = q + length w;
         at = at_text S h q w ms at_q;
@@ -231,9 +231,9 @@ module _ {edition : Edition} {B T : List ℕ} {o : ℕ} (S : StandsIn edition B 
   reserved_closes m w r ms blank key none h e at =
       let k = reserved_read h m w r e ms blank key at in
       record {
-        no_entry_it = ap begins_pipeline k.token_is ∙ none;
-        no_newline_it = ap is_newline_token k.token_is;
-        no_comment_it = k.no_comment_it;
+        not_entry = ap begins_pipeline k.token_is ∙ none;
+        not_newline = ap is_newline_token k.token_is;
+        not_comment = k.not_comment;
       }
 
   pub key_by : (w : Text) (r : Reserved) (ms : Marks) → Ends ms →
@@ -343,36 +343,36 @@ module _ {edition : Edition} {B T : List ℕ} {o : ℕ} {S : StandsIn edition B 
   unfolding an_entry open_entry open_content
   short_read h m a n p ms blank good normal token_is closes at =
       let follower = semicolon_follower S ms in
-      let ar = and_or_read fine h m a n p
+      let and_or_got = and_or_read fine h m a n p
       (text (codes "; ") ∷ ms) tokens.Semicolon blank good normal follower refl refl refl token_is at in
-      let k = ar.later in
-      let there = ar.at ∙ laid_text k (codes "; ") ms in
-      let gap = no_gap (start_here (byte_here T ar.«end» 59 (32 ∷ lay k ms) refl there) refl) in
-      let q = past_blanks T ar.«end» in
-      let r_q = byte_here T q 59 (32 ∷ lay k ms) refl
+      let k = and_or_got.later in
+      let there = and_or_got.at ∙ laid_text k (codes "; ") ms in
+      let gap = no_gap (start_here (byte_here T and_or_got.«end» 59 (32 ∷ lay k ms) refl there) refl) in
+      let q = past_blanks T and_or_got.«end» in
+      let the_semicolon = byte_here T q 59 (32 ∷ lay k ms) refl
       (subst (λ r. drop r T ≡ 59 ∷ 32 ∷ lay k ms) (sym gap.blanks) there) in
-      let n_is = follower.seen_as k ar.«end» ar.at Command in
-      let at_after : At S k (q + 1) (text (codes " ") ∷ ms) = r_q.rest ∙ sym (laid_text k (codes " ") ms) in
-      let low = gives_on (an_and_or (level room) n) _ _ _ ar.reads in
+      let n_is = follower.seen_as k and_or_got.«end» and_or_got.at Command in
+      let at_after : At S k (q + 1) (text (codes " ") ∷ ms) = the_semicolon.rest ∙ sym (laid_text k (codes " ") ms) in
+      let low = gives_on (an_and_or (level room) n) _ _ _ and_or_got.reads in
       record {
-        value = entry (command ar.value) false false None;
+        value = entry (command and_or_got.value) false false None;
         f = q + 1;
         later = k;
         at = at_after;
-        reads = ar.reads ⟫ some_separator S k (asked S Command ar.«end») q Semicolon
-            (ap (λ (n : Next). separator_of n.token) n_is) r_q.place_after
+        reads = and_or_got.reads ⟫ some_separator S k (asked S Command and_or_got.«end») q Semicolon
+            (ap (λ (n : Next). separator_of n.token) n_is) the_semicolon.place_after
             ⟫ no_comment_read S k (asked S Command (q + 1)) (past_blanks T (q + 1))
-            (closes k (q + 1) at_after).no_comment_it ⟫ given_here;
+            (closes k (q + 1) at_after).not_comment ⟫ given_here;
         on = omega (arith, low, blanks_low T (q + 1));
-        shape = ap (λ a. entry (command a) false false None) ar.is;
-        texts = ar.texts;
+        shape = ap (λ a. entry (command a) false false None) and_or_got.is;
+        texts = and_or_got.texts;
       }
 
   short_line : (h : Held) (m : Text) (a : Shape AnAndOrOf) (f : ℕ) (w : Text) (r : Reserved) (ms : Marks) →
       all_blank m ≡ true → GoodAndOr edition room a → is_normal_and_or a ≡ true → Key S w r ms
       → begins_pipeline (tokens.Reserved r) ≡ false →
       At S h f (text (codes " ") ∷ (print_and_or y m a ++ (text (codes "; ") ∷ text w ∷ ms))) →
-      CondRead h f (one_command_list a) r ms
+      InnerList h f (one_command_list a) r ms
   unfolding list_turn on_line entry_turn one_entry a_list opened entries_bodies entry_bodies content_bodies
   short_line h m a f w r ms blank good normal key none at =
       let A = print_and_or y m a ++ (text (codes "; ") ∷ text w ∷ ms) in
@@ -400,10 +400,10 @@ module _ {edition : Edition} {B T : List ℕ} {o : ℕ} {S : StandsIn edition B 
       first_of _ _ b.begins (one_read.reads ⟫ pushed_here [] v ⟫ given_here) in
       let entries_read = one_turn (entry_turn (level room)) one_entry_read
       (leads S h k p q one_read.on (pipeline_within S p b))
-      (last_turn (entry_turn (level room)) (no_entry_turn fine k l z q c.no_entry_it)) in
+      (last_turn (entry_turn (level room)) (no_entry_turn fine k l z q c.not_entry)) in
       let line_read : Gives (g S) (list_turn (level room) (list_so (none_listed false) n)) (state h p)
       (done (list_so (at_line_start (v ∷ []) false true past) z)) (state k q) =
-      (entries_read ⟫ no_remark S k l z q c.no_comment_it) ⟫ no_newline_read S k z q c.no_newline_it ⟫ given_here in
+      (entries_read ⟫ no_remark S k l z q c.not_comment) ⟫ no_newline_read S k z q c.not_newline ⟫ given_here in
       let got = list_of fine h k (one_command_list a) n p (text (codes " ") ∷ text w ∷ ms)
       (v ∷ []) false past one_read.f (last_turn (list_turn (level room)) line_read) refl one_read.at one_read.texts
       (ap (λ x. more_entries x no_entry) one_read.shape) in
@@ -420,12 +420,12 @@ module _ {edition : Edition} {B T : List ℕ} {o : ℕ} {S : StandsIn edition B 
   cond_read : (h : Held) (m : Text) (es : Shape EntriesOf) (f : ℕ) (w : Text) (r : Reserved) (ms : Marks) →
       all_blank m ≡ true → GoodEntries edition room es → is_whole es ≡ true → are_normal es ≡ true → Key S w r ms
       → begins_pipeline (tokens.Reserved r) ≡ false → At S h f (cond_marks y m es ++ (text w ∷ ms)) →
-      CondRead h f es r ms
-  cond_read h m es f w r ms blank good whole normal key none at =
+      InnerList h f es r ms
+  condition_read h m es f w r ms blank good whole normal key none at =
       by_form h (one_line_or_more es) good whole normal at
     where
       by_form : (h : Held) {js : Shape EntriesOf} → OneLine js → GoodEntries edition room js → is_whole js ≡ true
-          → are_normal js ≡ true → At S h f (cond_marks y m js ++ (text w ∷ ms)) → CondRead h f js r ms
+          → are_normal js ≡ true → At S h f (cond_marks y m js ++ (text w ∷ ms)) → InnerList h f js r ms
       by_form h (on_one a true) good whole normal at = absurd cc
       by_form h (on_one a false) good whole normal at =
           short_line h m a f w r ms blank good.0.0 (and_parts _ _ normal).0 key none
@@ -858,17 +858,17 @@ module _ {edition : Edition} {B T : List ℕ} {o : ℕ} {S : StandsIn edition B 
       let there = at ∙ laid_text h (codes "; ") (text w ∷ ms) in
       let gap = no_gap (start_here (byte_here T e 59 (32 ∷ lay h (text w ∷ ms)) refl there) refl) in
       let q = past_blanks T e in
-      let r_q = byte_here T q 59 (32 ∷ lay h (text w ∷ ms)) refl
+      let the_semicolon = byte_here T q 59 (32 ∷ lay h (text w ∷ ms)) refl
       (subst (λ r. drop r T ≡ 59 ∷ 32 ∷ lay h (text w ∷ ms)) (sym gap.blanks) there) in
       let n_is = (semicolon_follower S (text w ∷ ms)).seen_as h e at Command in
       let k = reserved_read S h (codes " ") w r (q + 1) ms refl key
-      (r_q.rest ∙ sym (laid_text h (codes " ") (text w ∷ ms))) in
+      (the_semicolon.rest ∙ sym (laid_text h (codes " ") (text w ∷ ms))) in
       let moved : Gives (g S) (move one_byte) (state h q) tt (state h (q + 1)) =
       subst (λ p. Gives (g S) (move one_byte) (state h q) tt (state h p)) r_q.place_after (moved_here one_byte) in (
         k,
         first_of _ _ (ap (λ (n : Next). is_semicolon n.token) n_is)
             (moved ⟫ next_read S h Command (q + 1) ⟫ given_here)
-            ⟫ no_lines S h (asked S Command (q + 1)) (past_blanks T (q + 1)) k.no_comment_it
+            ⟫ no_lines S h (asked S Command (q + 1)) (past_blanks T (q + 1)) k.not_comment
             (ap is_newline_token k.token_is) ⟫ given_here,
       )
 
@@ -895,7 +895,7 @@ module _ {edition : Edition} {B T : List ℕ} {o : ℕ} {S : StandsIn edition B 
         e = past_blanks T is.«end» + 1;
         later = is.later;
         key = sep.0;
-        reads = no_semicolon S h n q (ap is_semicolon k.token_is) ⟫ no_lines S h n q k.no_comment_it
+        reads = no_semicolon S h n q (ap is_semicolon k.token_is) ⟫ no_lines S h n q k.not_comment
             (ap is_newline_token k.token_is)
             ⟫ first_of _ _ (ap (is_closing closings.In) k.token_is)
             (k.reads (closing_text closings.In) Suffix ⟫ is.reads ⟫ sep.1 ⟫ given_here);
@@ -917,7 +917,7 @@ module _ {edition : Edition} {B T : List ℕ} {o : ℕ} {S : StandsIn edition B 
         e = f;
         later = h;
         key = k;
-        reads = no_semicolon S h n q (ap is_semicolon k.token_is) ⟫ no_lines S h n q k.no_comment_it
+        reads = no_semicolon S h n q (ap is_semicolon k.token_is) ⟫ no_lines S h n q k.not_comment
             (ap is_newline_token k.token_is) ⟫ second_of _ _ (ap (is_closing closings.In) k.token_is) given_here;
         shape = refl;
         texts = λ ts. refl;
@@ -979,9 +979,9 @@ module _ {edition : Edition} {B T : List ℕ} {o : ℕ} {S : StandsIn edition B 
   paren_closes m ms blank h e at =
       let line = paren_line h m e ms blank at in
       record {
-        no_entry_it = ap begins_pipeline line.0;
-        no_newline_it = ap is_newline_token line.0;
-        no_comment_it = no_byte S (past_blanks T e) 41 (lay h ms) 35 refl (line.1 ∙ laid_text h (codes ")") ms);
+        not_entry = ap begins_pipeline line.0;
+        not_newline = ap is_newline_token line.0;
+        not_comment = no_byte S (past_blanks T e) 41 (lay h ms) 35 refl (line.1 ∙ laid_text h (codes ")") ms);
       }
 
   pub group_read : (h : Held) (m : Text) (es : Shape EntriesOf) (f : ℕ) (rest : Marks) → all_blank m ≡ true →

@@ -720,13 +720,13 @@ module _ {edition : Edition} {B T : List ℕ} {o : ℕ} (S : StandsIn edition B 
   Unbroken of_for acc is = is_empty acc ≡ true → first_not_broken is ≡ true
   Unbroken of_compound acc is = Unit {0}
 
-  first_not : (b : Bool) → not b ≡ true → b ≡ false
-  first_not true e = absurd cc
-  first_not false e = refl
+  not_true : (b : Bool) → not b ≡ true → b ≡ false
+  not_true true e = absurd cc
+  not_true false e = refl
 
   breaks_by : (acc : Row AnItem) (position : Position) (n : Next) (b : Bool) → (is_empty acc ≡ true → not b ≡ true) →
       n.broken ≡ b → breaks (so_many acc position n) ≡ b
-  breaks_by [] position n b none is = sym (first_not b (none refl))
+  breaks_by [] position n b none is = sym (not_true b (none refl))
   breaks_by (i ∷ is) position n b none same = same
 
   broken_is : (kind : Kind) (acc : Row AnItem) (position : Position) (n : Next) (i : Shape AnItemOf)
@@ -743,9 +743,9 @@ module _ {edition : Edition} {B T : List ℕ} {o : ℕ} (S : StandsIn edition B 
 
   first_item : (b : Bool) (position : Position) (w : Shape AWordOf) (is : Shape ItemsOf) →
       first_not_broken (more_items (an_item_of b position w) is) ≡ true → b ≡ false
-  first_item b Command w is first = first_not b first
-  first_item b Prefix w is first = first_not b first
-  first_item b Suffix w is first = first_not b first
+  first_item b Command w is first = not_true b first
+  first_item b Prefix w is first = not_true b first
+  first_item b Suffix w is first = not_true b first
 
   module _ (y : Layout) (m : Text) (c : ℕ) (cs : Text) (blank : all_blank (deeper y m) ≡ true)
       (some_margin : deeper y m ≡ c ∷ cs)
@@ -793,7 +793,7 @@ module _ {edition : Edition} {B T : List ℕ} {o : ℕ} (S : StandsIn edition B 
 
     first_unbroken : (n : Next) (i : Shape AnItemOf) (is : Shape ItemsOf) → first_not_broken (more_items i is) ≡ true
         → broken_by of_command (so_many [] Command n) ≡ is_broken_item i
-    first_unbroken n (item b what) is first = sym (first_not b first)
+    first_unbroken n (item b what) is first = sym (not_true b first)
 
     -- all items of a simple command, and the token after them
     simple_items : (h : Held) {last : Position} {is : Shape ItemsOf} (n : Next) (p : ℕ) →

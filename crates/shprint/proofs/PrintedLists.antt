@@ -102,7 +102,7 @@ module _ {edition : Edition} {B T : List ℕ} {o : ℕ} (S : StandsIn edition B 
     token : Token
     follower : Follower S ms token
     no_item : begins_simple token ≡ false
-    no_pipe_it : is_pipe token ≡ false
+    not_pipe : is_pipe token ≡ false
     no_operator : and_or_operator_of token ≡ None
 
   line_follower : (rest : Marks) → Follower S (line_end ∷ rest) tokens.Newline
@@ -156,7 +156,7 @@ module _ {edition : Edition} {B T : List ℕ} {o : ℕ} (S : StandsIn edition B 
     follower = background_follower (print_own_comment comment ++ (line_end ∷ rest))
         (λ h. own_parted h comment rest);
     no_item = refl;
-    no_pipe_it = refl;
+    not_pipe = refl;
     no_operator = refl;
   }
   entry_follow false None rest good =
@@ -164,7 +164,7 @@ module _ {edition : Edition} {B T : List ℕ} {o : ℕ} (S : StandsIn edition B 
         token = tokens.Newline;
         follower = line_follower rest;
         no_item = refl;
-        no_pipe_it = refl;
+        not_pipe = refl;
         no_operator = refl;
       }
   entry_follow false (Some c) rest good =
@@ -172,7 +172,7 @@ module _ {edition : Edition} {B T : List ℕ} {o : ℕ} (S : StandsIn edition B 
         token = tokens.Comment;
         follower = comment_follower c rest good;
         no_item = refl;
-        no_pipe_it = refl;
+        not_pipe = refl;
         no_operator = refl;
       }
 
@@ -183,7 +183,7 @@ module _ {edition : Edition} {B T : List ℕ} {o : ℕ} (S : StandsIn edition B 
     at : At S h f ms
     reads : Gives (g S) (a_separator (asked S Command e)) (state h (past_blanks T e)) (separator, asked S Command f)
         (state h (past_blanks T f))
-    is_it : is_background separator ≡ background
+    background_is : is_background separator ≡ background
     parted_is : is_some (past_separator separator) ≡ background
 
   no_separator : (h : Held) (n : Next) (q : ℕ) → separator_of n.token ≡ None →
@@ -211,15 +211,15 @@ module _ {edition : Edition} {B T : List ℕ} {o : ℕ} (S : StandsIn edition B 
       let r = byte_here T (e + 1) 38 (lay h ms) refl amp in
       let gap = blank_gap refl there (no_gap (start_here r refl)) in
       let q = past_blanks T e in
-      let r_q = byte_here T q 38 (lay h ms) refl (subst (λ p. drop p T ≡ 38 ∷ lay h ms) (sym gap.blanks) amp) in
+      let the_ampersand = byte_here T q 38 (lay h ms) refl (subst (λ p. drop p T ≡ 38 ∷ lay h ms) (sym gap.blanks) amp) in
       let n_is = (background_follower ms (λ h. own_parted h comment rest)).seen_as h e at Command in
       record {
         separator = Some (Ampersand, o + (q + 1));
         f = q + 1;
-        at = r_q.rest;
+        at = the_ampersand.rest;
         reads = some_separator h (asked S Command e) q Ampersand
-            (ap (λ (n : Next). separator_of n.token) n_is) r_q.place_after;
-        is_it = refl;
+            (ap (λ (n : Next). separator_of n.token) n_is) the_ampersand.place_after;
+        background_is = refl;
         parted_is = refl;
       }
   separator_read h false None rest e good at = record {
@@ -228,7 +228,7 @@ module _ {edition : Edition} {B T : List ℕ} {o : ℕ} (S : StandsIn edition B 
     at = at;
     reads = no_separator h (asked S Command e) (past_blanks T e)
         (ap (λ (n : Next). separator_of n.token) ((line_follower rest).seen_as h e at Command));
-    is_it = refl;
+    background_is = refl;
     parted_is = refl;
   }
   separator_read h false (Some c) rest e good at = record {
@@ -237,7 +237,7 @@ module _ {edition : Edition} {B T : List ℕ} {o : ℕ} (S : StandsIn edition B 
     at = at;
     reads = no_separator h (asked S Command e) (past_blanks T e)
         (ap (λ (n : Next). separator_of n.token) ((comment_follower c rest good).seen_as h e at Command));
-    is_it = refl;
+    background_is = refl;
     parted_is = refl;
   }
 
@@ -313,9 +313,9 @@ module _ {edition : Edition} {B T : List ℕ} {o : ℕ} (S : StandsIn edition B 
 
   -- what ends a list begins none of its lines
   pub record Closes (e : ℕ) : Type 0 where
-    pub no_entry_it : begins_pipeline (told S Command (past_blanks T e)) ≡ false
-    pub no_newline_it : is_newline_token (told S Command (past_blanks T e)) ≡ false
-    pub no_comment_it : raw_stands T (past_blanks T e) 35 ≡ false
+    pub not_entry : begins_pipeline (told S Command (past_blanks T e)) ≡ false
+    pub not_newline : is_newline_token (told S Command (past_blanks T e)) ≡ false
+    pub not_comment : raw_stands T (past_blanks T e) 35 ≡ false
 
 module _ {edition : Edition} {B T : List ℕ} {o : ℕ} {S : StandsIn edition B T o} {room : ℕ} {y : Layout}
     (fine : Fine S room y) where
@@ -359,29 +359,31 @@ module _ {edition : Edition} {B T : List ℕ} {o : ℕ} {S : StandsIn edition B 
   unfolding an_entry entry_bodies content_bodies
   entry_read h m blank a background comment n p rest is_blank_m good good_c normal token_is at =
       let follow = entry_follow S background comment rest good_c in
-      let ar = and_or_read fine h m a n p
+      let and_or_got = and_or_read fine h m a n p
       (entry_rest background comment rest) follow.token is_blank_m good normal follow.follower follow.no_item
-      follow.no_pipe_it follow.no_operator token_is at in
-      let sr = separator_read S ar.later background comment rest ar.«end» good_c ar.at in
-      let cr = own_read S ar.later comment rest sr.f good_c sr.at in
-      let last_state = state ar.later (past_blanks T cr.«end») in
-      let n_end = asked S Command cr.«end» in
-      let is_entered = entered_is blank ar.value sr.separator cr.own n_end background sr.is_it in
+      follow.not_pipe follow.no_operator token_is at in
+      let separator_got = separator_read S and_or_got.later background comment rest and_or_got.«end» good_c
+      and_or_got.at in
+      let comment_got = own_read S and_or_got.later comment rest separator_got.f good_c separator_got.at in
+      let last_state = state and_or_got.later (past_blanks T comment_got.«end») in
+      let n_end = asked S Command comment_got.«end» in
+      let is_entered = entered_is blank and_or_got.value separator_got.separator comment_got.own n_end background
+      separator_got.background_is in
       record {
-        value = entry (command ar.value) background blank cr.own;
-        «end» = cr.«end»;
-        later = ar.later;
-        at = cr.at;
-        texts = ar.texts;
-        parted = past_separator sr.separator;
-        parted_is = sr.parted_is;
-        reads = ar.reads ⟫ sr.reads ⟫ cr.reads ⟫ subst
+        value = entry (command and_or_got.value) background blank comment_got.own;
+        «end» = comment_got.«end»;
+        later = and_or_got.later;
+        at = comment_got.at;
+        texts = and_or_got.texts;
+        parted = past_separator separator_got.separator;
+        parted_is = separator_got.parted_is;
+        reads = and_or_got.reads ⟫ separator_got.reads ⟫ comment_got.reads ⟫ subst
             (λ z. Gives (g S) (give (record {
-              entry = entry (command ar.value) (is_background sr.separator) blank cr.own;
-              parted = past_separator sr.separator;
+              entry = entry (command and_or_got.value) (is_background separator_got.separator) blank comment_got.own;
+              parted = past_separator separator_got.separator;
               next = n_end;
             })) last_state z last_state) is_entered given_here;
-        shape = entry_shape blank background ar.value cr.own a comment ar.is cr.shape;
+        shape = entry_shape blank background and_or_got.value comment_got.own a comment and_or_got.is comment_got.shape;
       }
 
   -- ---- lines of a list
@@ -453,7 +455,7 @@ module _ {edition : Edition} {B T : List ℕ} {o : ℕ} {S : StandsIn edition B 
       at in
       let follow = entry_follow S background comment rest good_c in
       let b = and_or_begins fine h m a p
-      (entry_rest background comment rest) follow.token good follow.follower follow.no_item follow.no_pipe_it
+      (entry_rest background comment rest) follow.token good follow.follower follow.no_item follow.not_pipe
       at in
       let line = line_end_here S r.later r.«end» rest r.at in
       let low = gives_on (an_entry (level room) (blank && true) n) _ _ _ r.reads in
@@ -546,7 +548,7 @@ module _ {edition : Edition} {B T : List ℕ} {o : ℕ} {S : StandsIn edition B 
   content_start h m (command a) background blank comment p rest good good_c normal at =
       let follow = entry_follow S background comment rest good_c in
       (and_or_begins fine h m a p (entry_rest background comment rest) follow.token good follow.follower follow.no_item
-      follow.no_pipe_it at).operand.start
+      follow.not_pipe at).operand.start
   content_start h m (remark c) false blank None p rest good good_c normal at = comment_start S h c p rest good at
   content_start h m (remark c) true blank comment p rest good good_c normal at = absurd cc
   content_start h m (remark c) false blank (Some d) p rest good good_c normal at = absurd cc
@@ -646,8 +648,8 @@ module _ {edition : Edition} {B T : List ℕ} {o : ℕ} {S : StandsIn edition B 
   unfolding list_turn
   list_ends h acc blank commands before e c =
       nothing_on_line h (at_line_start acc blank commands before) (asked S Command e)
-      (past_blanks T e) c.no_entry_it c.no_comment_it ⟫ no_newline_read S h (asked S Command e)
-      (past_blanks T e) c.no_newline_it ⟫ given_here
+      (past_blanks T e) c.not_entry c.not_comment ⟫ no_newline_read S h (asked S Command e)
+      (past_blanks T e) c.not_newline ⟫ given_here
 
   -- a row of lines of which the first entry is blank or not
   record ListBy (h : Held) (acc : Row AnEntry) (first_blank commands : Bool) (before : Option ℕ) (e : ℕ)

@@ -417,18 +417,18 @@ module _ {edition : Edition} {B T : List ℕ} {o : ℕ} {S : StandsIn edition B 
   function_read h m name cs body p rest t blank own good normal f none at =
       let ms = print_compound y m body ++ rest in
       let X = function_rest y m cs body rest in
-      let r = byte_here T p 40 (41 ∷ lay h X) refl (at ∙ laid_text h (codes "()") X) in
-      let r2 = byte_here T (p + 1) 41 (lay h X) refl r.rest in
-      let gap = no_gap (start_here r2 refl) in
+      let opener = byte_here T p 40 (41 ∷ lay h X) refl (at ∙ laid_text h (codes "()") X) in
+      let closer = byte_here T (p + 1) 41 (lay h X) refl opener.rest in
+      let gap = no_gap (start_here closer refl) in
       let closes = ap (λ (n : Next). is_closing closings.Paren n.token) (asked_after S Command gap)
-      ∙ ap (is_closing closings.Paren) (tell S (close_token Command T (p + 1) (lay h X) r.rest)) in
+      ∙ ap (is_closing closings.Paren) (tell S (close_token Command T (p + 1) (lay h X) opener.rest)) in
       let closed = subst (λ q. Gives (g S) (reserved_or_paren (closing_text closings.Paren) true Command) (state h q)
       (span o (p + 1) (p + 1 + 1), asked S Command (p + 1 + 1)) (state h (past_blanks T (p + 1 + 1))))
-      (sym gap.blanks) (paren_alone S h (closing_text closings.Paren) (p + 1) r2.place_after) in
+      (sym gap.blanks) (paren_alone S h (closing_text closings.Paren) (p + 1) closer.place_after) in
       let operand : (h : Held) (q : ℕ) → At S h q ms →
       Operand S q = λ h q at. let b = fine.opens h m body q rest good at in
       begins_operand S q (record { start = b.1.start; command = opens_by (told S Command q) b.0 b.1.opener }) in
-      let lines = function_gap m blank ms operand h cs body (p + 1 + 1) own r2.rest in
+      let lines = function_gap m blank ms operand h cs body (p + 1 + 1) own closer.rest in
       let back = whole_compound fine lines.later m body lines.next lines.q rest t blank good normal f none
       lines.token_is lines.at in
       record {
@@ -437,8 +437,8 @@ module _ {edition : Edition} {B T : List ℕ} {o : ℕ} {S : StandsIn edition B 
         later = back.later;
         at = back.at;
         texts = λ ts. back.texts ts ∙ lines.texts (compound_bodies body ts);
-        reads = paren_alone S h (opener_text openers.Paren) p r.place_after ⟫ first_of _ _ closes closed ⟫ lines.reads
-            ⟫ back.reads ⟫ given_here;
+        reads = paren_alone S h (opener_text openers.Paren) p opener.place_after ⟫ first_of _ _ closes closed ⟫
+            lines.reads ⟫ back.reads ⟫ given_here;
         is = under_shape name lines.comments back.value body cs back.is lines.shape;
       }
 

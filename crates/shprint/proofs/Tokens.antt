@@ -587,15 +587,15 @@ pub record RedirectThere (edition : Edition) (position : Position) (T : List ℕ
 
 -- no byte that would make an operator longer is read here
 pub record NoLonger (T : List ℕ) (q : ℕ) : Type 0 where
-  pub less : stands T q 60 ≡ false
-  pub greater : stands T q 62 ≡ false
-  pub ampersand : stands T q 38 ≡ false
-  pub bar : stands T q 124 ≡ false
+  pub no_less : stands T q 60 ≡ false
+  pub no_greater : stands T q 62 ≡ false
+  pub no_ampersand : stands T q 38 ≡ false
+  pub no_bar : stands T q 124 ≡ false
 
 pub space_no_longer : (T : List ℕ) (q : ℕ) (xs : List ℕ) → drop q T ≡ 32 ∷ xs → NoLonger T q
 space_no_longer T q xs at =
     let r = byte_here T q 32 xs refl at in
-    record { less = is_here 60 r; greater = is_here 62 r; ampersand = is_here 38 r; bar = is_here 124 r }
+    record { no_less = is_here 60 r; no_greater = is_here 62 r; no_ampersand = is_here 38 r; no_bar = is_here 124 r }
 
 that_byte : (x : Option ℕ) (c : ℕ) → is_byte x c ≡ true → x ≡ Some c
 that_byte None c e = absurd cc
@@ -612,11 +612,11 @@ no_such_byte T q x word other =
 -- a word begins with no byte of an operator
 pub word_no_longer : (T : List ℕ) (q : ℕ) → token_at Suffix T q ≡ tokens.Word → NoLonger T q
 word_no_longer T q word = record {
-  less = no_such_byte T q 60 word refl;
-  greater = no_such_byte T q 62 word refl;
-  ampersand = no_such_byte T q 38 word
+  no_less = no_such_byte T q 60 word refl;
+  no_greater = no_such_byte T q 62 word refl;
+  no_ampersand = no_such_byte T q 38 word
       (no_word_of (stands T (past_byte T q) 38) tokens.AndIf tokens.Ampersand refl refl);
-  bar = no_such_byte T q 124 word (no_word_of (stands T (past_byte T q) 124) tokens.OrIf tokens.Pipe refl refl);
+  no_bar = no_such_byte T q 124 word (no_word_of (stands T (past_byte T q) 124) tokens.OrIf tokens.Pipe refl refl);
 }
   where
     no_word_of : (b : Bool) (t u : Token) → is_word t ≡ false → is_word u ≡ false → is_word (cond b t u) ≡ false
@@ -634,9 +634,9 @@ pub redirect_token : (position : Position) (k : RedirectOperator) (T : List ℕ)
     → token_at position T p ≡ tokens.Redirect k
 unfolding less_at greater_at
 redirect_token position redirects.Input T p xs none n at =
-    let r = byte_here T p 60 xs refl at in token_here position r ∙ rw (r.place_after, n.less, n.ampersand, n.greater) refl
+    let r = byte_here T p 60 xs refl at in token_here position r ∙ rw (r.place_after, n.no_less, n.no_ampersand, n.no_greater) refl
 redirect_token position redirects.Output T p xs none n at =
-    let r = byte_here T p 62 xs refl at in token_here position r ∙ rw (r.place_after, n.greater, n.ampersand, n.bar) refl
+    let r = byte_here T p 62 xs refl at in token_here position r ∙ rw (r.place_after, n.no_greater, n.no_ampersand, n.no_bar) refl
 redirect_token position redirects.Here T p xs none n at =
     let r = byte_here T p 60 (60 ∷ xs) refl at in
     let s = byte_here T (p + 1) 60 xs refl r.rest in
@@ -713,16 +713,16 @@ digits_here T p x (c ∷ cs) xs angle all at =
 digit_token : (position : Position) (T : List ℕ) (p c : ℕ) → is_digit c ≡ true → is_number T p ≡ true →
     token_of position T p (Some c) ≡ tokens.Number
 digit_token position T p c digit number =
-    let newline : is_newline c ≡ false = grind (arith, nat_tests) in
-    let semicolon : (c == 59) ≡ false = grind (arith, nat_tests) in
-    let ampersand : (c == 38) ≡ false = grind (arith, nat_tests) in
-    let bar : (c == 124) ≡ false = grind (arith, nat_tests) in
-    let opener : (c == 40) ≡ false = grind (arith, nat_tests) in
-    let closer : (c == 41) ≡ false = grind (arith, nat_tests) in
-    let less : (c == 60) ≡ false = grind (arith, nat_tests) in
-    let greater : (c == 62) ≡ false = grind (arith, nat_tests) in
-    let sharp : (c == 35) ≡ false = grind (arith, nat_tests) in
-    rw (newline, semicolon, ampersand, bar, opener, closer, less, greater, sharp, number) refl
+    let no_newline : is_newline c ≡ false = grind (arith, nat_tests) in
+    let no_semicolon : (c == 59) ≡ false = grind (arith, nat_tests) in
+    let no_ampersand : (c == 38) ≡ false = grind (arith, nat_tests) in
+    let no_bar : (c == 124) ≡ false = grind (arith, nat_tests) in
+    let no_opener : (c == 40) ≡ false = grind (arith, nat_tests) in
+    let no_closer : (c == 41) ≡ false = grind (arith, nat_tests) in
+    let no_less : (c == 60) ≡ false = grind (arith, nat_tests) in
+    let no_greater : (c == 62) ≡ false = grind (arith, nat_tests) in
+    let no_sharp : (c == 35) ≡ false = grind (arith, nat_tests) in
+    rw (no_newline, no_semicolon, no_ampersand, no_bar, no_opener, no_closer, no_less, no_greater, no_sharp, number) refl
 
 pub number_token : (position : Position) (T : List ℕ) (p x d : ℕ) (ds xs : List ℕ) → all_digits (d ∷ ds) ≡ true →
     is_angle x ≡ true → drop p T ≡ (d ∷ ds) ++ x ∷ xs → NumberHere position T p (d ∷ ds)
