@@ -5,6 +5,7 @@ use Rattle.std.proofs.Math.Seq.{take-add}
 use Rattle.std.specs.Option.{option_eq}
 use Rattle.std.proofs.lemmas.Grind.{same_number_lists}
 use Rattle.std.proofs.lemmas.Bool.Decides.{nat_tests}
+use Rattle.shgrammar.specs.Characters.{backslash, hyphen, newline_char}
 use Rattle.shast.specs.Shape.{bare, text_at}
 use Rattle.shast.specs.declared.tree.Span.{Span}
 use Rattle.shast.specs.declared.tree.RedirectOperator.TheVariants as redirects
@@ -60,19 +61,19 @@ pub bare_none : bare [] ≡ []
 unfolding bare
 bare_none = refl
 
-bare_pair : (X : List ℕ) → bare (92 ∷ 10 ∷ X) ≡ bare X
+bare_pair : (X : List ℕ) → bare (backslash ∷ newline_char ∷ X) ≡ bare X
 unfolding bare
 bare_pair X = refl
 
-unlike : (b c : ℕ) → (b ≡ 92 → c ≡ 10 → ⊥) → (b == 92 && c == 10) ≡ false
+unlike : (b c : ℕ) → (b ≡ backslash → c ≡ newline_char → ⊥) → (b == backslash && c == newline_char) ≡ false
 unlike b c unjoined = grind (arith, nat_tests)
 
-bare_two : (b c : ℕ) (X : List ℕ) → (b ≡ 92 → c ≡ 10 → ⊥) → bare (b ∷ c ∷ X) ≡ b ∷ bare (c ∷ X)
+bare_two : (b c : ℕ) (X : List ℕ) → (b ≡ backslash → c ≡ newline_char → ⊥) → bare (b ∷ c ∷ X) ≡ b ∷ bare (c ∷ X)
 unfolding bare
 bare_two b c X unjoined = rw (unlike b c unjoined) refl
 
 -- a byte that begins no continuation
-bare_first : (b n : ℕ) (X : List ℕ) → (b ≡ 92 → slice_get X 0 ≡ Some 10 → 0 < n → ⊥) →
+bare_first : (b n : ℕ) (X : List ℕ) → (b ≡ backslash → slice_get X 0 ≡ Some newline_char → 0 < n → ⊥) →
     bare (b ∷ take n X) ≡ b ∷ bare (take n X)
 unfolding bare
 bare_first b zero X unjoined = refl
@@ -91,29 +92,30 @@ module _ (B : List ℕ) (at «end» b : ℕ) (here : slice_get B at ≡ Some b) 
       rw (n, drop_some B at b here) refl
 
   -- no continuation begins here
-  pub bare_more : (b ≡ 92 → slice_get B (at + 1) ≡ Some 10 → at + 1 < «end» → ⊥) →
+  pub bare_more : (b ≡ backslash → slice_get B (at + 1) ≡ Some newline_char → at + 1 < «end» → ⊥) →
       bare (take («end» - at) (drop at B)) ≡ b ∷ bare (take («end» - (at + 1)) (drop (at + 1) B))
   bare_more unjoined =
       ap bare taken ∙ bare_first b («end» - (at + 1)) (drop (at + 1) B)
       (λ e f lt. unjoined e (sym (get_drop B (at + 1)) ∙ f) (omega (arith, lt)))
 
 -- a continuation begins here
-pub bare_joined : (B : List ℕ) (at «end» : ℕ) → slice_get B at ≡ Some 92 → slice_get B (at + 1) ≡ Some 10 →
-    at + 1 < «end»
+pub bare_joined : (B : List ℕ) (at «end» : ℕ) → slice_get B at ≡ Some backslash →
+    slice_get B (at + 1) ≡ Some newline_char → at + 1 < «end»
     → bare (take («end» - at) (drop at B)) ≡ bare (take («end» - (at + 2)) (drop (at + 2) B))
 bare_joined B at «end» one two lt =
     let both : at + 1 + 1 ≡ at + 2 = omega arith in
-    ap bare (taken B at «end» 92 one (omega (arith, lt)) ∙ ap (λ X. 92 ∷ X) (taken B (at + 1) «end» 10 two lt))
+    ap bare (taken B at «end» backslash one (omega (arith, lt))
+    ∙ ap (λ X. backslash ∷ X) (taken B (at + 1) «end» newline_char two lt))
     ∙ bare_pair _ ∙ rw both refl
 
 -- ---- a word after `<<`
 
 module _ (B : List ℕ) (s : Span) (some : s.start < s.«end») where
   strip_by : (o : Option ℕ) → slice_get B s.start ≡ o →
-      would_lengthen redirects.Here (text_at B s) ≡ option_eq ◌==◌ o (Some 45)
+      would_lengthen redirects.Here (text_at B s) ≡ option_eq ◌==◌ o (Some hyphen)
   strip_by None e = rw (drop_none B s.start e, none_taken (s.«end» - s.start)) refl
   strip_by (Some b) e = rw (taken B s.start s.«end» b e some) refl
 
   -- it is looked at by its first byte
-  pub strip_is : would_lengthen redirects.Here (text_at B s) ≡ option_eq ◌==◌ (slice_get B s.start) (Some 45)
+  pub strip_is : would_lengthen redirects.Here (text_at B s) ≡ option_eq ◌==◌ (slice_get B s.start) (Some hyphen)
   strip_is = strip_by (slice_get B s.start) refl

@@ -53,15 +53,17 @@ token_counts position T p None = λ e. absurd cc
 token_counts position T p (Some b) =
     let here = is_number_at T p in
     neither here (is_newline_byte b) _ _ (λ e. absurd cc)
-    (neither here (b == 59) _ _ (neither here (stands T (past_byte T p) 59) _ _ (λ e. absurd cc)
-    (neither here (stands T (past_byte T p) 38) _ _ (λ e. absurd cc) (λ e. absurd cc)))
-    (neither here (b == 38) _ _ (neither here (stands T (past_byte T p) 38) _ _ (λ e. absurd cc) (λ e. absurd cc))
-    (neither here (b == 124) _ _ (neither here (stands T (past_byte T p) 124) _ _ (λ e. absurd cc) (λ e. absurd cc))
-    (neither here (b == 40) _ _ (λ e. absurd cc)
-    (neither here (b == 41) _ _ (λ e. absurd cc)
-    (neither here (b == 60) _ _ (λ e. absurd cc)
-    (neither here (b == 62) _ _ (λ e. absurd cc)
-    (neither here (b == 35) _ _ (λ e. absurd cc)
+    (neither here (b == semicolon) _ _ (neither here (stands T (past_byte T p) semicolon) _ _ (λ e. absurd cc)
+    (neither here (stands T (past_byte T p) ampersand) _ _ (λ e. absurd cc) (λ e. absurd cc)))
+    (neither here (b == ampersand) _ _ (neither here (stands T (past_byte T p) ampersand) _ _ (λ e. absurd cc)
+    (λ e. absurd cc))
+    (neither here (b == vertical_line) _ _ (neither here (stands T (past_byte T p) vertical_line) _ _ (λ e. absurd cc)
+    (λ e. absurd cc))
+    (neither here (b == left_parenthesis) _ _ (λ e. absurd cc)
+    (neither here (b == right_parenthesis) _ _ (λ e. absurd cc)
+    (neither here (b == less_than_sign) _ _ (λ e. absurd cc)
+    (neither here (b == greater_than_sign) _ _ (λ e. absurd cc)
+    (neither here (b == number_sign) _ _ (λ e. absurd cc)
     (cond_both here tokens.Number (word_by position T p) (Counts here) (λ e f. e)
     (λ e. word_by_counts here position T p))))))))))
 
@@ -132,14 +134,16 @@ past_pair T p pair digit =
           ∙ sym (past_more is_digit T (p + 2) there),
     )
 
-pair_front : (T : List ℕ) (p q : ℕ) → continues T p ≡ true → p + 2 ≤ q → raw T p q ≡ 92 ∷ 10 ∷ raw T (p + 2) q
+pair_front : (T : List ℕ) (p q : ℕ) → continues T p ≡ true → p + 2 ≤ q → raw T p q ≡ backslash ∷ newline_char ∷ raw T (p + 2) q
 unfolding continues raw_stands
 pair_front T p q pair le =
-    let parts : (is_byte (slice_get T p) 92 ≡ true) × (is_byte (slice_get T (p + 1)) 10 ≡ true) = and_parts _ _ pair in
+    let parts : (is_byte (slice_get T p) backslash ≡ true) × (is_byte (slice_get T (p + 1)) newline_char ≡ true) =
+    and_parts _ _ pair in
     let next : p + 1 + 1 ≡ p + 2 = omega arith in
-    raw_front T p q 92 (that_byte (slice_get T p) 92 parts.0) (omega (arith, le))
-    ∙ ap (λ z. 92 ∷ z) (raw_front T (p + 1) q 10 (that_byte (slice_get T (p + 1)) 10 parts.1) (omega (arith, le))
-    ∙ ap (λ r. 10 ∷ raw T r q) next)
+    raw_front T p q backslash (that_byte (slice_get T p) backslash parts.0) (omega (arith, le))
+    ∙ ap (λ z. backslash ∷ z)
+    (raw_front T (p + 1) q newline_char (that_byte (slice_get T (p + 1)) newline_char parts.1) (omega (arith, le))
+    ∙ ap (λ r. newline_char ∷ raw T r q) next)
 
 abbrev Digits : Text → Type 0
 Digits t = (c : ℕ) × (cs : Text) × (t ≡ c ∷ cs) × (all_digits (c ∷ cs) ≡ true)

@@ -5,6 +5,7 @@ use Rattle.std.proofs.lemmas.List.{drop-drop, length-append, length-drop, map-ap
 use Rattle.shast.specs.declared.tree.Span.{Span}
 use Rattle.shast.specs.Shape.{Text, text_at}
 use Rattle.shgrammar.specs.declared.edition.Edition.{Edition}
+use Rattle.shgrammar.specs.Characters.{newline_char}
 use Rattle.shgrammar.specs.Comments.{span}
 use Rattle.shgrammar.specs.States.{Given, given, State, Waiting}
 use Rattle.shgrammar.specs.HereDocuments.{ADelimiter, body_by, bodies_from, bodies_here, delimiter_from, past_line, state_by, waits}
@@ -31,7 +32,7 @@ as_waiting x = waiting_document x.b x.strip x.d
 
 -- the body, and the line of the delimiter
 abbrev pub bytes_of : Document → Text
-bytes_of x = x.bytes ++ (x.d.text ++ 10 ∷ [])
+bytes_of x = x.bytes ++ (x.d.text ++ newline_char ∷ [])
 
 unfoldable pub held_bytes : Row Document → Text
 held_bytes [] = []
@@ -135,12 +136,12 @@ module _ {edition : Edition} {B T : List ℕ} {o : ℕ} (S : StandsIn edition B 
   all_bodies (x ∷ xs) bodies p zs within at =
       let rest = held_bytes xs ++ zs in
       let whole : drop p T ≡ bytes_of x ++ rest = at ∙ append_assoc (bytes_of x) (held_bytes xs) zs in
-      let parts : drop p T ≡ x.bytes ++ (x.d.text ++ 10 ∷ rest) = whole
-      ∙ append_assoc x.bytes (x.d.text ++ 10 ∷ []) rest
-      ∙ ap (λ r. x.bytes ++ r) (append_assoc x.d.text (10 ∷ []) rest) in
+      let parts : drop p T ≡ x.bytes ++ (x.d.text ++ newline_char ∷ rest) = whole
+      ∙ append_assoc x.bytes (x.d.text ++ newline_char ∷ []) rest
+      ∙ ap (λ r. x.bytes ++ r) (append_assoc x.d.text (newline_char ∷ []) rest) in
       let size : length (bytes_of x) ≡ length x.bytes + (length x.d.text + 1) =
-      length-append x.bytes (x.d.text ++ 10 ∷ [])
-      ∙ ap (λ n. length x.bytes + n) (length-append x.d.text (10 ∷ [])) in
+      length-append x.bytes (x.d.text ++ newline_char ∷ [])
+      ∙ ap (λ n. length x.bytes + n) (length-append x.d.text (newline_char ∷ [])) in
       let q = p + length x.bytes in
       let f = p + length (bytes_of x) in
       let s = span o p q in
@@ -156,7 +157,7 @@ module _ {edition : Edition} {B T : List ℕ} {o : ℕ} (S : StandsIn edition B 
             (as_waiting x) bodies p) found
             ∙ ap (bodies_from g (map as_waiting xs) (bodies ++ s ∷ [])) past ∙ others.reads
             ∙ rw (append_assoc, last) refl;
-        texts = rw (text_of_span p x.bytes (x.d.text ++ 10 ∷ rest) parts, others.texts) refl;
+        texts = rw (text_of_span p x.bytes (x.d.text ++ newline_char ∷ rest) parts, others.texts) refl;
       }
 
   -- a newline token at p, and the bodies after it
@@ -174,9 +175,9 @@ module _ {edition : Edition} {B T : List ℕ} {o : ℕ} (S : StandsIn edition B 
   unfolding laid_after held_bytes
   emptied h p ms at =
       let zs = laid_after [] ms in
-      let whole : drop p T ≡ (10 ∷ held_bytes h.waiting) ++ zs = at in
+      let whole : drop p T ≡ (newline_char ∷ held_bytes h.waiting) ++ zs = at in
       let at_after : drop (p + 1) T ≡ held_bytes h.waiting ++ zs =
-      skip T p (10 ∷ []) (held_bytes h.waiting ++ zs) at in
+      skip T p (newline_char ∷ []) (held_bytes h.waiting ++ zs) at in
       let size : length (drop p T) ≡ suc (length (held_bytes h.waiting ++ zs)) = ap length at in
       let within : p + 1 ≤ length T = omega (arith, size, length-drop p T) in
       let r = all_bodies h.waiting h.bodies (p + 1) zs within at_after in

@@ -11,6 +11,7 @@ use Rattle.shgrammar.specs.declared.token.Reserved.{Reserved}
 use Rattle.shgrammar.specs.declared.token.Reserved.TheVariants as reserved
 use Rattle.shgrammar.specs.declared.token.Token.{Token}
 use Rattle.shgrammar.specs.declared.token.Token.TheVariants as tokens
+use Rattle.shgrammar.specs.Characters.{ampersand, backslash, newline_char, number_sign, right_parenthesis, semicolon, space, vertical_line}
 use Rattle.shgrammar.specs.Bytes.{past_blanks}
 use Rattle.shgrammar.specs.Comments.{span}
 use Rattle.shgrammar.specs.Standing.{raw_stands}
@@ -241,7 +242,7 @@ module _ {edition : Edition} {B T : List ℕ} {o : ℕ} {S : StandsIn edition B 
       (asked S position e ≡ record { token = tokens.CloseParen; broken = false }) × (past_blanks T e ≡ e)
   bracket_next h position e ms at =
       let there = at ∙ laid_text h (codes ")") ms in
-      let gap = no_gap (start_here (byte_here T e 41 (lay h ms) refl there) refl) in (
+      let gap = no_gap (start_here (byte_here T e right_parenthesis (lay h ms) refl there) refl) in (
         asked_after S position gap ∙ ap (λ t. record { token = token_in edition t; broken = false })
             (close_token position T e (lay h ms) there),
         gap.blanks,
@@ -278,7 +279,7 @@ module _ {edition : Edition} {B T : List ℕ} {o : ℕ} {S : StandsIn edition B 
       let X = text (codes " ") ∷ Y in
       let parted : (h : Held) → Parted (lay h X) =
       λ h. record {
-        c = 32;
+        c = space;
         cs = lay h Y;
         is = laid_text h (codes " ") Y;
         no_backslash = refl;
@@ -286,12 +287,12 @@ module _ {edition : Edition} {B T : List ℕ} {o : ℕ} {S : StandsIn edition B 
         no_ampersand = refl;
       } in
       let n_is = (pipe_follower S X parted).seen_as h f at Suffix in
-      let gap = space_then S h f 124 [] X refl refl at in
+      let gap = space_then S h f vertical_line [] X refl refl at in
       let q = past_blanks T f in
       let at_q = subst (λ r. At S h r (text (codes "|") ∷ X)) (sym gap.blanks)
       (at_text S h f (codes " ") (text (codes "|") ∷ X) at) in
       let there_q = at_q ∙ laid_text h (codes "|") X in
-      let the_bar = byte_here T q 124 (lay h X) refl there_q in
+      let the_bar = byte_here T q vertical_line (lay h X) refl there_q in
       let moved : Gives (g S) (move one_byte) (state h q) tt (state h (q + 1)) =
       subst (λ p. Gives (g S) (move one_byte) (state h q) tt (state h p)) r_q.place_after (moved_here one_byte) in
       let v = word_at h Suffix begins_word (codes " ") w (q + 1) (more_marks ws ms) refl good.0
@@ -304,7 +305,7 @@ module _ {edition : Edition} {B T : List ℕ} {o : ℕ} {S : StandsIn edition B 
       (told_here (by (codes "|")) moved ⟫ next_read S h Suffix (q + 1) ⟫ first_of _ _ v.begin
       ((v.reads ⟫ pushed_here acc v.value ⟫ next_read S h Suffix v.e ⟫ given_here) ⟫ given_here)) in
       let on = leads S h h q (past_blanks T v.e) (omega (arith, v.on, blanks_low T (q + 1), blanks_low T v.e))
-      (some_here S q 124 (lay h X) there_q) in
+      (some_here S q vertical_line (lay h X) there_q) in
       record {
         value = v.value ∷ others.value;
         e = others.e;
@@ -408,41 +409,42 @@ module _ {edition : Edition} {B T : List ℕ} {o : ℕ} {S : StandsIn edition B 
 
   record EnderRead (h : Held) (e : ℕ) (falls : Bool) (ms : Marks) : Type 0 where
     token_is : told S Command (past_blanks T e) ≡ ender_token falls
-    not_comment : raw_stands T (past_blanks T e) 35 ≡ false
+    not_comment : raw_stands T (past_blanks T e) number_sign ≡ false
     f : ℕ
     at : At S h f ms
     low : past_blanks T e < f
     on : Gives (g S) (move one_byte >> move one_byte) (state h (past_blanks T e)) tt (state h f)
 
   -- a `;` and another byte, which are this ender
-  ender_by : (h : Held) (m : Text) (e d : ℕ) (falls : Bool) (ms : Marks) → all_blank m ≡ true → (d == 92) ≡ false
-      → ((q : ℕ) (xs : Text) → drop q T ≡ 59 ∷ d ∷ xs → told S Command q ≡ ender_token falls) →
-      At S h e (text m ∷ text (59 ∷ d ∷ []) ∷ ms) → EnderRead h e falls ms
+  ender_by : (h : Held) (m : Text) (e d : ℕ) (falls : Bool) (ms : Marks) → all_blank m ≡ true → (d == backslash) ≡ false
+      → ((q : ℕ) (xs : Text) → drop q T ≡ semicolon ∷ d ∷ xs → told S Command q ≡ ender_token falls) →
+      At S h e (text m ∷ text (semicolon ∷ d ∷ []) ∷ ms) → EnderRead h e falls ms
   ender_by h m e d falls ms blank clear token_is at =
-      let there = at_text S h e m (text (59 ∷ d ∷ []) ∷ ms) at ∙ laid_text h (59 ∷ d ∷ []) ms in
-      let gap = margin_gap S h m e (text (59 ∷ d ∷ []) ∷ ms) blank at
-      (start_here (byte_here T (e + length m) 59 (d ∷ lay h ms) refl there) refl) in
+      let there = at_text S h e m (text (semicolon ∷ d ∷ []) ∷ ms) at ∙ laid_text h (semicolon ∷ d ∷ []) ms in
+      let gap = margin_gap S h m e (text (semicolon ∷ d ∷ []) ∷ ms) blank at
+      (start_here (byte_here T (e + length m) semicolon (d ∷ lay h ms) refl there) refl) in
       let q = past_blanks T e in
-      let at_q : drop q T ≡ 59 ∷ d ∷ lay h ms =
-      subst (λ r. drop r T ≡ 59 ∷ d ∷ lay h ms) (sym gap.blanks) there in
-      let at_after = byte_after S q 59 d (lay h ms) at_q in
+      let at_q : drop q T ≡ semicolon ∷ d ∷ lay h ms =
+      subst (λ r. drop r T ≡ semicolon ∷ d ∷ lay h ms) (sym gap.blanks) there in
+      let at_after = byte_after S q semicolon d (lay h ms) at_q in
       record {
         token_is = token_is q (lay h ms) at_q;
-        not_comment = no_byte S q 59 (d ∷ lay h ms) 35 refl at_q;
+        not_comment = no_byte S q semicolon (d ∷ lay h ms) number_sign refl at_q;
         f = q + 1 + 1;
         at = next_one T (q + 1) d (lay h ms) at_after;
         low = omega arith;
-        on = byte_moved S h q 59 (d ∷ lay h ms) refl at_q ⟫ byte_moved S h (q + 1) d (lay h ms) clear at_after;
+        on = byte_moved S h q semicolon (d ∷ lay h ms) refl at_q ⟫ byte_moved S h (q + 1) d (lay h ms) clear at_after;
       }
 
   ender_read : (h : Held) (m : Text) (e : ℕ) (falls : Bool) (ms : Marks) → all_blank m ≡ true →
       (falls ≡ true → is_later edition ≡ true) → At S h e (text m ∷ text (ender falls) ∷ ms) →
       EnderRead h e falls ms
   ender_read h m e true ms blank later at =
-      ender_by h m e 38 true ms blank refl
+      ender_by h m e ampersand true ms blank refl
       (λ q xs there. tell S (falls_token Command T q xs there) ∙ falls_stays edition (later refl)) at
   ender_read h m e false ms blank later at =
-      ender_by h m e 59 false ms blank refl (λ q xs there. tell S (double_semicolon_token Command T q xs there)) at
+      ender_by h m e semicolon false ms blank refl
+      (λ q xs there. tell S (double_semicolon_token Command T q xs there)) at
 
   ender_closes : (m : Text) (falls : Bool) (ms : Marks) → all_blank m ≡ true →
       (falls ≡ true → is_later edition ≡ true) → (h : Held) (e : ℕ) → At S h e (text m ∷ text (ender falls) ∷ ms) →
@@ -529,11 +531,11 @@ module _ {edition : Edition} {B T : List ℕ} {o : ℕ} {S : StandsIn edition B 
       ∙ ap (λ ks. text P ∷ ks) (append_assoc (print_word w) (print_patterns ws)
       (D ++ (E ∷ line_end ∷ (I ++ R))))) in
       let ended = laid_same (print_body y P body) (E ∷ line_end ∷ (I ++ R)) (E ∷ line_end ∷ N)
-      (λ held. ap (λ z. ender mark.falls ++ (10 ∷ held ++ z)) (items_are m items tail rest good.1 [])) in
+      (λ held. ap (λ z. ender mark.falls ++ (newline_char ∷ held ++ z)) (items_are m items tail rest good.1 [])) in
       let after_patterns : Alike (print_patterns ws ++ (D ++ (E ∷ line_end ∷ (I ++ R))))
       (more_marks ws (print_body y P body ++ (E ∷ line_end ∷ N))) =
       λ held. laid_same (print_patterns ws) (D ++ (E ∷ line_end ∷ (I ++ R))) (D ++ (E ∷ line_end ∷ N))
-      (λ held. ap (λ z. 41 ∷ z) (ended held)) held
+      (λ held. ap (λ z. right_parenthesis ∷ z) (ended held)) held
       ∙ more_are ws (print_body y P body ++ (E ∷ line_end ∷ N)) held in
       ap (laid_after held) parts
       ∙ laid_same C _ _ (λ held. ap (λ z. P ++ z) (laid_same (print_word w) _ _ after_patterns held)) held
@@ -629,8 +631,8 @@ module _ {edition : Edition} {B T : List ℕ} {o : ℕ} {S : StandsIn edition B 
       let vs = patterns_read h ws (v.value ∷ []) v.e D good.0.1.1 v.at in
       let bracket = bracket_next h Suffix vs.e D vs.at in
       let z = past_blanks T vs.e in
-      let the_paren = byte_here T z 41 (lay h D) refl
-      (subst (λ p. drop p T ≡ 41 ∷ lay h D) (sym bracket.1) (vs.at ∙ laid_text h (codes ")") D)) in
+      let the_paren = byte_here T z right_parenthesis (lay h D) refl
+      (subst (λ p. drop p T ≡ right_parenthesis ∷ lay h D) (sym bracket.1) (vs.at ∙ laid_text h (codes ")") D)) in
       let b = item_body_read h P body mark.falls (z + 1) N blank_p good.0.3 good.0.2 two_of.1 one_of.1 the_paren.rest in
       let d = b.ended in
       let l = break_read P (items_margin y m items) blank_p (items_blank y m items blank)

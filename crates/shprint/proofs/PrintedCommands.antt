@@ -10,6 +10,7 @@ use Rattle.shgrammar.specs.declared.token.Position.{Position}
 use Rattle.shgrammar.specs.declared.token.Position.TheVariants.{Command, Suffix}
 use Rattle.shgrammar.specs.declared.token.Token.{Token}
 use Rattle.shgrammar.specs.declared.token.Token.TheVariants as tokens
+use Rattle.shgrammar.specs.Characters.{ampersand, exclamation_mark, left_parenthesis, right_parenthesis, space, vertical_line}
 use Rattle.shgrammar.specs.Bytes.{past_byte, past_blanks}
 use Rattle.shgrammar.specs.Comments.{span}
 use Rattle.shgrammar.specs.Tokens.{is_comment}
@@ -125,7 +126,7 @@ module _ {edition : Edition} {B T : List ℕ} {o : ℕ} {S : StandsIn edition B 
 
   name_there : (h : Held) (m name : Text) (cs : Row Text) (body : Shape ACompoundOf) (p : ℕ) (rest : Marks) →
       At S h p (print_command y m (function name cs body) ++ rest)
-      → drop p T ≡ name ++ 40 ∷ 41 ∷ lay h (function_rest y m cs body rest)
+      → drop p T ≡ name ++ left_parenthesis ∷ right_parenthesis ∷ lay h (function_rest y m cs body rest)
   name_there h m name cs body p rest at =
       at ∙ ap (lay h) (function_is y m name cs body rest)
       ∙ laid_text h name (text (codes "()") ∷ function_rest y m cs body rest)
@@ -163,9 +164,9 @@ module _ {edition : Edition} {B T : List ℕ} {o : ℕ} {S : StandsIn edition B 
       let X = function_rest y m cs body rest in
       let at_e = at_text S h p name (text (codes "()") ∷ X) (at ∙ ap (lay h) (function_is y m name cs body rest)) in
       let head = at_e ∙ laid_text h (codes "()") X in
-      let gap = no_gap (start_here (byte_here T e 40 (41 ∷ lay h X) refl head) refl) in
+      let gap = no_gap (start_here (byte_here T e left_parenthesis (right_parenthesis ∷ lay h X) refl head) refl) in
       let paren = ap (λ (n : Next). is_paren n.token) (asked_after S Suffix gap)
-      ∙ ap is_paren (tell S (open_token Suffix T e (41 ∷ lay h X) head)) in
+      ∙ ap is_paren (tell S (open_token Suffix T e (right_parenthesis ∷ lay h X) head)) in
       let r = fine.function_back h m
       (span o p e) cs body e rest t blank good.own good.inside normal f none at_e in
       let name_is = good.before.names T p _ there in
@@ -185,7 +186,7 @@ module _ {edition : Edition} {B T : List ℕ} {o : ℕ} {S : StandsIn edition B 
         reads = first_of _ _ (ap is_word (token_is ∙ tell S found.token_is))
             (seen_here is_a_name ⟫ printed_word S room h name no_subst p v ⟫ next_read S h Suffix e ⟫ first_of _ _ paren
             (first_of _ _ name_is after_name));
-        is = r.is ∙ ap (λ z. open_command [] (function z cs body)) (span_text S p name (40 ∷ 41 ∷ lay h X) there);
+        is = r.is ∙ ap (λ z. open_command [] (function z cs body)) (span_text S p name (left_parenthesis ∷ right_parenthesis ∷ lay h X) there);
       }
 
   -- a compound command with the redirections after it
@@ -336,7 +337,7 @@ module _ {edition : Edition} {B T : List ℕ} {o : ℕ} {S : StandsIn edition B 
   one_pipe h m d j c acc n q ms t blank blank_d normal_j good_j good normal f none pipe_is unbroken at =
       let X = print_command y d c ++ ms in
       let there = at ∙ laid_text h (codes "|") (join_rest y m j ++ X) in
-      let r = byte_here T q 124 (lay h (join_rest y m j ++ X)) refl there in
+      let r = byte_here T q vertical_line (lay h (join_rest y m j ++ X)) refl there in
       let moved : Gives (g S) (move one_byte) (state h q) tt (state h (q + 1)) =
       subst (λ p. Gives (g S) (move one_byte) (state h q) tt (state h p)) r.place_after (moved_here one_byte) in
       let join_got = join_read S h y m X (deeper_blank y m blank)
@@ -357,7 +358,7 @@ module _ {edition : Edition} {B T : List ℕ} {o : ℕ} {S : StandsIn edition B 
         reads = first_of _ _ pipe_is
             (told_here (by (codes "|")) moved ⟫ joined_it ⟫ command_got.reads ⟫ pushed_here acc part ⟫ given_here);
         on = leads S h command_got.later q (past_blanks T command_got.«end») (omega (arith, low_j, low_c))
-            (some_here S q 124 (lay h (join_rest y m j ++ X)) there);
+            (some_here S q vertical_line (lay h (join_rest y m j ++ X)) there);
         join_is = join_got.shape;
         command_is = command_got.is;
         texts = λ ts. command_got.texts ts ∙ join_got.texts (command_bodies c ts);
@@ -386,7 +387,7 @@ module _ {edition : Edition} {B T : List ℕ} {o : ℕ} {S : StandsIn edition B 
       let there = at ∙ ap (lay h) (pipe_marks m b j c cs rest) in
       let n_is = (pipe_follower S (join_rest y m j ++ X) (λ h. join_parted h y m j.broken j.comments X)).seen_as h e
       there Command in
-      let gap = space_then S h e 124 [] (join_rest y m j ++ X) refl refl there in
+      let gap = space_then S h e vertical_line [] (join_rest y m j ++ X) refl refl there in
       let parts = and_parts _ _ normal in
       let first_parts = and_parts _ _ parts.0 in
       let q = past_blanks T e in
@@ -426,7 +427,7 @@ module _ {edition : Edition} {B T : List ℕ} {o : ℕ} {S : StandsIn edition B 
   bang_begins : (h : Held) (p : ℕ) (ms : Marks) → At S h p (text (codes "! ") ∷ ms) → PipelineBegins S p
       × (is_bang (told S Command p) ≡ true)
   bang_begins h p ms at =
-      let k = bang_here T p 32 (lay h ms) refl refl (at ∙ laid_text h (codes "! ") ms) in (
+      let k = bang_here T p space (lay h ms) refl refl (at ∙ laid_text h (codes "! ") ms) in (
         record {
           operand = record {
             start = k.start;
@@ -485,7 +486,7 @@ module _ {edition : Edition} {B T : List ℕ} {o : ℕ} {S : StandsIn edition B 
       }
   bang_read h n p (Some mark) ms begins token_is at =
       let there = at ∙ laid_text h (codes "! ") ms in
-      let r = byte_here T p 33 (32 ∷ lay h ms) refl there in
+      let r = byte_here T p exclamation_mark (space ∷ lay h ms) refl there in
       let moved : Gives (g S) (move one_byte) (state h p) tt (state h (p + 1)) =
       subst (λ q. Gives (g S) (move one_byte) (state h p) tt (state h q)) r.place_after (moved_here one_byte) in
       let at_space : At S h (p + 1) (text (codes " ") ∷ ms) = r.rest ∙ sym (laid_text h (codes " ") ms) in
@@ -602,13 +603,13 @@ module _ {edition : Edition} {B T : List ℕ} {o : ℕ} {S : StandsIn edition B 
       Gives (g S) (move one_byte >> move one_byte) (state h q) tt (state h (q + 2))
   operator_passed h And q ms at =
       let there = at ∙ laid_text h (codes "&&") ms in
-      let one_is = byte_here T q 38 (38 ∷ lay h ms) refl there in
-      let two_is = byte_here T (q + 1) 38 (lay h ms) refl one_is.rest in
+      let one_is = byte_here T q ampersand (ampersand ∷ lay h ms) refl there in
+      let two_is = byte_here T (q + 1) ampersand (lay h ms) refl one_is.rest in
       two_moves h q one_is.place_after two_is.place_after
   operator_passed h Or q ms at =
       let there = at ∙ laid_text h (codes "||") ms in
-      let one_is = byte_here T q 124 (124 ∷ lay h ms) refl there in
-      let two_is = byte_here T (q + 1) 124 (lay h ms) refl one_is.rest in
+      let one_is = byte_here T q vertical_line (vertical_line ∷ lay h ms) refl there in
+      let two_is = byte_here T (q + 1) vertical_line (lay h ms) refl one_is.rest in
       two_moves h q one_is.place_after two_is.place_after
 
   record PartRead (h : Held) (acc : Row AnAndOrPart) (n : Next) (p : ℕ) (k : AndOrOperator) (j : AJoinOf Text)
@@ -631,8 +632,8 @@ module _ {edition : Edition} {B T : List ℕ} {o : ℕ} {S : StandsIn edition B 
 
   operator_here : (h : Held) (k : AndOrOperator) (q : ℕ) (ms : Marks) → At S h q (text (and_or_text k) ∷ ms) →
       q < length T
-  operator_here h And q ms at = some_here S q 38 (38 ∷ lay h ms) (at ∙ laid_text h (codes "&&") ms)
-  operator_here h Or q ms at = some_here S q 124 (124 ∷ lay h ms) (at ∙ laid_text h (codes "||") ms)
+  operator_here h And q ms at = some_here S q ampersand (ampersand ∷ lay h ms) (at ∙ laid_text h (codes "&&") ms)
+  operator_here h Or q ms at = some_here S q vertical_line (vertical_line ∷ lay h ms) (at ∙ laid_text h (codes "||") ms)
 
   one_part : (h : Held) (m : Text) (d : Text) (k : AndOrOperator) (j : AJoinOf Text) (x : Shape APipelineOf)
       (acc : Row AnAndOrPart) (n : Next) (q : ℕ) (ms : Marks) (t : Token)
@@ -707,8 +708,8 @@ module _ {edition : Edition} {B T : List ℕ} {o : ℕ} {S : StandsIn edition B 
   -- where an operator begins after a space
   operator_gap : (h : Held) (k : AndOrOperator) (e : ℕ) (ms : Marks) →
       At S h e (text (codes " ") ∷ text (and_or_text k) ∷ ms) → Gap T e (e + 1) false
-  operator_gap h And e ms at = space_then S h e 38 (38 ∷ []) ms refl refl at
-  operator_gap h Or e ms at = space_then S h e 124 (124 ∷ []) ms refl refl at
+  operator_gap h And e ms at = space_then S h e ampersand (ampersand ∷ []) ms refl refl at
+  operator_gap h Or e ms at = space_then S h e vertical_line (vertical_line ∷ []) ms refl refl at
 
   parts_read : (h : Held) (m : Text) (b : Bool) (xs : Shape AndOrPartsOf) (acc : Row AnAndOrPart) (e : ℕ)
       (rest : Marks) (t : Token) → all_blank m ≡ true → GoodParts edition room xs → are_normal_and_ors xs ≡ true

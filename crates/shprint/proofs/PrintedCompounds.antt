@@ -13,6 +13,7 @@ use Rattle.shgrammar.specs.declared.token.Reserved.{Reserved}
 use Rattle.shgrammar.specs.declared.token.Reserved.TheVariants as reserved
 use Rattle.shgrammar.specs.declared.token.Separator.TheVariants.{Semicolon}
 use Rattle.shgrammar.specs.declared.token.Token.TheVariants as tokens
+use Rattle.shgrammar.specs.Characters.{backslash, newline_char, number_sign, semicolon, space}
 use Rattle.shgrammar.specs.Bytes.{ends, past_byte, past_blanks}
 use Rattle.shgrammar.specs.Comments.{span}
 use Rattle.shgrammar.specs.Standing.{raw_stands}
@@ -50,7 +51,7 @@ pub record WordEnd (zs : Text) : Type 0 where
   pub x : ℕ
   pub xs : Text
   pub is : zs ≡ x ∷ xs
-  pub clear : (x == 92) ≡ false
+  pub clear : (x == backslash) ≡ false
   pub stops : ends (Some x) ≡ true
 
 pub follows_end : (zs : Text) → follows zs ≡ true → WordEnd zs
@@ -69,11 +70,11 @@ Ends ms = (h : Held) → WordEnd (lay h ms)
 
 pub line_end_end : (ms : Marks) → Ends (line_end ∷ ms)
 unfolding laid_after
-line_end_end ms h = record { x = 10; xs = after_line h ms; is = refl; clear = refl; stops = refl }
+line_end_end ms h = record { x = newline_char; xs = after_line h ms; is = refl; clear = refl; stops = refl }
 
 pub space_end : (ms : Marks) → Ends (text (codes " ") ∷ ms)
 unfolding laid_after
-space_end ms h = record { x = 32; xs = lay h ms; is = refl; clear = refl; stops = refl }
+space_end ms h = record { x = space; xs = lay h ms; is = refl; clear = refl; stops = refl }
 
 -- ---- conditions on one line
 
@@ -175,7 +176,7 @@ module _ {edition : Edition} {B T : List ℕ} {o : ℕ} (S : StandsIn edition B 
   -- a reserved word after a margin
   pub record ReservedRead (h : Held) (e : ℕ) (r : Reserved) (ms : Marks) : Type 0 where
     pub token_is : told S Command (past_blanks T e) ≡ tokens.Reserved r
-    pub not_comment : raw_stands T (past_blanks T e) 35 ≡ false
+    pub not_comment : raw_stands T (past_blanks T e) number_sign ≡ false
     pub s : Span
     pub f : ℕ
     pub at : At S h f ms
@@ -237,7 +238,7 @@ module _ {edition : Edition} {B T : List ℕ} {o : ℕ} (S : StandsIn edition B 
       }
 
   pub key_by : (w : Text) (r : Reserved) (ms : Marks) → Ends ms →
-      ((p x : ℕ) (xs : List ℕ) → (x == 92) ≡ false → ends (Some x) ≡ true → drop p T ≡ w ++ x ∷ xs →
+      ((p x : ℕ) (xs : List ℕ) → (x == backslash) ≡ false → ends (Some x) ≡ true → drop p T ≡ w ++ x ∷ xs →
       ReservedWord T p w r) → Key w r ms
   key_by w r ms e here h p at = let x = e h in here p x.x x.xs x.clear x.stops (at ∙ ap (λ z. w ++ z) x.is)
 
@@ -284,13 +285,13 @@ module _ {edition : Edition} {B T : List ℕ} {o : ℕ} (S : StandsIn edition B 
     no_round = refl;
     seen_as = λ h e at position.
         let there = at ∙ laid_text h (codes "; ") ms in
-        asked_after S position (no_gap (start_here (byte_here T e 59 (32 ∷ lay h ms) refl there) refl))
+        asked_after S position (no_gap (start_here (byte_here T e semicolon (space ∷ lay h ms) refl there) refl))
         ∙ ap (λ t. record { token = token_in edition t; broken = false })
-        (semicolon_token position T e 32 (lay h ms) refl refl refl there);
+        (semicolon_token position T e space (lay h ms) refl refl refl there);
   }
 
   -- no comment, and no newline
-  pub no_lines : (h : Held) (n : Next) (p : ℕ) → raw_stands T p 35 ≡ false → is_newline_token n.token ≡ false →
+  pub no_lines : (h : Held) (n : Next) (p : ℕ) → raw_stands T p number_sign ≡ false → is_newline_token n.token ≡ false →
       Gives (g S) (a_linebreak [] n) (state h p) (join_so (a_join_of false []) n) (state h p)
   unfolding a_linebreak
   no_lines h n p no_comment no_newline = last_turn join_turn (last_join_turn S h false [] n p no_comment no_newline)
@@ -347,10 +348,10 @@ module _ {edition : Edition} {B T : List ℕ} {o : ℕ} {S : StandsIn edition B 
       (text (codes "; ") ∷ ms) tokens.Semicolon blank good normal follower refl refl refl token_is at in
       let k = and_or_got.later in
       let there = and_or_got.at ∙ laid_text k (codes "; ") ms in
-      let gap = no_gap (start_here (byte_here T and_or_got.«end» 59 (32 ∷ lay k ms) refl there) refl) in
+      let gap = no_gap (start_here (byte_here T and_or_got.«end» semicolon (space ∷ lay k ms) refl there) refl) in
       let q = past_blanks T and_or_got.«end» in
-      let the_semicolon = byte_here T q 59 (32 ∷ lay k ms) refl
-      (subst (λ r. drop r T ≡ 59 ∷ 32 ∷ lay k ms) (sym gap.blanks) there) in
+      let the_semicolon = byte_here T q semicolon (space ∷ lay k ms) refl
+      (subst (λ r. drop r T ≡ semicolon ∷ space ∷ lay k ms) (sym gap.blanks) there) in
       let n_is = follower.seen_as k and_or_got.«end» and_or_got.at Command in
       let at_after : At S k (q + 1) (text (codes " ") ∷ ms) = the_semicolon.rest ∙ sym (laid_text k (codes " ") ms) in
       let low = gives_on (an_and_or (level room) n) _ _ _ and_or_got.reads in
@@ -856,10 +857,10 @@ module _ {edition : Edition} {B T : List ℕ} {o : ℕ} {S : StandsIn edition B 
   unfolding a_sequential_sep a_semicolon
   sep_read h e w r ms key at =
       let there = at ∙ laid_text h (codes "; ") (text w ∷ ms) in
-      let gap = no_gap (start_here (byte_here T e 59 (32 ∷ lay h (text w ∷ ms)) refl there) refl) in
+      let gap = no_gap (start_here (byte_here T e semicolon (space ∷ lay h (text w ∷ ms)) refl there) refl) in
       let q = past_blanks T e in
-      let the_semicolon = byte_here T q 59 (32 ∷ lay h (text w ∷ ms)) refl
-      (subst (λ r. drop r T ≡ 59 ∷ 32 ∷ lay h (text w ∷ ms)) (sym gap.blanks) there) in
+      let the_semicolon = byte_here T q semicolon (space ∷ lay h (text w ∷ ms)) refl
+      (subst (λ r. drop r T ≡ semicolon ∷ space ∷ lay h (text w ∷ ms)) (sym gap.blanks) there) in
       let n_is = (semicolon_follower S (text w ∷ ms)).seen_as h e at Command in
       let k = reserved_read S h (codes " ") w r (q + 1) ms refl key
       (the_semicolon.rest ∙ sym (laid_text h (codes " ") (text w ∷ ms))) in

@@ -9,6 +9,7 @@ use Rattle.shgrammar.specs.declared.token.Position.{Position}
 use Rattle.shgrammar.specs.declared.token.Position.TheVariants.{Command, Prefix, Suffix}
 use Rattle.shgrammar.specs.declared.token.Token.{Token}
 use Rattle.shgrammar.specs.declared.token.Token.TheVariants as tokens
+use Rattle.shgrammar.specs.Characters.{ampersand, backslash, greater_than_sign, hyphen, less_than_sign, newline_char, space, vertical_line}
 use Rattle.shgrammar.specs.Bytes.{stands, past_continuations, past_blanks}
 use Rattle.shgrammar.specs.Comments.{span}
 use Rattle.shgrammar.specs.Standing.{is_byte}
@@ -149,11 +150,12 @@ module _ {edition : Edition} {B T : List ℕ} {o : ℕ} (S : StandsIn edition B 
 
   -- ---- redirections
 
-  one_byte_moves : (h : Held) (p c : ℕ) (xs : Text) → (c == 92) ≡ false → drop p T ≡ c ∷ xs →
+  one_byte_moves : (h : Held) (p c : ℕ) (xs : Text) → (c == backslash) ≡ false → drop p T ≡ c ∷ xs →
       Gives (g S) (move one_byte >> give {X = Unit {0}} tt >> give {X = Unit {0}} tt) (state h p) tt (state h (p + 1))
   one_byte_moves h p c xs clear at = byte_moved S h p c xs clear at ⟫ given_here ⟫ given_here
 
-  two_bytes_move : (h : Held) (p c d : ℕ) (xs : Text) → (c == 92) ≡ false → (d == 92) ≡ false → drop p T ≡ c ∷ d ∷ xs
+  two_bytes_move : (h : Held) (p c d : ℕ) (xs : Text) → (c == backslash) ≡ false → (d == backslash) ≡ false →
+      drop p T ≡ c ∷ d ∷ xs
       → Gives (g S) (move one_byte >> move one_byte >> give {X = Unit {0}} tt) (state h p) tt (state h (p + 2))
   two_bytes_move h p c d xs clear clear_too at =
       let two : p + 1 + 1 ≡ p + 2 = omega arith in
@@ -164,20 +166,21 @@ module _ {edition : Edition} {B T : List ℕ} {o : ℕ} (S : StandsIn edition B 
   operator_moves : (h : Held) (k : RedirectOperator) (p : ℕ) (xs : Text) → drop p T ≡ redirect_text k ++ xs
       → Gives (g S) (move one_byte >> pick (is_long k) (move one_byte) (give tt) >> pick (is_strip k) (move one_byte)
       (give tt)) (state h p) tt (state h (p + length (redirect_text k)))
-  operator_moves h redirects.Input p xs at = one_byte_moves h p 60 xs refl at
-  operator_moves h redirects.Output p xs at = one_byte_moves h p 62 xs refl at
-  operator_moves h redirects.Here p xs at = two_bytes_move h p 60 60 xs refl refl at
-  operator_moves h redirects.Append p xs at = two_bytes_move h p 62 62 xs refl refl at
-  operator_moves h redirects.DuplicateInput p xs at = two_bytes_move h p 60 38 xs refl refl at
-  operator_moves h redirects.DuplicateOutput p xs at = two_bytes_move h p 62 38 xs refl refl at
-  operator_moves h redirects.ReadWrite p xs at = two_bytes_move h p 60 62 xs refl refl at
+  operator_moves h redirects.Input p xs at = one_byte_moves h p less_than_sign xs refl at
+  operator_moves h redirects.Output p xs at = one_byte_moves h p greater_than_sign xs refl at
+  operator_moves h redirects.Here p xs at = two_bytes_move h p less_than_sign less_than_sign xs refl refl at
+  operator_moves h redirects.Append p xs at = two_bytes_move h p greater_than_sign greater_than_sign xs refl refl at
+  operator_moves h redirects.DuplicateInput p xs at = two_bytes_move h p less_than_sign ampersand xs refl refl at
+  operator_moves h redirects.DuplicateOutput p xs at = two_bytes_move h p greater_than_sign ampersand xs refl refl at
+  operator_moves h redirects.ReadWrite p xs at = two_bytes_move h p less_than_sign greater_than_sign xs refl refl at
   operator_moves h redirects.HereStripped p xs at =
       let three : p + 1 + 1 + 1 ≡ p + 3 = omega arith in
-      let there = byte_after S p 60 60 (45 ∷ xs) at in
+      let there = byte_after S p less_than_sign less_than_sign (hyphen ∷ xs) at in
       subst (λ q. Gives (g S) (move one_byte >> move one_byte >> move one_byte) (state h p) tt (state h q)) three
-      (byte_moved S h p 60 (60 ∷ 45 ∷ xs) refl at ⟫ byte_moved S h (p + 1) 60 (45 ∷ xs) refl there ⟫ byte_moved S h
-      (p + 1 + 1) 45 xs refl (byte_after S (p + 1) 60 45 xs there))
-  operator_moves h redirects.Clobber p xs at = two_bytes_move h p 62 124 xs refl refl at
+      (byte_moved S h p less_than_sign (less_than_sign ∷ hyphen ∷ xs) refl at ⟫
+      byte_moved S h (p + 1) less_than_sign (hyphen ∷ xs) refl there ⟫ byte_moved S h
+      (p + 1 + 1) hyphen xs refl (byte_after S (p + 1) less_than_sign hyphen xs there))
+  operator_moves h redirects.Clobber p xs at = two_bytes_move h p greater_than_sign vertical_line xs refl refl at
 
   -- the number before an operator, or none
   record NumberRead (h : Held) (number : Option Text) (k : RedirectOperator) (n : Next) (p : ℕ)
@@ -283,8 +286,8 @@ module _ {edition : Edition} {B T : List ℕ} {o : ℕ} (S : StandsIn edition B 
     is_whole : IsWhole k T e
 
   -- after `<<` a space, or a word that does not begin with `-`
-  whole_by : (k : RedirectOperator) (e c : ℕ) (cs : Text) → Reads T e c cs → (c == 45) ≡ false → IsWhole k T e
-  whole_by redirects.Here e c cs r other = is_here 45 r ∙ other
+  whole_by : (k : RedirectOperator) (e c : ℕ) (cs : Text) → Reads T e c cs → (c == hyphen) ≡ false → IsWhole k T e
+  whole_by redirects.Here e c cs r other = is_here hyphen r ∙ other
   whole_by redirects.Input e c cs r other = tt
   whole_by redirects.Output e c cs r other = tt
   whole_by redirects.Append e c cs r other = tt
@@ -298,8 +301,8 @@ module _ {edition : Edition} {B T : List ℕ} {o : ℕ} (S : StandsIn edition B 
       past_continuations T e ≡ e → would_lengthen k t ≡ false → IsWhole k T e
   unfolding stands
   whole_word redirects.Here e [] zs at some place other = absurd (omega (arith, some))
-  whole_word redirects.Here e (c ∷ cs) zs at some place other = ap (λ q. is_byte (slice_get T q) 45) place
-      ∙ ap (λ x. is_byte x 45) (first T e c (cs ++ zs) at) ∙ other
+  whole_word redirects.Here e (c ∷ cs) zs at some place other = ap (λ q. is_byte (slice_get T q) hyphen) place
+      ∙ ap (λ x. is_byte x hyphen) (first T e c (cs ++ zs) at) ∙ other
   whole_word redirects.Input e t zs at some place other = tt
   whole_word redirects.Output e t zs at some place other = tt
   whole_word redirects.Append e t zs at some place other = tt
@@ -323,8 +326,8 @@ module _ {edition : Edition} {B T : List ℕ} {o : ℕ} (S : StandsIn edition B 
         at = at_after;
         gap = blank_gap refl there (no_gap (record { place = found.place; no_blank = found.no_blank }));
         no_longer = space_no_longer T e (lay h (text t ∷ rest)) there;
-        is_whole = whole_by k e 32 (lay h (text t ∷ rest))
-            (byte_here T e 32 (lay h (text t ∷ rest)) refl there) refl;
+        is_whole = whole_by k e space (lay h (text t ∷ rest))
+            (byte_here T e space (lay h (text t ∷ rest)) refl there) refl;
       }
   target_there h k false e t ss rest dash good follow at =
       let found = good.there (g S) e (lay h rest) (at ∙ laid_text h t rest) (follow (held_bytes h.waiting)) in
@@ -363,7 +366,7 @@ module _ {edition : Edition} {B T : List ℕ} {o : ℕ} (S : StandsIn edition B 
   }
   document_read h k b p t f ss (Some d) rest good at =
       let x : Document = record { b = b; strip = is_strip k; d = good.d; bytes = d.body; good = good.reads } in
-      let line : delimiter_line (delimiter_of t) ≡ good.d.text ++ 10 ∷ [] =
+      let line : delimiter_line (delimiter_of t) ≡ good.d.text ++ newline_char ∷ [] =
       ap delimiter_line (delimiter_stays edition t good.d good.delimits) in
       let bytes : held_bytes h.waiting ++ (d.body ++ delimiter_line (delimiter_of t))
       ≡ held_bytes (h.waiting ++ x ∷ []) = ap (λ r. held_bytes h.waiting ++ (d.body ++ r)) line
@@ -700,15 +703,15 @@ module _ {edition : Edition} {B T : List ℕ} {o : ℕ} (S : StandsIn edition B 
       → GapRead h e broken ms
   gap_read h y m false e ms blank c cs is at =
       let there = at ∙ laid_text h (codes " ") ms in
-      record { p = e + 1; at = next_one T e 32 (lay h ms) there; gap = λ s. blank_gap refl there (no_gap s) }
+      record { p = e + 1; at = next_one T e space (lay h ms) there; gap = λ s. blank_gap refl there (no_gap s) }
   gap_read h y m true e ms blank c cs is at =
-      let there : drop e T ≡ 32 ∷ 92 ∷ 10 ∷ c ∷ (cs ++ lay h ms) =
+      let there : drop e T ≡ space ∷ backslash ∷ newline_char ∷ c ∷ (cs ++ lay h ms) =
       at ∙ laid_text h (codes " \\\n") (text (deeper y m) ∷ ms)
-      ∙ ap (λ z. 32 ∷ 92 ∷ 10 ∷ z) (laid_text h (deeper y m) ms ∙ ap (λ z. z ++ lay h ms) is) in
-      let n : e + length (32 ∷ 92 ∷ 10 ∷ c ∷ cs) ≡ e + 3 + length (c ∷ cs) = omega arith in
+      ∙ ap (λ z. space ∷ backslash ∷ newline_char ∷ z) (laid_text h (deeper y m) ms ∙ ap (λ z. z ++ lay h ms) is) in
+      let n : e + length (space ∷ backslash ∷ newline_char ∷ c ∷ cs) ≡ e + 3 + length (c ∷ cs) = omega arith in
       record {
         p = e + 3 + length (c ∷ cs);
-        at = subst (λ q. drop q T ≡ lay h ms) n (skip T e (32 ∷ 92 ∷ 10 ∷ c ∷ cs) (lay h ms) there);
+        at = subst (λ q. drop q T ≡ lay h ms) n (skip T e (space ∷ backslash ∷ newline_char ∷ c ∷ cs) (lay h ms) there);
         gap = broken_gap T e c cs (lay h ms) (subst (λ z. all_blank z ≡ true) is blank) there;
       }
 

@@ -12,6 +12,7 @@ use Rattle.shgrammar.specs.declared.token.Separator.{Separator}
 use Rattle.shgrammar.specs.declared.token.Separator.TheVariants.{Ampersand}
 use Rattle.shgrammar.specs.declared.token.Token.{Token}
 use Rattle.shgrammar.specs.declared.token.Token.TheVariants as tokens
+use Rattle.shgrammar.specs.Characters.{ampersand, newline_char, number_sign, space}
 use Rattle.shgrammar.specs.Bytes.{past_byte, byte_at, past_blanks}
 use Rattle.shgrammar.specs.Comments.{span}
 use Rattle.shgrammar.specs.Standing.{raw_stands}
@@ -50,7 +51,7 @@ own_parted : (h : Held) (comment : Option Text) (rest : Marks) →
     Parted (lay h (print_own_comment comment ++ (line_end ∷ rest)))
 unfolding laid_after
 own_parted h None rest = record {
-  c = 10;
+  c = newline_char;
   cs = _;
   is = refl;
   no_backslash = refl;
@@ -58,7 +59,7 @@ own_parted h None rest = record {
   no_ampersand = refl;
 }
 own_parted h (Some c) rest =
-    record { c = 32; cs = _; is = refl; no_backslash = refl; no_bar = refl; no_ampersand = refl }
+    record { c = space; cs = _; is = refl; no_backslash = refl; no_bar = refl; no_ampersand = refl }
 
 pub entry_marks : (y : Layout) (d : Text) (what : Shape AContentOf) (background blank : Bool) (comment : Option Text)
     (es : Shape EntriesOf) (rest : Marks)
@@ -113,7 +114,7 @@ module _ {edition : Edition} {B T : List ℕ} {o : ℕ} (S : StandsIn edition B 
     seen_as = λ h e at position. (newline_next S h position e rest at).0;
   }
 
-  sharp_token : (position : Position) (q : ℕ) → byte_at T q ≡ Some 35 → told S position q ≡ tokens.Comment
+  sharp_token : (position : Position) (q : ℕ) → byte_at T q ≡ Some number_sign → told S position q ≡ tokens.Comment
   unfolding token_at
   sharp_token position q e = tell S (ap (token_of position T q) e)
 
@@ -141,12 +142,12 @@ module _ {edition : Edition} {B T : List ℕ} {o : ℕ} (S : StandsIn edition B 
     no_round = refl;
     seen_as = λ h e at position.
         let there = at ∙ laid_text h (codes " &") ms in
-        let amp = next_one T e 32 (38 ∷ lay h ms) there in
-        let start = start_here (byte_here T (e + 1) 38 (lay h ms) refl amp) refl in
+        let amp = next_one T e space (ampersand ∷ lay h ms) there in
+        let start = start_here (byte_here T (e + 1) ampersand (lay h ms) refl amp) refl in
         let gap = blank_gap refl there (no_gap start) in
         asked_after S position gap ∙ ap (λ t. record { token = token_in edition t; broken = false })
         (ampersand_token position T (e + 1) (parted h).c (parted h).cs (parted h).no_backslash
-        (parted h).no_ampersand (amp ∙ ap (λ z. 38 ∷ z) (parted h).is));
+        (parted h).no_ampersand (amp ∙ ap (λ z. ampersand ∷ z) (parted h).is));
   }
 
   entry_follow : (background : Bool) (comment : Option Text) (rest : Marks) → GoodOwnComment comment →
@@ -207,11 +208,12 @@ module _ {edition : Edition} {B T : List ℕ} {o : ℕ} (S : StandsIn edition B 
   separator_read h true comment rest e good at =
       let ms = print_own_comment comment ++ (line_end ∷ rest) in
       let there = at ∙ laid_text h (codes " &") ms in
-      let amp = next_one T e 32 (38 ∷ lay h ms) there in
-      let r = byte_here T (e + 1) 38 (lay h ms) refl amp in
+      let amp = next_one T e space (ampersand ∷ lay h ms) there in
+      let r = byte_here T (e + 1) ampersand (lay h ms) refl amp in
       let gap = blank_gap refl there (no_gap (start_here r refl)) in
       let q = past_blanks T e in
-      let the_ampersand = byte_here T q 38 (lay h ms) refl (subst (λ p. drop p T ≡ 38 ∷ lay h ms) (sym gap.blanks) amp) in
+      let the_ampersand = byte_here T q ampersand (lay h ms) refl
+      (subst (λ p. drop p T ≡ ampersand ∷ lay h ms) (sym gap.blanks) amp) in
       let n_is = (background_follower ms (λ h. own_parted h comment rest)).seen_as h e at Command in
       record {
         separator = Some (Ampersand, o + (q + 1));
@@ -260,7 +262,7 @@ module _ {edition : Edition} {B T : List ℕ} {o : ℕ} (S : StandsIn edition B 
         «end» = f;
         at = at;
         reads = no_comment_read S h (asked S Command f) (past_blanks T f)
-            (no_byte S (past_blanks T f) 10 (after_line h rest) 35 refl (at_q ∙ laid_line h rest));
+            (no_byte S (past_blanks T f) newline_char (after_line h rest) number_sign refl (at_q ∙ laid_line h rest));
         shape = refl;
       }
   own_read h (Some c) rest f good at =
@@ -279,7 +281,7 @@ module _ {edition : Edition} {B T : List ℕ} {o : ℕ} (S : StandsIn edition B 
 
   -- ---- the end of a line, and of a list
 
-  pub no_remark : (h : Held) (l : Listed) (n : Next) (p : ℕ) → raw_stands T p 35 ≡ false →
+  pub no_remark : (h : Held) (l : Listed) (n : Next) (p : ℕ) → raw_stands T p number_sign ≡ false →
       Gives (g S) (a_remark (list_so l n)) (state h p) (list_so l n) (state h p)
   unfolding a_remark
   no_remark h l n p e = no_comment_read S h n p e ⟫ given_here
@@ -289,7 +291,7 @@ module _ {edition : Edition} {B T : List ℕ} {o : ℕ} (S : StandsIn edition B 
     pub n_is : asked S Command e ≡ record { token = tokens.Newline; broken = false }
     pub q_is : past_blanks T e ≡ e
     pub at_q : At S h (past_blanks T e) (line_end ∷ rest)
-    pub no_comment_q : raw_stands T (past_blanks T e) 35 ≡ false
+    pub no_comment_q : raw_stands T (past_blanks T e) number_sign ≡ false
 
   pub line_end_here : (h : Held) (e : ℕ) (rest : Marks) → At S h e (line_end ∷ rest) → LineEnd h e rest
   line_end_here h e rest at =
@@ -299,7 +301,8 @@ module _ {edition : Edition} {B T : List ℕ} {o : ℕ} (S : StandsIn edition B 
         n_is = line.0;
         q_is = line.1;
         at_q = at_q;
-        no_comment_q = no_byte S (past_blanks T e) 10 (after_line h rest) 35 refl (at_q ∙ laid_line h rest);
+        no_comment_q = no_byte S (past_blanks T e) newline_char (after_line h rest) number_sign refl
+            (at_q ∙ laid_line h rest);
       }
 
   pub pipeline_within : (p : ℕ) → PipelineBegins S p → p < length T
@@ -315,7 +318,7 @@ module _ {edition : Edition} {B T : List ℕ} {o : ℕ} (S : StandsIn edition B 
   pub record Closes (e : ℕ) : Type 0 where
     pub not_entry : begins_pipeline (told S Command (past_blanks T e)) ≡ false
     pub not_newline : is_newline_token (told S Command (past_blanks T e)) ≡ false
-    pub not_comment : raw_stands T (past_blanks T e) 35 ≡ false
+    pub not_comment : raw_stands T (past_blanks T e) number_sign ≡ false
 
 module _ {edition : Edition} {B T : List ℕ} {o : ℕ} {S : StandsIn edition B T o} {room : ℕ} {y : Layout}
     (fine : Fine S room y) where
@@ -396,7 +399,8 @@ module _ {edition : Edition} {B T : List ℕ} {o : ℕ} {S : StandsIn edition B 
 
   -- a line without entries, up to what ends it
   pub nothing_on_line : (h : Held) (l : Listed) (n : Next) (p : ℕ) → begins_pipeline n.token ≡ false →
-      raw_stands T p 35 ≡ false → Gives (g S) (on_line (level room) (list_so l n)) (state h p) (list_so l n) (state h p)
+      raw_stands T p number_sign ≡ false →
+      Gives (g S) (on_line (level room) (list_so l n)) (state h p) (list_so l n) (state h p)
   unfolding on_line
   nothing_on_line h l n p e f = last_turn (entry_turn (level room)) (no_entry_turn h l n p e) ⟫ no_remark S h l n p f
 
@@ -484,7 +488,7 @@ module _ {edition : Edition} {B T : List ℕ} {o : ℕ} {S : StandsIn edition B 
           absurd (both_ways (is_newline_token (told S Command p)) b.operand.no_newline
           (ap is_newline_token (tell S
           (newline_token Command T p (after_line h rest)
-          (subst (λ r. drop r T ≡ 10 ∷ after_line h rest) (sym same) (at_q ∙ laid_line h rest)))))))
+          (subst (λ r. drop r T ≡ newline_char ∷ after_line h rest) (sym same) (at_q ∙ laid_line h rest)))))))
           (cases_lt p q)
 
   -- a comment on a line of its own
@@ -576,7 +580,7 @@ module _ {edition : Edition} {B T : List ℕ} {o : ℕ} {S : StandsIn edition B 
       let line = line_end_here S r.later r.«end» rest r.at in
       let q = past_blanks T r.«end» in
       let low = gives_on (on_line (level room) (list_so (at_line_start acc blank commands before) n)) _ _ _ r.reads in
-      let within = some_here S q 10 (after_line r.later rest) (line.at_q ∙ laid_line r.later rest) in
+      let within = some_here S q newline_char (after_line r.later rest) (line.at_q ∙ laid_line r.later rest) in
       let z = newline_read S r.later (asked S Command r.«end») q rest
       (ap (λ (n : Next). is_newline_token n.token) line.n_is) line.at_q in
       record {
@@ -621,7 +625,7 @@ module _ {edition : Edition} {B T : List ℕ} {o : ℕ} {S : StandsIn edition B 
         reads = nothing_on_line h (at_line_start acc blank commands before) (asked S Command e) p
             (ap (λ (n : Next). begins_pipeline n.token) line.n_is) line.no_comment_q ⟫ z.reads ⟫ given_here;
         on = leads S h z.later p (past_blanks T z.q) (omega (arith, z.on, blanks_low T z.q))
-            (some_here S p 10 (after_line h rest) (line.at_q ∙ laid_line h rest));
+            (some_here S p newline_char (after_line h rest) (line.at_q ∙ laid_line h rest));
         texts = z.texts;
       }
 

@@ -13,6 +13,7 @@ use Rattle.shgrammar.specs.declared.token.Reserved.{Reserved}
 use Rattle.shgrammar.specs.declared.token.Reserved.TheVariants as reserved
 use Rattle.shgrammar.specs.declared.token.Token.{Token}
 use Rattle.shgrammar.specs.declared.token.Token.TheVariants as tokens
+use Rattle.shgrammar.specs.Characters.{left_parenthesis, newline_char, number_sign, right_parenthesis}
 use Rattle.shgrammar.specs.Bytes.{past_blanks}
 use Rattle.shgrammar.specs.Comments.{span}
 use Rattle.shgrammar.specs.Standing.{is_byte, raw_stands}
@@ -138,7 +139,7 @@ module _ {edition : Edition} {B T : List ℕ} {o : ℕ} {S : StandsIn edition B 
       ap (laid_after held) parts
       ∙ ap (λ z. codes "case " ++ z)
       (laid_same (print_word w) _ (case_marks y m items tail rest)
-      (λ held. ap (λ z. codes " in" ++ (10 ∷ held ++ z)) (items_are fine m items tail rest good.1 [])) held)
+      (λ held. ap (λ z. codes " in" ++ (newline_char ∷ held ++ z)) (items_are fine m items tail rest good.1 [])) held)
 
   form_read : (h : Held) (m : Text) (form : Shape AFormOf) (f : ℕ) (rest : Marks) → all_blank m ≡ true →
       GoodForm edition room form → is_normal_form form ≡ true → Ends rest → At S h f (form_rest y m form rest)
@@ -235,7 +236,7 @@ module _ {edition : Edition} {B T : List ℕ} {o : ℕ} {S : StandsIn edition B 
   opened_paren : (h : Held) (p : ℕ) (ms : Marks) → At S h p (text (codes "(") ∷ ms) → Opened h p openers.Paren ms
   opened_paren h p ms at =
       let there = at ∙ laid_text h (codes "(") ms in
-      let r = byte_here T p 40 (lay h ms) refl there in
+      let r = byte_here T p left_parenthesis (lay h ms) refl there in
       let token_is = tell S (open_token Command T p (lay h ms) there) in
       record {
         opens = record {
@@ -417,8 +418,9 @@ module _ {edition : Edition} {B T : List ℕ} {o : ℕ} {S : StandsIn edition B 
   function_read h m name cs body p rest t blank own good normal f none at =
       let ms = print_compound y m body ++ rest in
       let X = function_rest y m cs body rest in
-      let opener = byte_here T p 40 (41 ∷ lay h X) refl (at ∙ laid_text h (codes "()") X) in
-      let closer = byte_here T (p + 1) 41 (lay h X) refl opener.rest in
+      let opener = byte_here T p left_parenthesis (right_parenthesis ∷ lay h X) refl
+      (at ∙ laid_text h (codes "()") X) in
+      let closer = byte_here T (p + 1) right_parenthesis (lay h X) refl opener.rest in
       let gap = no_gap (start_here closer refl) in
       let closes = ap (λ (n : Next). is_closing closings.Paren n.token) (asked_after S Command gap)
       ∙ ap (is_closing closings.Paren) (tell S (close_token Command T (p + 1) (lay h X) opener.rest)) in
@@ -497,7 +499,7 @@ module _ {edition : Edition} {B T : List ℕ} {o : ℕ} (S : StandsIn edition B 
     ended_by h n q rest is at =
         let line = emptied S h q rest at in
         let moved = one_moved S h q
-        (byte_here T q 10 (after_line h rest) refl (at ∙ laid_line h rest)).place_after in
+        (byte_here T q newline_char (after_line h rest) refl (at ∙ laid_line h rest)).place_after in
         (line, first_of _ _ is (moved ⟫ line.reads ⟫ given_here))
 
     -- a level of its own, read from where nothing waits
@@ -590,7 +592,7 @@ module _ {edition : Edition} {B T : List ℕ} {o : ℕ} (S : StandsIn edition B 
         let at_q = subst (λ p. drop p T ≡ []) (sym it.gap.blanks) at in
         let whole : Gives (g S) (an_open_line top blank) (standing 0) ([], false) (state h q) =
         next_read S h Command 0 ⟫ nothing_on_line (fine y most_open) h (none_listed blank) n q
-        (ap begins_pipeline token_is) (no_byte_end T q 35 at_q)
+        (ap begins_pipeline token_is) (no_byte_end T q number_sign at_q)
         ⟫ second_of _ _ (ap is_newline_token token_is)
         (first_of _ _ (ap is_end token_is) ((seen_here a_document_waits ⟫ given_here) ⟫ given_here)) ⟫ given_here in
         let filled : Gives (g S) (a_line top blank) (standing 0) (filled_row [] [], false) (standing q) =

@@ -15,6 +15,7 @@ use Rattle.shgrammar.specs.declared.token.Reserved.{Reserved}
 use Rattle.shgrammar.specs.declared.token.Reserved.TheVariants as reserved
 use Rattle.shgrammar.specs.declared.token.Token.{Token}
 use Rattle.shgrammar.specs.declared.token.Token.TheVariants as tokens
+use Rattle.shgrammar.specs.Characters.{ampersand, backslash, newline_char, number_sign, space, tab, vertical_line}
 use Rattle.shgrammar.specs.Classes.{is_blank}
 use Rattle.shgrammar.specs.Bytes.{past_byte, past_continuations, byte_at, past_blanks, is_broken_at}
 use Rattle.shgrammar.specs.Comments.{span, comment_at}
@@ -51,7 +52,7 @@ laid_text h t ms = refl
 abbrev pub after_line : Held → Marks → Text
 after_line h ms = held_bytes h.waiting ++ laid_after [] ms
 
-pub laid_line : (h : Held) (ms : Marks) → lay h (line_end ∷ ms) ≡ 10 ∷ after_line h ms
+pub laid_line : (h : Held) (ms : Marks) → lay h (line_end ∷ ms) ≡ newline_char ∷ after_line h ms
 unfolding laid_after
 laid_line h ms = refl
 
@@ -64,12 +65,12 @@ pub laid_same : (ms a b : Marks) → Alike a b → Alike (ms ++ a) (ms ++ b)
 unfolding laid_after
 laid_same [] a b e held = e held
 laid_same (text t ∷ ms) a b e held = ap (λ z. t ++ z) (laid_same ms a b e held)
-laid_same (line_end ∷ ms) a b e held = ap (λ z. 10 ∷ held ++ z) (laid_same ms a b e [])
+laid_same (line_end ∷ ms) a b e held = ap (λ z. newline_char ∷ held ++ z) (laid_same ms a b e [])
 laid_same (document t ∷ ms) a b e held = laid_same ms a b e (held ++ t)
 
 -- ---- margins
 
-all_spaces : (n : ℕ) → all_blank (replicate n 32) ≡ true
+all_spaces : (n : ℕ) → all_blank (replicate n space) ≡ true
 all_spaces zero = refl
 all_spaces (suc n) = all_spaces n
 
@@ -78,7 +79,7 @@ blank_join [] b one two = two
 blank_join (c ∷ a) b one two = let parts = and_parts _ _ one in and_from _ _ parts.0 (blank_join a b parts.1 two)
 
 step_blank : (y : Layout) → all_blank (step y) ≡ true
-step_blank y = cond_both (y.indent == 0) (codes "\t") (replicate y.indent 32) (λ t. all_blank t ≡ true) (λ e. refl)
+step_blank y = cond_both (y.indent == 0) (codes "\t") (replicate y.indent space) (λ t. all_blank t ≡ true) (λ e. refl)
     (λ e. all_spaces y.indent)
 
 pub deeper_blank : (y : Layout) (m : Text) → all_blank m ≡ true → all_blank (deeper y m) ≡ true
@@ -87,12 +88,12 @@ deeper_blank y m blank = blank_join m (step y) blank (step_blank y)
 abbrev pub Some_byte : Text → Type 0
 Some_byte t = (c : ℕ) × (cs : Text) × (t ≡ c ∷ cs)
 
-some_spaces : (n : ℕ) → (n == 0) ≡ false → Some_byte (replicate n 32)
+some_spaces : (n : ℕ) → (n == 0) ≡ false → Some_byte (replicate n space)
 some_spaces zero e = absurd cc
-some_spaces (suc n) e = (32, replicate n 32, refl)
+some_spaces (suc n) e = (space, replicate n space, refl)
 
 step_some : (y : Layout) → Some_byte (step y)
-step_some y = cond_both (y.indent == 0) (codes "\t") (replicate y.indent 32) Some_byte (λ e. (9, [], refl))
+step_some y = cond_both (y.indent == 0) (codes "\t") (replicate y.indent space) Some_byte (λ e. (tab, [], refl))
     (λ e. some_spaces y.indent e)
 
 pub deeper_some : (y : Layout) (m : Text) → Some_byte (deeper y m)
@@ -165,21 +166,21 @@ pub record Parted (t : Text) : Type 0 where
   pub c : ℕ
   pub cs : Text
   pub is : t ≡ c ∷ cs
-  pub no_backslash : (c == 92) ≡ false
-  pub no_bar : (c == 124) ≡ false
-  pub no_ampersand : (c == 38) ≡ false
+  pub no_backslash : (c == backslash) ≡ false
+  pub no_bar : (c == vertical_line) ≡ false
+  pub no_ampersand : (c == ampersand) ≡ false
 
 pub join_parted : (h : Held) (y : Layout) (m : Text) (broken : Bool) (cs : Row Text) (ms : Marks) →
     Parted (lay h (join_rest y m (record { broken = broken; comments = cs }) ++ ms))
 unfolding laid_after
 join_parted h y m false [] ms =
-    record { c = 32; cs = lay h ms; is = refl; no_backslash = refl; no_bar = refl; no_ampersand = refl }
+    record { c = space; cs = lay h ms; is = refl; no_backslash = refl; no_bar = refl; no_ampersand = refl }
 join_parted h y m true [] ms =
-    record { c = 10; cs = _; is = refl; no_backslash = refl; no_bar = refl; no_ampersand = refl }
+    record { c = newline_char; cs = _; is = refl; no_backslash = refl; no_bar = refl; no_ampersand = refl }
 join_parted h y m false (c ∷ cs) ms =
-    record { c = 32; cs = _; is = refl; no_backslash = refl; no_bar = refl; no_ampersand = refl }
+    record { c = space; cs = _; is = refl; no_backslash = refl; no_bar = refl; no_ampersand = refl }
 join_parted h y m true (c ∷ cs) ms =
-    record { c = 32; cs = _; is = refl; no_backslash = refl; no_bar = refl; no_ampersand = refl }
+    record { c = space; cs = _; is = refl; no_backslash = refl; no_bar = refl; no_ampersand = refl }
 
 abbrev pub operator_token : AndOrOperator → Token
 operator_token And = tokens.AndIf
@@ -243,7 +244,7 @@ module _ {edition : Edition} {B T : List ℕ} {o : ℕ} (S : StandsIn edition B 
   one_moved h p on = subst (λ q. Gives (g S) (move one_byte) (state h p) tt (state h q)) on (moved_here one_byte)
 
   -- one byte that is read as it stands
-  pub byte_moved : (h : Held) (p c : ℕ) (xs : Text) → (c == 92) ≡ false → drop p T ≡ c ∷ xs →
+  pub byte_moved : (h : Held) (p c : ℕ) (xs : Text) → (c == backslash) ≡ false → drop p T ≡ c ∷ xs →
       Gives (g S) (move one_byte) (state h p) tt (state h (p + 1))
   byte_moved h p c xs clear at = one_moved h p (byte_here T p c xs clear at).place_after
 
@@ -293,7 +294,7 @@ module _ {edition : Edition} {B T : List ℕ} {o : ℕ} (S : StandsIn edition B 
       (asked position e ≡ record { token = tokens.Newline; broken = false }) × (past_blanks T e ≡ e)
   newline_next h position e ms at =
       let there = at ∙ laid_line h ms in
-      let gap = no_gap (start_here (byte_here T e 10 (after_line h ms) refl there) refl) in (
+      let gap = no_gap (start_here (byte_here T e newline_char (after_line h ms) refl there) refl) in (
         asked_after position gap ∙ ap (λ t. record { token = token_in edition t; broken = false })
             (newline_token position T e (after_line h ms) there),
         gap.blanks,
@@ -313,7 +314,7 @@ module _ {edition : Edition} {B T : List ℕ} {o : ℕ} (S : StandsIn edition B 
   unfolding a_newline
   newline_read h n p ms is at =
       let line = emptied S h p ms at in
-      let moved = one_moved h p (byte_here T p 10 (after_line h ms) refl (at ∙ laid_line h ms)).place_after in
+      let moved = one_moved h p (byte_here T p newline_char (after_line h ms) refl (at ∙ laid_line h ms)).place_after in
       record {
         later = line.later;
         q = line.q;
@@ -328,7 +329,7 @@ module _ {edition : Edition} {B T : List ℕ} {o : ℕ} (S : StandsIn edition B 
   unfolding a_newline
   no_newline_read h n p is = second_of _ _ is given_here
 
-  pub no_comment_read : (h : Held) (n : Next) (p : ℕ) → raw_stands T p 35 ≡ false →
+  pub no_comment_read : (h : Held) (n : Next) (p : ℕ) → raw_stands T p number_sign ≡ false →
       Gives (g S) (a_comment n) (state h p) (None, n) (state h p)
   unfolding a_comment comment_at
   no_comment_read h n p none = seen_here the_comment ⟫ (rw none given_here)
@@ -370,11 +371,11 @@ module _ {edition : Edition} {B T : List ℕ} {o : ℕ} (S : StandsIn edition B 
   -- what an operand begins with
   pub record Operand (p : ℕ) : Type 0 where
     pub start : Start T p
-    pub no_comment : raw_stands T p 35 ≡ false
+    pub no_comment : raw_stands T p number_sign ≡ false
     pub no_newline : is_newline_token (told Command p) ≡ false
 
   -- the turns of a join: none, a comment and its newline, a newline
-  pub last_join_turn : (h : Held) (b : Bool) (acc : Row Span) (n : Next) (p : ℕ) → raw_stands T p 35 ≡ false →
+  pub last_join_turn : (h : Held) (b : Bool) (acc : Row Span) (n : Next) (p : ℕ) → raw_stands T p number_sign ≡ false →
       is_newline_token n.token ≡ false
       → Gives (g S) (join_turn (join_so (a_join_of b acc) n)) (state h p) (done (join_so (a_join_of b acc) n))
       (state h p)
@@ -437,11 +438,12 @@ module _ {edition : Edition} {B T : List ℕ} {o : ℕ} (S : StandsIn edition B 
         later = r.later;
         q = r.q;
         at = r.at;
-        reads = no_comment_read h n p (no_byte p 10 (after_line h ms) 35 refl there) ⟫ given_here ⟫ r.reads
+        reads = no_comment_read h n p (no_byte p newline_char (after_line h ms) number_sign refl there) ⟫
+            given_here ⟫ r.reads
             ⟫ subst (λ d. Gives (g S) (give (again (join_so (a_join_of d acc) z))) last_state
             (again (join_so (a_join_of true acc) z)) last_state) (sym (or-true (b || false))) given_here;
         on = leads h r.later p (past_blanks T r.q) (omega (arith, r.on, blanks_low T r.q))
-            (some_here p 10 (after_line h ms) there);
+            (some_here p newline_char (after_line h ms) there);
         texts = r.texts;
       }
 
@@ -663,7 +665,7 @@ module _ {edition : Edition} {B T : List ℕ} {o : ℕ} (S : StandsIn edition B 
       record { token = t; seen_as = f.seen_as h e at; no_item = none; no_round = f.no_round }
 
   -- an operator after a space
-  pub space_then : (h : Held) (e : ℕ) (c : ℕ) (cs : Text) (ms : Marks) → (c == 92) ≡ false → is_blank c ≡ false →
+  pub space_then : (h : Held) (e : ℕ) (c : ℕ) (cs : Text) (ms : Marks) → (c == backslash) ≡ false → is_blank c ≡ false →
       At S h e (text (codes " ") ∷ text (c ∷ cs) ∷ ms) → Gap T e (e + 1) false
   space_then h e c cs ms clear no_blank at =
       let there = at_text h e (codes " ") (text (c ∷ cs) ∷ ms) at ∙ laid_text h (c ∷ cs) ms in
@@ -677,9 +679,9 @@ module _ {edition : Edition} {B T : List ℕ} {o : ℕ} (S : StandsIn edition B 
     follow = λ held. refl;
     no_round = refl;
     seen_as = λ h e at position.
-        let gap = space_then h e 124 [] ms refl refl at in
+        let gap = space_then h e vertical_line [] ms refl refl at in
         let there = at_text h e (codes " ") (text (codes "|") ∷ ms) at ∙ laid_text h (codes "|") ms
-        ∙ ap (λ z. 124 ∷ z) (parted h).is in
+        ∙ ap (λ z. vertical_line ∷ z) (parted h).is in
         asked_after position gap ∙ ap (λ t. record { token = token_in edition t; broken = false })
         (pipe_token position T (e + 1) (parted h).c (parted h).cs (parted h).no_backslash
         (parted h).no_bar there);
@@ -693,7 +695,7 @@ module _ {edition : Edition} {B T : List ℕ} {o : ℕ} (S : StandsIn edition B 
     no_round = refl;
     seen_as = λ h e at position.
         let there = at_text h e (codes " ") (text (codes "&&") ∷ ms) at ∙ laid_text h (codes "&&") ms in
-        asked_after position (space_then h e 38 (38 ∷ []) ms refl refl at)
+        asked_after position (space_then h e ampersand (ampersand ∷ []) ms refl refl at)
         ∙ ap (λ t. record { token = token_in edition t; broken = false })
         (and_token position T (e + 1) (lay h ms) there);
   }
@@ -702,7 +704,7 @@ module _ {edition : Edition} {B T : List ℕ} {o : ℕ} (S : StandsIn edition B 
     no_round = refl;
     seen_as = λ h e at position.
         let there = at_text h e (codes " ") (text (codes "||") ∷ ms) at ∙ laid_text h (codes "||") ms in
-        asked_after position (space_then h e 124 (124 ∷ []) ms refl refl at)
+        asked_after position (space_then h e vertical_line (vertical_line ∷ []) ms refl refl at)
         ∙ ap (λ t. record { token = token_in edition t; broken = false })
         (or_token position T (e + 1) (lay h ms) there);
   }
@@ -714,9 +716,9 @@ module _ {edition : Edition} {B T : List ℕ} {o : ℕ} (S : StandsIn edition B 
     pub start : Start T p
     pub command : begins_command (told Command p) ≡ true
 
-  pub no_sharp : (p : ℕ) → past_continuations T p ≡ p → is_comment (told Command p) ≡ false → raw_stands T p 35 ≡ false
+  pub no_sharp : (p : ℕ) → past_continuations T p ≡ p → is_comment (told Command p) ≡ false → raw_stands T p number_sign ≡ false
   unfolding raw_stands token_at
-  no_sharp p place none = must_fail (is_byte (slice_get T p) 35)
+  no_sharp p place none = must_fail (is_byte (slice_get T p) number_sign)
       (λ e. both_ways (is_comment (token_in edition (token_of Command T p (byte_at T p)))) none
       (ap (λ b. is_comment (token_in edition (token_of Command T p b)))
       (ap (slice_get T) place ∙ sharp (slice_get T p) e)))

@@ -3,6 +3,7 @@ use Rattle.std.proofs.Common.{◌≡◌, ◌∙◌, ℕ, ◌+◌, ◌-◌, ◌�
 use Rattle.std.proofs.lemmas.List.{drop-drop}
 use Rattle.std.proofs.Math.Seq.{take-add}
 use Rattle.std.proofs.Common.{take}
+use Rattle.shgrammar.specs.Characters.{space}
 use Rattle.shast.specs.declared.tree.Item.{Item}
 use Rattle.shast.specs.declared.tree.Span.{Span}
 use Rattle.shast.specs.Shape.{Text, Shape, shape_of_item, text_at}
@@ -31,13 +32,13 @@ module _ (B : Text) where
   module _ (y : Layout) (m : Text) where
     -- a word one blank after another
     pub word_is : (i : Shape AnItemOf) (at : ℕ) (s : Span) → is_broken_item i ≡ false →
-        print_item y i ≡ text (text_at B s) ∷ [] → slice_get B at ≡ Some 32 → s.start ≡ at + 1
+        print_item y i ≡ text (text_at B s) ∷ [] → slice_get B at ≡ Some space → s.start ≡ at + 1
         → s.start ≤ s.«end» → (t : Sheet) → written t (item_after y m i) ≡ written t (one (stretch B at s.«end»))
     unfolding written laid_after held_after
     word_is i at s unbroken printed blank next some t =
         let before : at < s.«end» = omega (arith, next, some) in
-        let told : stretch B at s.«end» ≡ 32 ∷ text_at B s = taken B at s.«end» 32 blank before
-        ∙ ap (λ r. 32 ∷ r) (rw (← next) refl) in
+        let told : stretch B at s.«end» ≡ space ∷ text_at B s = taken B at s.«end» space blank before
+        ∙ ap (λ r. space ∷ r) (rw (← next) refl) in
         rw (unbroken, printed, told) refl
 
     abbrev items_marks : List Item → Marks

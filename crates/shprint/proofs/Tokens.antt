@@ -10,6 +10,7 @@ use Rattle.shgrammar.specs.declared.token.Reserved.{Reserved}
 use Rattle.shgrammar.specs.declared.token.Reserved.TheVariants as reserved
 use Rattle.shgrammar.specs.declared.token.Token.{Token}
 use Rattle.shgrammar.specs.declared.token.Token.TheVariants as tokens
+use Rattle.shgrammar.specs.Characters.{ampersand, backslash, greater_than_sign, hyphen, left_parenthesis, less_than_sign, newline_char, number_sign, right_parenthesis, semicolon, space, vertical_line}
 use Rattle.shgrammar.specs.Classes.{is_blank, is_digit, is_name}
 use Rattle.shgrammar.specs.Standing.{is_byte, passes, raw_stands, raw_in, raw_past, continues}
 use Rattle.shgrammar.specs.Bytes.{ends, past, past_continuations, byte_at, past_byte, stands, stands_in, past_blanks, is_broken_at}
@@ -62,11 +63,12 @@ pub record Reads (T : List ℕ) (p c : ℕ) (xs : List ℕ) : Type 0 where
   pub place_after : past_byte T p ≡ p + 1
   pub rest : drop (p + 1) T ≡ xs
 
-pub byte_here : (T : List ℕ) (p c : ℕ) (xs : List ℕ) → (c == 92) ≡ false → drop p T ≡ c ∷ xs → Reads T p c xs
+pub byte_here : (T : List ℕ) (p c : ℕ) (xs : List ℕ) → (c == backslash) ≡ false → drop p T ≡ c ∷ xs → Reads T p c xs
 unfolding raw_stands
 byte_here T p c xs clear at =
     let raw = first T p c xs at in
-    let place : past_continuations T p ≡ p = joined_none T p (no_backslash T p (ap (λ x. is_byte x 92) raw ∙ clear)) in
+    let place : past_continuations T p ≡ p =
+    joined_none T p (no_backslash T p (ap (λ x. is_byte x backslash) raw ∙ clear)) in
     record {
       raw = raw;
       place = place;
@@ -123,7 +125,7 @@ no_gap {T = T} {p = p} s =
       breaks = ap (continues T) raw ∙ no_pair T p s.place;
     }
 
-blank_clear : (b : ℕ) → is_blank b ≡ true → (b == 92) ≡ false
+blank_clear : (b : ℕ) → is_blank b ≡ true → (b == backslash) ≡ false
 blank_clear b e = grind (arith, nat_tests)
 
 -- a blank, and then a gap
@@ -159,17 +161,18 @@ unfolding raw_stands
 raw_is T p c x raw e = ap (λ b. is_byte b x) raw ∙ e
 
 -- a continuation before blanks
-joined_gap : {T : List ℕ} {p q b : ℕ} {xs : List ℕ} → is_blank b ≡ true → drop p T ≡ 92 ∷ 10 ∷ b ∷ xs →
+joined_gap : {T : List ℕ} {p q b : ℕ} {xs : List ℕ} → is_blank b ≡ true → drop p T ≡ backslash ∷ newline_char ∷ b ∷ xs →
     Gap T (p + 2) q false → Gap T p q true
 unfolding past_blanks is_broken_at continues stands_in
 joined_gap {T = T} {p = p} {q = q} {b = b} {xs = xs} e at gap =
-    let raw1 = first T p 92 _ at in
-    let at1 = next_one T p 92 _ at in
-    let raw2 = first T (p + 1) 10 _ at1 in
-    let at2 = next_one T (p + 1) 10 _ at1 in
+    let raw1 = first T p backslash _ at in
+    let at1 = next_one T p backslash _ at in
+    let raw2 = first T (p + 1) newline_char _ at1 in
+    let at2 = next_one T (p + 1) newline_char _ at1 in
     let two : p + 1 + 1 ≡ p + 2 = omega arith in
     let r = byte_here T (p + 2) b xs (blank_clear b e) (subst (λ r. drop r T ≡ b ∷ xs) two at2) in
-    let pair : continues T p ≡ true = and_from _ _ (raw_is T p 92 92 raw1 refl) (raw_is T (p + 1) 10 10 raw2 refl) in
+    let pair : continues T p ≡ true = and_from _ _ (raw_is T p backslash backslash raw1 refl)
+    (raw_is T (p + 1) newline_char newline_char raw2 refl) in
     let place : past_continuations T p ≡ p + 2 = joined_more T p pair ∙ r.place in
     let blank : stands_in is_blank T p ≡ true = ap (λ q. passes is_blank (slice_get T q)) place
     ∙ ap (passes is_blank) r.raw ∙ e in
@@ -177,16 +180,16 @@ joined_gap {T = T} {p = p} {q = q} {b = b} {xs = xs} e at gap =
     past_byte_is T p ∙ ap (λ q. q + 1) place ∙ sym r.place_after in
     let same : past is_blank T p ≡ past is_blank T (p + 2) = past_more is_blank T p blank
     ∙ ap (past is_blank T) after_both ∙ sym (past_more is_blank T (p + 2) (in_class is_blank r ∙ e)) in
-    let raw : raw_past is_blank T p ≡ p = raw_none is_blank T p (raw_class T p 92 is_blank raw1) in
+    let raw : raw_past is_blank T p ≡ p = raw_none is_blank T p (raw_class T p backslash is_blank raw1) in
     record { blanks = ap (past_continuations T) same ∙ gap.blanks; breaks = ap (continues T) raw ∙ pair }
 
 -- a blank, a continuation and blanks
 pub broken_gap : (T : List ℕ) (p b : ℕ) (bs xs : List ℕ) → all_blank (b ∷ bs) ≡ true →
-    drop p T ≡ 32 ∷ 92 ∷ 10 ∷ b ∷ (bs ++ xs) → Start T (p + 3 + length (b ∷ bs))
+    drop p T ≡ space ∷ backslash ∷ newline_char ∷ b ∷ (bs ++ xs) → Start T (p + 3 + length (b ∷ bs))
     → Gap T p (p + 3 + length (b ∷ bs)) true
 broken_gap T p b bs xs all at s =
-    let at1 = next_one T p 32 _ at in
-    let at3 : drop (p + 1 + 2) T ≡ b ∷ (bs ++ xs) = skip T (p + 1) (92 ∷ 10 ∷ []) _ at1 in
+    let at1 = next_one T p space _ at in
+    let at3 : drop (p + 1 + 2) T ≡ b ∷ (bs ++ xs) = skip T (p + 1) (backslash ∷ newline_char ∷ []) _ at1 in
     let e : p + 1 + 2 + length (b ∷ bs) ≡ p + 3 + length (b ∷ bs) = omega arith in
     let last = blanks_gap T (p + 1 + 2) (b ∷ bs) xs all at3 (subst (Start T) (sym e) s) in
     blank_gap refl at (joined_gap (and_parts _ _ all).0 at1 (subst (λ q. Gap T (p + 1 + 2) q false) e last))
@@ -203,63 +206,69 @@ pub token_here : {T : List ℕ} {p c : ℕ} {xs : List ℕ} (position : Position
 unfolding token_at
 token_here {T = T} {p = p} position r = ap (token_of position T p) r.byte
 
-pub newline_token : (position : Position) (T : List ℕ) (p : ℕ) (xs : List ℕ) → drop p T ≡ 10 ∷ xs →
+pub newline_token : (position : Position) (T : List ℕ) (p : ℕ) (xs : List ℕ) → drop p T ≡ newline_char ∷ xs →
     token_at position T p ≡ tokens.Newline
-newline_token position T p xs at = token_here position (byte_here T p 10 xs refl at)
+newline_token position T p xs at = token_here position (byte_here T p newline_char xs refl at)
 
-pub comment_token : (position : Position) (T : List ℕ) (p : ℕ) (xs : List ℕ) → drop p T ≡ 35 ∷ xs →
+pub comment_token : (position : Position) (T : List ℕ) (p : ℕ) (xs : List ℕ) → drop p T ≡ number_sign ∷ xs →
     token_at position T p ≡ tokens.Comment
-comment_token position T p xs at = token_here position (byte_here T p 35 xs refl at)
+comment_token position T p xs at = token_here position (byte_here T p number_sign xs refl at)
 
-pub open_token : (position : Position) (T : List ℕ) (p : ℕ) (xs : List ℕ) → drop p T ≡ 40 ∷ xs →
+pub open_token : (position : Position) (T : List ℕ) (p : ℕ) (xs : List ℕ) → drop p T ≡ left_parenthesis ∷ xs →
     token_at position T p ≡ tokens.OpenParen
-open_token position T p xs at = token_here position (byte_here T p 40 xs refl at)
+open_token position T p xs at = token_here position (byte_here T p left_parenthesis xs refl at)
 
-pub close_token : (position : Position) (T : List ℕ) (p : ℕ) (xs : List ℕ) → drop p T ≡ 41 ∷ xs →
+pub close_token : (position : Position) (T : List ℕ) (p : ℕ) (xs : List ℕ) → drop p T ≡ right_parenthesis ∷ xs →
     token_at position T p ≡ tokens.CloseParen
-close_token position T p xs at = token_here position (byte_here T p 41 xs refl at)
+close_token position T p xs at = token_here position (byte_here T p right_parenthesis xs refl at)
 
 -- the byte after this one
-second : {T : List ℕ} {p c d : ℕ} {xs : List ℕ} (x : ℕ) → (d == 92) ≡ false → Reads T p c (d ∷ xs) →
+second : {T : List ℕ} {p c d : ℕ} {xs : List ℕ} (x : ℕ) → (d == backslash) ≡ false → Reads T p c (d ∷ xs) →
     stands T (past_byte T p) x ≡ (d == x)
 second {T = T} {p = p} {d = d} {xs = xs} x clear r = ap (λ q. stands T q x) r.place_after
     ∙ is_here x (byte_here T (p + 1) d xs clear r.rest)
 
-pub semicolon_token : (position : Position) (T : List ℕ) (p d : ℕ) (xs : List ℕ) → (d == 92) ≡ false → (d == 59) ≡ false
-    → (d == 38) ≡ false → drop p T ≡ 59 ∷ d ∷ xs → token_at position T p ≡ tokens.Semicolon
+pub semicolon_token : (position : Position) (T : List ℕ) (p d : ℕ) (xs : List ℕ) → (d == backslash) ≡ false → (d == semicolon) ≡ false
+    → (d == ampersand) ≡ false → drop p T ≡ semicolon ∷ d ∷ xs → token_at position T p ≡ tokens.Semicolon
 semicolon_token position T p d xs clear other no_ampersand at =
-    let r = byte_here T p 59 (d ∷ xs) refl at in
-    token_here position r ∙ rw (second 59 clear r, other, second 38 clear r, no_ampersand) refl
+    let r = byte_here T p semicolon (d ∷ xs) refl at in
+    token_here position r ∙ rw (second semicolon clear r, other, second ampersand clear r, no_ampersand) refl
 
-pub ampersand_token : (position : Position) (T : List ℕ) (p d : ℕ) (xs : List ℕ) → (d == 92) ≡ false → (d == 38) ≡ false
-    → drop p T ≡ 38 ∷ d ∷ xs → token_at position T p ≡ tokens.Ampersand
+pub ampersand_token : (position : Position) (T : List ℕ) (p d : ℕ) (xs : List ℕ) → (d == backslash) ≡ false →
+    (d == ampersand) ≡ false → drop p T ≡ ampersand ∷ d ∷ xs → token_at position T p ≡ tokens.Ampersand
 ampersand_token position T p d xs clear other at =
-    let r = byte_here T p 38 (d ∷ xs) refl at in token_here position r ∙ rw (second 38 clear r, other) refl
+    let r = byte_here T p ampersand (d ∷ xs) refl at in
+    token_here position r ∙ rw (second ampersand clear r, other) refl
 
-pub pipe_token : (position : Position) (T : List ℕ) (p d : ℕ) (xs : List ℕ) → (d == 92) ≡ false → (d == 124) ≡ false →
-    drop p T ≡ 124 ∷ d ∷ xs → token_at position T p ≡ tokens.Pipe
+pub pipe_token : (position : Position) (T : List ℕ) (p d : ℕ) (xs : List ℕ) → (d == backslash) ≡ false →
+    (d == vertical_line) ≡ false → drop p T ≡ vertical_line ∷ d ∷ xs → token_at position T p ≡ tokens.Pipe
 pipe_token position T p d xs clear other at =
-    let r = byte_here T p 124 (d ∷ xs) refl at in token_here position r ∙ rw (second 124 clear r, other) refl
+    let r = byte_here T p vertical_line (d ∷ xs) refl at in
+    token_here position r ∙ rw (second vertical_line clear r, other) refl
 
-pub and_token : (position : Position) (T : List ℕ) (p : ℕ) (xs : List ℕ) → drop p T ≡ 38 ∷ 38 ∷ xs →
+pub and_token : (position : Position) (T : List ℕ) (p : ℕ) (xs : List ℕ) → drop p T ≡ ampersand ∷ ampersand ∷ xs →
     token_at position T p ≡ tokens.AndIf
 and_token position T p xs at =
-    let r = byte_here T p 38 (38 ∷ xs) refl at in token_here position r ∙ rw (second 38 refl r) refl
+    let r = byte_here T p ampersand (ampersand ∷ xs) refl at in
+    token_here position r ∙ rw (second ampersand refl r) refl
 
-pub or_token : (position : Position) (T : List ℕ) (p : ℕ) (xs : List ℕ) → drop p T ≡ 124 ∷ 124 ∷ xs →
-    token_at position T p ≡ tokens.OrIf
+pub or_token : (position : Position) (T : List ℕ) (p : ℕ) (xs : List ℕ) →
+    drop p T ≡ vertical_line ∷ vertical_line ∷ xs → token_at position T p ≡ tokens.OrIf
 or_token position T p xs at =
-    let r = byte_here T p 124 (124 ∷ xs) refl at in token_here position r ∙ rw (second 124 refl r) refl
+    let r = byte_here T p vertical_line (vertical_line ∷ xs) refl at in
+    token_here position r ∙ rw (second vertical_line refl r) refl
 
-pub falls_token : (position : Position) (T : List ℕ) (p : ℕ) (xs : List ℕ) → drop p T ≡ 59 ∷ 38 ∷ xs →
+pub falls_token : (position : Position) (T : List ℕ) (p : ℕ) (xs : List ℕ) → drop p T ≡ semicolon ∷ ampersand ∷ xs →
     token_at position T p ≡ tokens.SemicolonAmpersand
 falls_token position T p xs at =
-    let r = byte_here T p 59 (38 ∷ xs) refl at in token_here position r ∙ rw (second 59 refl r, second 38 refl r) refl
+    let r = byte_here T p semicolon (ampersand ∷ xs) refl at in
+    token_here position r ∙ rw (second semicolon refl r, second ampersand refl r) refl
 
-pub double_semicolon_token : (position : Position) (T : List ℕ) (p : ℕ) (xs : List ℕ) → drop p T ≡ 59 ∷ 59 ∷ xs →
-    token_at position T p ≡ tokens.DoubleSemicolon
+pub double_semicolon_token : (position : Position) (T : List ℕ) (p : ℕ) (xs : List ℕ) →
+    drop p T ≡ semicolon ∷ semicolon ∷ xs → token_at position T p ≡ tokens.DoubleSemicolon
 double_semicolon_token position T p xs at =
-    let r = byte_here T p 59 (59 ∷ xs) refl at in token_here position r ∙ rw (second 59 refl r) refl
+    let r = byte_here T p semicolon (semicolon ∷ xs) refl at in
+    token_here position r ∙ rw (second semicolon refl r) refl
 
 -- the end of the text
 pub record Ended (T : List ℕ) (p : ℕ) : Type 0 where
@@ -270,7 +279,7 @@ pub end_here : (T : List ℕ) (p : ℕ) → drop p T ≡ [] → Ended T p
 unfolding raw_stands stands_in token_at
 end_here T p at =
     let raw = none_first T p at in
-    let place : past_continuations T p ≡ p = joined_none T p (no_backslash T p (ap (λ x. is_byte x 92) raw)) in
+    let place : past_continuations T p ≡ p = joined_none T p (no_backslash T p (ap (λ x. is_byte x backslash) raw)) in
     let byte : byte_at T p ≡ None = ap (slice_get T) place ∙ raw in
     record {
       gap = no_gap (record { place = place; no_blank = ap (passes is_blank) byte });
@@ -282,7 +291,7 @@ end_here T p at =
 -- no byte ends a word or is a backslash
 abbrev pub is_plain : List ℕ → Bool
 is_plain [] = true
-is_plain (c ∷ cs) = not (ends (Some c)) && (not (c == 92) && is_plain cs)
+is_plain (c ∷ cs) = not (ends (Some c)) && (not (c == backslash) && is_plain cs)
 
 abbrev pub all_plain : Row Spelling → Bool
 all_plain [] = true
@@ -304,12 +313,12 @@ not_true : (b : Bool) → not b ≡ true → b ≡ false
 not_true true e = absurd cc
 not_true false e = refl
 
-plain_parts : (c : ℕ) (cs : List ℕ) → is_plain (c ∷ cs) ≡ true → (ends (Some c) ≡ false) × ((c == 92) ≡ false)
+plain_parts : (c : ℕ) (cs : List ℕ) → is_plain (c ∷ cs) ≡ true → (ends (Some c) ≡ false) × ((c == backslash) ≡ false)
     × (is_plain cs ≡ true)
 plain_parts c cs e = let one = and_parts _ _ e in let two = and_parts _ _ one.1 in
     (not_true _ one.0, not_true _ two.0, two.1)
 
-module _ (T : List ℕ) (x : ℕ) (xs : List ℕ) (clear : (x == 92) ≡ false) (ends_it : ends (Some x) ≡ true) where
+module _ (T : List ℕ) (x : ℕ) (xs : List ℕ) (clear : (x == backslash) ≡ false) (ends_it : ends (Some x) ≡ true) where
   pub spelled_here : (p : ℕ) (v w : List ℕ) → is_plain v ≡ true → is_plain w ≡ true → drop p T ≡ w ++ x ∷ xs →
       is_word_at T p v ≡ same_word v w
   spelled_here p [] [] one two at = spelled_none T p ∙ ap ends (byte_here T p x xs clear at).byte ∙ ends_it
@@ -345,13 +354,13 @@ abbrev pub all_names : List ℕ → Bool
 all_names [] = true
 all_names (c ∷ cs) = is_name c && all_names cs
 
-name_clear : (c : ℕ) → is_name c ≡ true → (c == 92) ≡ false
+name_clear : (c : ℕ) → is_name c ≡ true → (c == backslash) ≡ false
 name_clear c e = grind (arith, nat_tests)
 
 ends_no_name : (x : ℕ) → ends (Some x) ≡ true → is_name x ≡ false
 ends_no_name x e = grind (arith, nat_tests)
 
-names_here : (T : List ℕ) (p x : ℕ) (cs xs : List ℕ) → (x == 92) ≡ false → ends (Some x) ≡ true → all_names cs ≡ true →
+names_here : (T : List ℕ) (p x : ℕ) (cs xs : List ℕ) → (x == backslash) ≡ false → ends (Some x) ≡ true → all_names cs ≡ true →
     drop p T ≡ cs ++ x ∷ xs → past is_name T p ≡ p + length cs
 names_here T p x [] xs clear stops all at =
     let e : p + 0 ≡ p = omega arith in
@@ -378,7 +387,7 @@ WordByte c = (T : List ℕ) (p : ℕ) → is_number T p ≡ false →
 
 pub reserved_here : (T : List ℕ) (p c x : ℕ) (cs xs : List ℕ) (r : Reserved) → WordByte c → is_blank c ≡ false →
     is_digit c ≡ false → is_plain (c ∷ cs) ≡ true → all_names cs ≡ true
-    → first_same (c ∷ cs) reserved_words ≡ Some r → (x == 92) ≡ false → ends (Some x) ≡ true →
+    → first_same (c ∷ cs) reserved_words ≡ Some r → (x == backslash) ≡ false → ends (Some x) ≡ true →
     drop p T ≡ c ∷ (cs ++ x ∷ xs) → ReservedWord T p (c ∷ cs) r
 unfolding past_reserved
 reserved_here T p c x cs xs r byte no_blank no_digit plain names same clear stops at =
@@ -393,7 +402,7 @@ reserved_here T p c x cs xs r byte no_blank no_digit plain names same clear stop
 
 -- ---- each reserved word before a byte that ends it
 
-module _ (T : List ℕ) (p x : ℕ) (xs : List ℕ) (clear : (x == 92) ≡ false) (stops : ends (Some x) ≡ true) where
+module _ (T : List ℕ) (p x : ℕ) (xs : List ℕ) (clear : (x == backslash) ≡ false) (stops : ends (Some x) ≡ true) where
   pub if_here : drop p T ≡ codes "if" ++ x ∷ xs → ReservedWord T p (codes "if") reserved.If
   unfolding reserved_words
   if_here at = reserved_here T p _ x _ xs reserved.If (λ T p e. rw e refl) refl refl refl refl refl clear stops at
@@ -587,15 +596,15 @@ pub record RedirectThere (edition : Edition) (position : Position) (T : List ℕ
 
 -- no byte that would make an operator longer is read here
 pub record NoLonger (T : List ℕ) (q : ℕ) : Type 0 where
-  pub no_less : stands T q 60 ≡ false
-  pub no_greater : stands T q 62 ≡ false
-  pub no_ampersand : stands T q 38 ≡ false
-  pub no_bar : stands T q 124 ≡ false
+  pub no_less : stands T q less_than_sign ≡ false
+  pub no_greater : stands T q greater_than_sign ≡ false
+  pub no_ampersand : stands T q ampersand ≡ false
+  pub no_bar : stands T q vertical_line ≡ false
 
-pub space_no_longer : (T : List ℕ) (q : ℕ) (xs : List ℕ) → drop q T ≡ 32 ∷ xs → NoLonger T q
+pub space_no_longer : (T : List ℕ) (q : ℕ) (xs : List ℕ) → drop q T ≡ space ∷ xs → NoLonger T q
 space_no_longer T q xs at =
-    let r = byte_here T q 32 xs refl at in
-    record { no_less = is_here 60 r; no_greater = is_here 62 r; no_ampersand = is_here 38 r; no_bar = is_here 124 r }
+    let r = byte_here T q space xs refl at in
+    record { no_less = is_here less_than_sign r; no_greater = is_here greater_than_sign r; no_ampersand = is_here ampersand r; no_bar = is_here vertical_line r }
 
 that_byte : (x : Option ℕ) (c : ℕ) → is_byte x c ≡ true → x ≡ Some c
 that_byte None c e = absurd cc
@@ -612,11 +621,12 @@ no_such_byte T q x word other =
 -- a word begins with no byte of an operator
 pub word_no_longer : (T : List ℕ) (q : ℕ) → token_at Suffix T q ≡ tokens.Word → NoLonger T q
 word_no_longer T q word = record {
-  no_less = no_such_byte T q 60 word refl;
-  no_greater = no_such_byte T q 62 word refl;
-  no_ampersand = no_such_byte T q 38 word
-      (no_word_of (stands T (past_byte T q) 38) tokens.AndIf tokens.Ampersand refl refl);
-  no_bar = no_such_byte T q 124 word (no_word_of (stands T (past_byte T q) 124) tokens.OrIf tokens.Pipe refl refl);
+  no_less = no_such_byte T q less_than_sign word refl;
+  no_greater = no_such_byte T q greater_than_sign word refl;
+  no_ampersand = no_such_byte T q ampersand word
+      (no_word_of (stands T (past_byte T q) ampersand) tokens.AndIf tokens.Ampersand refl refl);
+  no_bar = no_such_byte T q vertical_line word
+      (no_word_of (stands T (past_byte T q) vertical_line) tokens.OrIf tokens.Pipe refl refl);
 }
   where
     no_word_of : (b : Bool) (t u : Token) → is_word t ≡ false → is_word u ≡ false → is_word (cond b t u) ≡ false
@@ -625,7 +635,7 @@ word_no_longer T q word = record {
 
 -- after `<<` no `-` is read
 abbrev pub IsWhole : RedirectOperator → List ℕ → ℕ → Type 0
-IsWhole redirects.Here T q = stands T q 45 ≡ false
+IsWhole redirects.Here T q = stands T q hyphen ≡ false
 IsWhole _ T q = Unit {0}
 
 pub redirect_token : (position : Position) (k : RedirectOperator) (T : List ℕ) (p : ℕ) (xs : List ℕ) →
@@ -634,37 +644,44 @@ pub redirect_token : (position : Position) (k : RedirectOperator) (T : List ℕ)
     → token_at position T p ≡ tokens.Redirect k
 unfolding less_at greater_at
 redirect_token position redirects.Input T p xs none n at =
-    let r = byte_here T p 60 xs refl at in token_here position r ∙ rw (r.place_after, n.no_less, n.no_ampersand, n.no_greater) refl
+    let r = byte_here T p less_than_sign xs refl at in
+    token_here position r ∙ rw (r.place_after, n.no_less, n.no_ampersand, n.no_greater) refl
 redirect_token position redirects.Output T p xs none n at =
-    let r = byte_here T p 62 xs refl at in token_here position r ∙ rw (r.place_after, n.no_greater, n.no_ampersand, n.no_bar) refl
+    let r = byte_here T p greater_than_sign xs refl at in
+    token_here position r ∙ rw (r.place_after, n.no_greater, n.no_ampersand, n.no_bar) refl
 redirect_token position redirects.Here T p xs none n at =
-    let r = byte_here T p 60 (60 ∷ xs) refl at in
-    let s = byte_here T (p + 1) 60 xs refl r.rest in
+    let r = byte_here T p less_than_sign (less_than_sign ∷ xs) refl at in
+    let s = byte_here T (p + 1) less_than_sign xs refl r.rest in
     let two : p + 2 ≡ p + 1 + 1 = omega arith in
-    let is_whole : stands T (p + 1 + 1) 45 ≡ false = subst (λ q. stands T q 45 ≡ false) two none in
-    token_here position r ∙ rw (second 60 refl r, r.place_after, s.place_after, is_whole) refl
+    let is_whole : stands T (p + 1 + 1) hyphen ≡ false = subst (λ q. stands T q hyphen ≡ false) two none in
+    token_here position r ∙ rw (second less_than_sign refl r, r.place_after, s.place_after, is_whole) refl
 redirect_token position redirects.Append T p xs none n at =
-    let r = byte_here T p 62 (62 ∷ xs) refl at in token_here position r ∙ rw (second 62 refl r) refl
+    let r = byte_here T p greater_than_sign (greater_than_sign ∷ xs) refl at in
+    token_here position r ∙ rw (second greater_than_sign refl r) refl
 redirect_token position redirects.DuplicateInput T p xs none n at =
-    let r = byte_here T p 60 (38 ∷ xs) refl at in token_here position r ∙ rw (second 60 refl r, second 38 refl r) refl
+    let r = byte_here T p less_than_sign (ampersand ∷ xs) refl at in
+    token_here position r ∙ rw (second less_than_sign refl r, second ampersand refl r) refl
 redirect_token position redirects.DuplicateOutput T p xs none n at =
-    let r = byte_here T p 62 (38 ∷ xs) refl at in token_here position r ∙ rw (second 62 refl r, second 38 refl r) refl
+    let r = byte_here T p greater_than_sign (ampersand ∷ xs) refl at in
+    token_here position r ∙ rw (second greater_than_sign refl r, second ampersand refl r) refl
 redirect_token position redirects.ReadWrite T p xs none n at =
-    let r = byte_here T p 60 (62 ∷ xs) refl at in
-    token_here position r ∙ rw (second 60 refl r, second 38 refl r, second 62 refl r) refl
+    let r = byte_here T p less_than_sign (greater_than_sign ∷ xs) refl at in
+    token_here position r
+    ∙ rw (second less_than_sign refl r, second ampersand refl r, second greater_than_sign refl r) refl
 redirect_token position redirects.HereStripped T p xs none n at =
-    let r = byte_here T p 60 (60 ∷ 45 ∷ xs) refl at in
-    let s = byte_here T (p + 1) 60 (45 ∷ xs) refl r.rest in
-    token_here position r ∙ rw (second 60 refl r, r.place_after, second 45 refl s) refl
+    let r = byte_here T p less_than_sign (less_than_sign ∷ hyphen ∷ xs) refl at in
+    let s = byte_here T (p + 1) less_than_sign (hyphen ∷ xs) refl r.rest in
+    token_here position r ∙ rw (second less_than_sign refl r, r.place_after, second hyphen refl s) refl
 redirect_token position redirects.Clobber T p xs none n at =
-    let r = byte_here T p 62 (124 ∷ xs) refl at in
-    token_here position r ∙ rw (second 62 refl r, second 38 refl r, second 124 refl r) refl
+    let r = byte_here T p greater_than_sign (vertical_line ∷ xs) refl at in
+    token_here position r
+    ∙ rw (second greater_than_sign refl r, second ampersand refl r, second vertical_line refl r) refl
 
 -- `<` or `>`
 abbrev pub is_angle : ℕ → Bool
-is_angle b = b == 60 || b == 62
+is_angle b = b == less_than_sign || b == greater_than_sign
 
-pub angle_clear : (b : ℕ) → is_angle b ≡ true → (b == 92) ≡ false
+pub angle_clear : (b : ℕ) → is_angle b ≡ true → (b == backslash) ≡ false
 angle_clear b e = grind (arith, nat_tests)
 
 pub angle_no_blank : (b : ℕ) → is_angle b ≡ true → is_blank b ≡ false
@@ -675,15 +692,15 @@ angle_no_digit b e = grind (arith, nat_tests)
 
 -- with which each operator begins
 pub angle_first : (k : RedirectOperator) → (b : ℕ) × (bs : List ℕ) × (redirect_text k ≡ b ∷ bs) × (is_angle b ≡ true)
-angle_first redirects.Input = (60, [], refl, refl)
-angle_first redirects.Output = (62, [], refl, refl)
-angle_first redirects.Here = (60, 60 ∷ [], refl, refl)
-angle_first redirects.Append = (62, 62 ∷ [], refl, refl)
-angle_first redirects.DuplicateInput = (60, 38 ∷ [], refl, refl)
-angle_first redirects.DuplicateOutput = (62, 38 ∷ [], refl, refl)
-angle_first redirects.ReadWrite = (60, 62 ∷ [], refl, refl)
-angle_first redirects.HereStripped = (60, 60 ∷ 45 ∷ [], refl, refl)
-angle_first redirects.Clobber = (62, 124 ∷ [], refl, refl)
+angle_first redirects.Input = (less_than_sign, [], refl, refl)
+angle_first redirects.Output = (greater_than_sign, [], refl, refl)
+angle_first redirects.Here = (less_than_sign, less_than_sign ∷ [], refl, refl)
+angle_first redirects.Append = (greater_than_sign, greater_than_sign ∷ [], refl, refl)
+angle_first redirects.DuplicateInput = (less_than_sign, ampersand ∷ [], refl, refl)
+angle_first redirects.DuplicateOutput = (greater_than_sign, ampersand ∷ [], refl, refl)
+angle_first redirects.ReadWrite = (less_than_sign, greater_than_sign ∷ [], refl, refl)
+angle_first redirects.HereStripped = (less_than_sign, less_than_sign ∷ hyphen ∷ [], refl, refl)
+angle_first redirects.Clobber = (greater_than_sign, vertical_line ∷ [], refl, refl)
 
 -- the number before an operator
 pub record NumberHere (position : Position) (T : List ℕ) (p : ℕ) (t : List ℕ) : Type 0 where
@@ -691,7 +708,7 @@ pub record NumberHere (position : Position) (T : List ℕ) (p : ℕ) (t : List �
   pub token : token_at position T p ≡ tokens.Number
   pub past_it : past_digits T p ≡ p + length t
 
-digit_clear : (c : ℕ) → is_digit c ≡ true → (c == 92) ≡ false
+digit_clear : (c : ℕ) → is_digit c ≡ true → (c == backslash) ≡ false
 digit_clear c e = grind (arith, nat_tests)
 
 digit_no_blank : (c : ℕ) → is_digit c ≡ true → is_blank c ≡ false
@@ -714,15 +731,16 @@ digit_token : (position : Position) (T : List ℕ) (p c : ℕ) → is_digit c �
     token_of position T p (Some c) ≡ tokens.Number
 digit_token position T p c digit number =
     let no_newline : is_newline c ≡ false = grind (arith, nat_tests) in
-    let no_semicolon : (c == 59) ≡ false = grind (arith, nat_tests) in
-    let no_ampersand : (c == 38) ≡ false = grind (arith, nat_tests) in
-    let no_bar : (c == 124) ≡ false = grind (arith, nat_tests) in
-    let no_opener : (c == 40) ≡ false = grind (arith, nat_tests) in
-    let no_closer : (c == 41) ≡ false = grind (arith, nat_tests) in
-    let no_less : (c == 60) ≡ false = grind (arith, nat_tests) in
-    let no_greater : (c == 62) ≡ false = grind (arith, nat_tests) in
-    let no_sharp : (c == 35) ≡ false = grind (arith, nat_tests) in
-    rw (no_newline, no_semicolon, no_ampersand, no_bar, no_opener, no_closer, no_less, no_greater, no_sharp, number) refl
+    let no_semicolon : (c == semicolon) ≡ false = grind (arith, nat_tests) in
+    let no_ampersand : (c == ampersand) ≡ false = grind (arith, nat_tests) in
+    let no_bar : (c == vertical_line) ≡ false = grind (arith, nat_tests) in
+    let no_opener : (c == left_parenthesis) ≡ false = grind (arith, nat_tests) in
+    let no_closer : (c == right_parenthesis) ≡ false = grind (arith, nat_tests) in
+    let no_less : (c == less_than_sign) ≡ false = grind (arith, nat_tests) in
+    let no_greater : (c == greater_than_sign) ≡ false = grind (arith, nat_tests) in
+    let no_sharp : (c == number_sign) ≡ false = grind (arith, nat_tests) in
+    rw (no_newline, no_semicolon, no_ampersand, no_bar, no_opener, no_closer, no_less, no_greater, no_sharp, number)
+    refl
 
 pub number_token : (position : Position) (T : List ℕ) (p x d : ℕ) (ds xs : List ℕ) → all_digits (d ∷ ds) ≡ true →
     is_angle x ≡ true → drop p T ≡ (d ∷ ds) ++ x ∷ xs → NumberHere position T p (d ∷ ds)
@@ -734,7 +752,8 @@ number_token position T p x d ds xs all angle at =
     let past_it = digits_here T p x (d ∷ ds) xs angle all at in
     let s = byte_here T q x xs (angle_clear x angle) (skip T p (d ∷ ds) (x ∷ xs) at) in
     let number : is_number T p ≡ true =
-    and_from _ _ (in_class is_digit r ∙ digit) (rw (past_it, is_here 60 s, is_here 62 s) angle) in
+    and_from _ _ (in_class is_digit r ∙ digit)
+    (rw (past_it, is_here less_than_sign s, is_here greater_than_sign s) angle) in
     record {
       start = start_here r (digit_no_blank d digit);
       token = token_here position r ∙ digit_token position T p d digit number;

@@ -2,6 +2,7 @@
 use Rattle.std.proofs.Common.{◌≡◌, List, [], ◌∷◌, ◌++◌, length, refl, ap, append_assoc, arith, sym, ◌∙◌, OnOk, Result}
 use Rattle.std.proofs.lemmas.List.{append-nil}
 use Rattle.std.proofs.lemmas.Result.{on_ok_weaker}
+use Rattle.shgrammar.specs.Characters.{newline_char}
 use Rattle.shast.specs.Shape.{Text}
 use Rattle.shprint.specs.Marks.{Mark, Marks, text, line_end, document, laid, laid_after, held_after}
 use Rattle.shprint.specs.Written.{Sheet, sheet_of, written}
@@ -48,15 +49,17 @@ written_nothing s x none = sym
     (written_text s x ∙ ap (λ t. sheet_of (s.so_far ++ t) s.held) none
     ∙ ap (λ t. sheet_of t s.held) (append-nil s.so_far))
 
-pub written_line : (s : Sheet) → written s (line_end ∷ []) ≡ sheet_of ((s.so_far ++ 10 ∷ []) ++ s.held) []
+pub written_line : (s : Sheet) → written s (line_end ∷ []) ≡ sheet_of ((s.so_far ++ newline_char ∷ []) ++ s.held) []
 unfolding written laid_after held_after
 written_line s = rw (append_assoc, append-nil) refl
 
 -- where nothing waits
-pub written_line_alone : (s : Sheet) → s.held ≡ [] → sheet_of (s.so_far ++ 10 ∷ []) s.held ≡ written s (line_end ∷ [])
+pub written_line_alone : (s : Sheet) → s.held ≡ [] →
+    sheet_of (s.so_far ++ newline_char ∷ []) s.held ≡ written s (line_end ∷ [])
 written_line_alone s none =
-    sym (written_line s ∙ ap (λ h. sheet_of ((s.so_far ++ 10 ∷ []) ++ h) []) none
-    ∙ ap (λ t. sheet_of t []) (append-nil (s.so_far ++ 10 ∷ [])) ∙ ap (sheet_of (s.so_far ++ 10 ∷ [])) (sym none))
+    sym (written_line s ∙ ap (λ h. sheet_of ((s.so_far ++ newline_char ∷ []) ++ h) []) none
+    ∙ ap (λ t. sheet_of t []) (append-nil (s.so_far ++ newline_char ∷ []))
+    ∙ ap (sheet_of (s.so_far ++ newline_char ∷ [])) (sym none))
 
 pub written_document : (s : Sheet) (x : Text) → written s (document x ∷ []) ≡ sheet_of s.so_far (s.held ++ x)
 unfolding written laid_after held_after
