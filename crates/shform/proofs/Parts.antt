@@ -18,7 +18,7 @@ use Rattle.shgrammar.specs.declared.fault.Fault.{Fault}
 use Rattle.shgrammar.specs.Moved.{moved_fault}
 use Rattle.shgrammar.specs.Scripts.{FirstFault}
 use Rattle.shgrammar.proofs.Stretches.{get_drop}
-use Rattle.shtext.specs.Text.{column_of, is_newline, line_of, since_newline}
+use Rattle.shsource.specs.Text.{column_of, is_newline, line_of, since_newline}
 use Rattle.shtext.proofs.Newlines.{since_start}
 
 -- how many bytes were read

@@ -12,7 +12,7 @@ use Rattle.shpieces.specs.Printing.{IsPrinted}
 use Rattle.shform.specs.declared.printed_part.PrintedPart.{PrintedPart}
 use Rattle.shform.specs.declared.printed_part.Unprinted.{Unprinted}
 use Rattle.shform.specs.declared.printed_part.Unprinted.TheVariants.{Faulty, Memory}
-use Rattle.shtext.specs.Text.{column_of, is_newline, line_of, since_newline}
+use Rattle.shsource.specs.Text.{column_of, is_newline, line_of, since_newline}
 
 -- how many bytes were read: those passed and those held
 abbrev pub bytes_read : PartialScript → ℕ

@@ -2,7 +2,7 @@
 use Rattle.std.specs.Prelude.{◌≡◌, ◌⊎◌, ℕ, ◌+◌, ◌≤◌, ◌++◌, [], Bool, true, false, List, Option, None, Some, Result, Ok, Err, length, codes, if◌then◌else◌}
 use Rattle.std.specs.Io.KnownBytes.{Consumes}
 use Rattle.shgrammar.specs.Scripts.{FirstFault}
-use Rattle.shtext.specs.Text.{line_of, column_of}
+use Rattle.shsource.specs.Text.{line_of, column_of}
 use Rattle.shgrammar.specs.declared.edition.Edition.{Edition}
 use Rattle.shgrammar.specs.declared.fault.Fault.{Fault}
 use Rattle.shtext.specs.Device.{Writes}

@@ -8,7 +8,7 @@ use Rattle.shlive.specs.Runs.{IsSessionRun, run_state}
 use Rattle.shprint.specs.declared.layout.Layout.{Layout}
 use Rattle.shtext.specs.Device.{held_of, input_ended, input_failed, left_of, output_failed}
 use Rattle.shtext.specs.Edit.{limit}
-use Rattle.shtext.specs.Meter.{raised}
+use Rattle.shsource.specs.Meter.{raised}
 use Rattle.shtext.specs.declared.device.Input.{Input}
 use Rattle.shform.specs.ProgramEnds.{ProgramEnds, Devices}
 use Rattle.shform.specs.Report.{IsTold, GivenUpFor}

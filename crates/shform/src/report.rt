@@ -1,7 +1,7 @@
 //! What the program says of an input, and the status that it answers.
 ghost use Rattle.std.specs.Prelude.{◌≡◌, ◌||◌, ◌++◌, ℕ, List, Err, false, is_ok, not};
 ghost use Rattle.shtext.specs.Device.{Writes, held_of, output_failed};
-ghost use Rattle.shtext.specs.Text.{column_of, line_of};
+ghost use Rattle.shsource.specs.Text.{column_of, line_of};
 ghost use Rattle.shform.specs.Report.{IsTold, TellsFault};
 
 use shprint::message;

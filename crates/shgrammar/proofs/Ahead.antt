@@ -2,7 +2,7 @@
 use Rattle.std.proofs.Common.{◌≡◌, ℕ, zero, suc, ◌+◌, ◌-◌, ◌≤◌, ◌<◌, ◌==◌, Bool, true, false, not, cond, ◌&&◌, List, List as Row, [], ◌∷◌, length, Option, Some, None, slice_get, refl, sym, ap, subst, ◌∙◌, arith, ⊎_elim}
 use Rattle.std.proofs.lemmas.Bool.{and_parts, both_ways, cases_Bool}
 use Rattle.std.proofs.lemmas.Bool.Decides.{nat_tests}
-use Rattle.shtext.specs.Text.{is_newline}
+use Rattle.shsource.specs.Text.{is_newline}
 use Rattle.shgrammar.specs.Classes.{is_blank, is_letter, is_digit, is_name}
 use Rattle.shgrammar.specs.Standing.{is_byte, raw_in, raw_stands, raw_past, passes, continues}
 use Rattle.shgrammar.specs.Bytes.{ends, ends_word, past, past_blanks, is_broken_at, past_continuations, byte_at, past_byte, stands, stands_in}

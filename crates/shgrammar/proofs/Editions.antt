@@ -11,7 +11,7 @@ use Rattle.shgrammar.specs.declared.token.Position.TheVariants.{Command, Prefix,
 use Rattle.shgrammar.specs.declared.token.Reserved.{Reserved}
 use Rattle.shgrammar.specs.declared.token.Token.{Token}
 use Rattle.shgrammar.specs.declared.token.Token.TheVariants as tokens
-use Rattle.shtext.specs.Text.{is_newline}
+use Rattle.shsource.specs.Text.{is_newline}
 use Rattle.shgrammar.specs.declared.fault.FaultKind.TheVariants.{UnclosedDollarSingle}
 use Rattle.shgrammar.specs.declared.keep.Keep.TheVariants.{Whole}
 use Rattle.shgrammar.specs.Sights.{Given, State, given, seen, standing, the_delimiter, the_piece, the_token}

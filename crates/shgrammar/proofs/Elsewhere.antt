@@ -11,7 +11,7 @@ use Rattle.shgrammar.specs.declared.token.Position.{Position}
 use Rattle.shgrammar.specs.declared.token.Position.TheVariants.{Command, Prefix, Suffix}
 use Rattle.shgrammar.specs.declared.token.Token.{Token}
 use Rattle.shgrammar.specs.declared.token.Token.TheVariants as tokens
-use Rattle.shtext.specs.Text.{is_newline}
+use Rattle.shsource.specs.Text.{is_newline}
 use Rattle.shgrammar.specs.Classes.{is_blank, is_letter, is_digit, is_name}
 use Rattle.shgrammar.specs.Standing.{is_byte, passes, raw_stands}
 use Rattle.shgrammar.specs.Bytes.{ends, ends_word, past, past_continuations, byte_at, past_byte, stands, stands_in}

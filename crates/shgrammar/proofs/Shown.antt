@@ -10,7 +10,7 @@ use Rattle.shgrammar.specs.declared.token.Position.TheVariants.{Command, Prefix,
 use Rattle.shgrammar.specs.declared.token.Reserved.{Reserved}
 use Rattle.shgrammar.specs.declared.token.Token.{Token}
 use Rattle.shgrammar.specs.declared.token.Token.TheVariants as tokens
-use Rattle.shtext.specs.Text.{is_newline}
+use Rattle.shsource.specs.Text.{is_newline}
 use Rattle.shgrammar.specs.Classes.{is_blank, is_operator}
 use Rattle.shgrammar.specs.Standing.{is_byte, is_none, passes, raw_stands, at_end}
 use Rattle.shgrammar.specs.Bytes.{byte_at, past_byte, ends, ends_word, past_blanks, past_continuations, stands, stands_in}

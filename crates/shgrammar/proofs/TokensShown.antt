@@ -17,7 +17,7 @@ use Rattle.shast.specs.declared.tree.AndOrOperator.{AndOrOperator}
 use Rattle.shast.specs.declared.tree.Span.{Span}
 use Rattle.shast.specs.Nodes.{word_span}
 use Rattle.shast.specs.Tree.{ACommand, AnItem, AWord}
-use Rattle.shtext.specs.Text.{is_newline}
+use Rattle.shsource.specs.Text.{is_newline}
 use Rattle.shgrammar.specs.Bytes.{byte_at, past_byte, past_continuations, stands}
 use Rattle.shgrammar.specs.Characters.{right_parenthesis, semicolon, ampersand, vertical_line, left_parenthesis, less_than_sign, greater_than_sign, number_sign, newline_char}
 use Rattle.shgrammar.specs.Comments.{comment_at}

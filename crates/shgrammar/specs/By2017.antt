@@ -10,7 +10,7 @@ use Rattle.shgrammar.specs.declared.token.Next.{Next}
 use Rattle.shgrammar.specs.declared.token.Position.{Position}
 use Rattle.shgrammar.specs.declared.token.Token.{Token}
 use Rattle.shgrammar.specs.declared.token.Token.TheVariants as tokens
-use Rattle.shtext.specs.Text.{is_newline}
+use Rattle.shsource.specs.Text.{is_newline}
 use Rattle.shgrammar.specs.Bytes.{byte_at, is_broken_at, past_blanks, past_byte, stands}
 use Rattle.shgrammar.specs.Pieces.{byte_by, end_by}
 use Rattle.shgrammar.specs.Standing.{at_end}

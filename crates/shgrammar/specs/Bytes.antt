@@ -1,6 +1,6 @@
 -- The bytes of a text as they are read: continuations are removed (XCU 2.2.1).
 use Rattle.std.specs.Prelude.{ℕ, ◌+◌, ◌-◌, length, Bool, true, ◌==◌, ◌&&◌, ◌||◌, List, [], ◌∷◌, Option, Some, None, slice_get, drop, zero, suc, if◌then◌else◌}
-use Rattle.shtext.specs.Text.{is_newline}
+use Rattle.shsource.specs.Text.{is_newline}
 use Rattle.shgrammar.specs.Characters.{newline_char, backslash}
 use Rattle.shgrammar.specs.Classes.{is_blank, is_operator}
 use Rattle.shgrammar.specs.Standing.{is_byte, passes, raw_past, continues}

@@ -12,7 +12,7 @@ use Rattle.shgrammar.specs.declared.token.Token.{Token}
 use Rattle.shgrammar.specs.declared.token.Token.TheVariants as tokens
 use Rattle.shast.specs.declared.tree.RedirectOperator.{RedirectOperator}
 use Rattle.shast.specs.declared.tree.RedirectOperator.TheVariants as redirects
-use Rattle.shtext.specs.Text.{is_newline}
+use Rattle.shsource.specs.Text.{is_newline}
 use Rattle.shgrammar.specs.Classes.{is_digit, is_letter, is_name}
 use Rattle.shgrammar.specs.Bytes.{byte_at, past_byte, stands, stands_in, ends_word, past, past_blanks, is_broken_at}
 

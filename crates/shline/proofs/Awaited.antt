@@ -6,7 +6,7 @@ use Rattle.std.proofs.lemmas.Bool.Decides.{nat_tests}
 use Rattle.std.proofs.lemmas.Option.{slice_get_within, slice_get-get_or}
 use Rattle.std.proofs.lemmas.List.{drop-drop, drop_more, length-drop, places, take-take}
 use Rattle.std.proofs.lemmas.Grind.{fold-append, same_number_lists}
-use Rattle.shtext.specs.Text.{IsRun}
+use Rattle.shsource.specs.Text.{IsRun}
 use Rattle.shgrammar.specs.declared.keep.Keep.{Keep}
 use Rattle.shast.specs.declared.tree.Span.{Span}
 use Rattle.shgrammar.specs.declared.fault.Fault.{Fault}

@@ -1,6 +1,6 @@
 -- The stretch in which a cursor stands, which begins at a place of its text.
 use Rattle.std.proofs.Common.{◌≡◌, ℕ, ◌+◌, ◌<◌, ◌≤◌, List, length, drop, subst, arith}
-use Rattle.shtext.specs.Text.{IsRun}
+use Rattle.shsource.specs.Text.{IsRun}
 use Rattle.shgrammar.proofs.Runs.{front_run}
 
 -- what stands in it from one of its bytes on

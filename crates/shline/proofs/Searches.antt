@@ -3,7 +3,7 @@ use Rattle.std.proofs.Common.{◌≡◌, ℕ, ◌+◌, ◌-◌, ◌<◌, ◌≤�
 use Rattle.std.proofs.lemmas.List.{drop-drop}
 use Rattle.std.proofs.lemmas.Option.{slice_get-get_or, slice_get_past}
 use Rattle.memchr.specs.Find.{IsFirstByte}
-use Rattle.shtext.specs.Text.{IsRun}
+use Rattle.shsource.specs.Text.{IsRun}
 use Rattle.shgrammar.specs.Standing.{is_byte, is_none, passes, raw_in, raw_stands, at_end, raw_past, count_front, next_such, next_of}
 use Rattle.shgrammar.proofs.Stretches.{raw_is, raw_on, raw_more, raw_none}
 

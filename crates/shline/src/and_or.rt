@@ -11,7 +11,7 @@ use crate::cursor::Cursor;
 use crate::stop::Stop;
 use shast::make::and_or_part_of;
 use shast::{AndOrOperator, AndOrPart};
-use shtext::Source;
+use shsource::Source;
 use std::mem;
 
 impl<'a, S: Source, const TREE: u8> Cursor<'a, S, TREE> {

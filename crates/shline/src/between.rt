@@ -9,7 +9,7 @@ use crate::cursor::Cursor;
 use crate::stop::Stop;
 use shast::Comment;
 use shgrammar::{Fault, FaultKind, Position, Separator, Token};
-use shtext::Source;
+use shsource::Source;
 
 impl<'a, S: Source, const TREE: u8> Cursor<'a, S, TREE> {
     /// Passes the comment here, if one stands.

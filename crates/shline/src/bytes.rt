@@ -8,7 +8,7 @@ ghost use Rattle.shgrammar.specs.Standing.{raw_in};
 
 use crate::cursor::Cursor;
 use shgrammar::{Class, ends_words};
-use shtext::Source;
+use shsource::Source;
 
 impl<'a, S: Source, const TREE: u8> Cursor<'a, S, TREE> {
     /// The place past the continuations at a place. Most often none stands there.

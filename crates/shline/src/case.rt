@@ -17,7 +17,7 @@ use crate::stop::Stop;
 use shast::make::{case_item_of, case_of, list_of};
 use shast::{CaseItem, Form, Join, Span, Word, commands_end};
 use shgrammar::{Closing, Position, Token};
-use shtext::Source;
+use shsource::Source;
 use std::alloc::Global;
 use std::mem;
 

@@ -16,7 +16,7 @@ use crate::stop::Stop;
 use shast::make::{argument_of, assign_of, simple_of};
 use shast::{Command, Item, Word};
 use shgrammar::{Position, Token};
-use shtext::Source;
+use shsource::Source;
 use std::alloc::AllocError;
 use std::mem;
 

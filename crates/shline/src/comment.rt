@@ -10,7 +10,7 @@ use crate::cursor::Cursor;
 use crate::search::Sought;
 use shast::{Comment, Span};
 use shgrammar::Class;
-use shtext::Source;
+use shsource::Source;
 
 impl<'a, S: Source, const TREE: u8> Cursor<'a, S, TREE> {
     /// The place after the last byte before `end` that is no blank; at `from` one stands.

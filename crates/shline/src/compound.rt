@@ -17,7 +17,7 @@ use shast::make::{
 };
 use shast::{Branch, Command, Form, List, Span};
 use shgrammar::{Closing, FaultKind, Opener, Position};
-use shtext::Source;
+use shsource::Source;
 use std::mem;
 
 impl<'a, S: Source, const TREE: u8> Cursor<'a, S, TREE> {

@@ -2,13 +2,13 @@
 ghost use Rattle.std.specs.Prelude.{◌≡◌, ◌+◌, ◌==◌, ◌^◌, ◌<◌, ◌≤◌, [], All, drop, length, true};
 ghost use Rattle.shline.specs.Limits.{Waits, limits};
 ghost use Rattle.shline.specs.InHand.{InHand, in_hand_prop};
-ghost use Rattle.shtext.specs.Text.{IsRun};
+ghost use Rattle.shsource.specs.Text.{IsRun};
 
 use crate::documents::Documents;
 use crate::parsed_line::Begin;
 use shast::{Entry, Item, Spare};
 use shgrammar::{Edition, Keep, Next, Token};
-use shtext::Source;
+use shsource::Source;
 use std::alloc::Global;
 
 /// `TREE` of a cursor that may grow the tree of what it reads. A number, since the

@@ -15,7 +15,7 @@ use crate::search::Sought;
 use crate::stop::Stop;
 use shast::{HereDocument, RedirectOperator, Span};
 use shgrammar::{Class, Delimiter, Fault, FaultKind, delimiter_in};
-use shtext::Source;
+use shsource::Source;
 use std::alloc::{AllocError, Global};
 use std::mem;
 

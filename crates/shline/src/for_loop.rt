@@ -17,7 +17,7 @@ use crate::stop::Stop;
 use shast::make::{comment_entry, for_of, list_of};
 use shast::{Comment, Form, Item, Join, List, Span, Word};
 use shgrammar::{Closing, FaultKind, Position, Token};
-use shtext::Source;
+use shsource::Source;
 use std::alloc::{AllocError, Global};
 
 /// A list after comments, which are its first entries then.

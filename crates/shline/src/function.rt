@@ -13,7 +13,7 @@ use crate::stop::Stop;
 use shast::make::{function_command, function_of};
 use shast::{Command, Comment, Join, Span};
 use shgrammar::{Closing, FaultKind, Position};
-use shtext::Source;
+use shsource::Source;
 use std::alloc::{AllocError, Global};
 
 /// A compound command under a name; one that is not held stays so.

@@ -9,7 +9,7 @@ use crate::cursor::Cursor;
 use crate::stop::Stop;
 use shast::Join;
 use shgrammar::Position;
-use shtext::Source;
+use shsource::Source;
 
 impl<'a, S: Source, const TREE: u8> Cursor<'a, S, TREE> {
     /// One more comment and newline after an operator. Answers whether there was a newline.

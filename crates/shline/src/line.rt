@@ -11,7 +11,7 @@ use crate::list::Listed;
 use crate::stop::Stop;
 use shast::{Entry, Span, put_bodies_in};
 use shgrammar::{Position, Token};
-use shtext::Source;
+use shsource::Source;
 
 /// These entries with the bodies of their level.
 #[inline(always)]

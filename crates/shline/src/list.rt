@@ -15,7 +15,7 @@ use crate::stop::Stop;
 use shast::make::{and_or_of, command_entry, comment_entry, list_of, pipeline_of};
 use shast::{Comment, Entry, List};
 use shgrammar::{Separator, Token};
-use shtext::Source;
+use shsource::Source;
 use std::alloc::{AllocError, Global};
 use std::mem;
 

@@ -7,7 +7,7 @@ use crate::cursor::Cursor;
 use crate::stop::Stop;
 use shast::Span;
 use shgrammar::{Fault, FaultKind};
-use shtext::Source;
+use shsource::Source;
 
 impl<'a, S: Source, const TREE: u8> Cursor<'a, S, TREE> {
     /// What stops the reading at a place of the text.

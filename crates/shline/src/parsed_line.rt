@@ -12,7 +12,7 @@ use crate::cursor::{Cursor, ReadOptions};
 use crate::line::filled_entries;
 use crate::stop::Stop;
 use shast::{Entry, Spare};
-use shtext::Source;
+use shsource::Source;
 use std::alloc::Global;
 
 /// How many constructs may be open.

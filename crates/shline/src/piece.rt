@@ -12,7 +12,7 @@ use crate::cursor::Cursor;
 use crate::search::Sought;
 use crate::stop::Stop;
 use shgrammar::{Class, Escaping, FaultKind, Mode, Piece, ends_words};
-use shtext::Source;
+use shsource::Source;
 
 impl<'a, S: Source, const TREE: u8> Cursor<'a, S, TREE> {
     /// What the `$` at a place begins.

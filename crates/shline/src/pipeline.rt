@@ -13,7 +13,7 @@ use crate::stop::Stop;
 use shast::make::{pipeline_of, pipeline_part_of};
 use shast::{Pipeline, PipelinePart, Span};
 use shgrammar::{Position, Reserved, Token};
-use shtext::Source;
+use shsource::Source;
 use std::mem;
 
 impl<'a, S: Source, const TREE: u8> Cursor<'a, S, TREE> {

@@ -4,7 +4,7 @@ ghost use Rattle.shline.specs.Clauses.{Skips};
 use crate::cursor::Cursor;
 use crate::sets::plain_front;
 use shgrammar::Mode;
-use shtext::Source;
+use shsource::Source;
 
 impl<'a, S: Source, const TREE: u8> Cursor<'a, S, TREE> {
     /// Passes the bytes from here on that are ordinary in a mode, or some of them.

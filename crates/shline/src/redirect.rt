@@ -15,7 +15,7 @@ use crate::stop::Stop;
 use shast::make::{redirect_of, redirection_of, with_redirects};
 use shast::{Command, Item, RedirectOperator, Span, Word};
 use shgrammar::{FaultKind, Position, Token};
-use shtext::Source;
+use shsource::Source;
 use std::mem;
 
 /// Whether it has two bytes, or more.

@@ -7,7 +7,7 @@ ghost use Rattle.shline.specs.Clauses.{Inside, seen, start_of, Steps, Still, tex
 
 use crate::cursor::Cursor;
 use shgrammar::{Class, Reserved, ends_words};
-use shtext::Source;
+use shsource::Source;
 
 // Two bytes may begin a reserved word only where they have a kind in common: a bit for each kind.
 /// `ca`

@@ -7,7 +7,7 @@ ghost use Rattle.shgrammar.specs.Standing.{next_of, next_such};
 
 use crate::cursor::Cursor;
 use memchr::{memchr, memchr2};
-use shtext::Source;
+use shsource::Source;
 
 /// How many bytes of text in single quotes are looked at before it is searched.
 const NEAR: usize = 8;

@@ -3,11 +3,11 @@ ghost use Rattle.std.specs.Prelude.{◌≡◌, ◌+◌, ◌<◌, length, slice_g
 ghost use Rattle.shgrammar.specs.Classes.{in_class};
 ghost use Rattle.shline.specs.Clauses.{Inside, on, Reaches, seen, text_of};
 ghost use Rattle.shgrammar.specs.Standing.{raw_past, at_end, continues, passes, raw_in, raw_stands};
-ghost use Rattle.shtext.specs.Text.{IsRun};
+ghost use Rattle.shsource.specs.Text.{IsRun};
 
 use crate::cursor::Cursor;
 use shgrammar::Class;
-use shtext::Source;
+use shsource::Source;
 
 /// Whether there is a byte, and it is of this class.
 #[inline(always)]

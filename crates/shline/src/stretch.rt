@@ -7,7 +7,7 @@ ghost use Rattle.shline.specs.Clauses.{here_of, Holds, start_of, Stays};
 
 use crate::cursor::Cursor;
 use shgrammar::{Next, Token};
-use shtext::Source;
+use shsource::Source;
 
 impl<'a, S: Source, const TREE: u8> Cursor<'a, S, TREE> {
     /// Where the reading stands in the text.

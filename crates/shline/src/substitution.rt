@@ -16,7 +16,7 @@ use crate::stop::Stop;
 use shast::make::{list_of, subst_of};
 use shast::{List, Span, Subst, put_bodies};
 use shgrammar::{Closing, Fault, FaultKind, Position};
-use shtext::Source;
+use shsource::Source;
 use std::alloc::AllocError;
 
 /// A list with the bodies of its level.

@@ -8,7 +8,7 @@ ghost use Rattle.shline.specs.Clauses.{here_of, Holds, Inside, Looks, on, Reache
 use crate::cursor::Cursor;
 use shast::RedirectOperator;
 use shgrammar::{Class, Next, Position, Token, begins_a_word};
-use shtext::Source;
+use shsource::Source;
 
 impl<'a, S: Source, const TREE: u8> Cursor<'a, S, TREE> {
     /// Passes the digits that are in hand.

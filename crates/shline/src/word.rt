@@ -17,7 +17,7 @@ use crate::stop::Stop;
 use shast::make::word_of;
 use shast::{Subst, Word};
 use shgrammar::{FaultKind, Mode, Piece};
-use shtext::Source;
+use shsource::Source;
 
 impl<'a, S: Source, const TREE: u8> Cursor<'a, S, TREE> {
     /// What closes a construct of this mode, from its place on; nothing closes a word.

@@ -6,7 +6,7 @@ use Rattle.shgrammar.specs.declared.edition.Edition.{Edition}
 use Rattle.shgrammar.specs.declared.fault.Fault.{Fault}
 use Rattle.shheld.specs.TopLines.{IsTopLine}
 use Rattle.shtext.specs.Edit.{ASplice, edited, first_begin, last_end, new_end}
-use Rattle.shtext.specs.Meter.{raised}
+use Rattle.shsource.specs.Meter.{raised}
 use Rattle.shwindow.proofs.Windows.{window_only}
 use Rattle.shheld.proofs.Windows.{some}
 use Rattle.shlive.specs.Answers.{HasNodesAt, HasOutline, HasStatus, HasText}

@@ -1,6 +1,6 @@
 -- Texts without a newline.
 use Rattle.std.proofs.Common.{◌≡◌, ℕ, false, List, [], ◌∷◌, ◌++◌, None, Some, refl, sym, ap, ◌∙◌, append_assoc, append-nil}
-use Rattle.shtext.specs.Text.{is_newline}
+use Rattle.shsource.specs.Text.{is_newline}
 use Rattle.shlive.specs.Requests.{Lined, first_line, with_text_before}
 use Rattle.shlive.specs.Lines.{IsInLine}
 

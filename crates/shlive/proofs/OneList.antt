@@ -1,6 +1,6 @@
 -- An input spells one list of requests.
 use Rattle.std.proofs.Common.{◌≡◌, ℕ, zero, suc, ◌<◌, ◌≤◌, Bool, true, false, cond, List, [], ◌∷◌, ◌++◌, List as Row, Option, None, Some, length, take, drop, refl, sym, ap, ◌∙◌, arith, append_assoc, append-nil, length-drop, subst}
-use Rattle.shtext.specs.Text.{is_newline}
+use Rattle.shsource.specs.Text.{is_newline}
 use Rattle.shtext.specs.Edit.{ASplice}
 use Rattle.shlive.specs.Requests.{Begins, Ending, EndsBy, Lined, NextRequest, Request, Requests, Parser, after_payload, asks, clean, cut, edit_alone, first_line, quits, left, more_parts, next_by_line, next_by_kind, next_by_part, next_request_of, none_yet, nothing, one_more, kind_of_line, part_by_line, part_of_line, splice_by, unfinished, with_bytes, with_text_before}
 use Rattle.shlive.specs.declared.request_kind.RequestKind.{RequestKind}

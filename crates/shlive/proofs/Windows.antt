@@ -2,7 +2,7 @@
 use Rattle.std.proofs.Common.{◌≡◌, ℕ, ◌-◌, ◌^◌, ◌≤◌, List, List as Row, ap, subst, sym, ◌∙◌, arith}
 use Rattle.shgrammar.specs.declared.edition.Edition.{Edition}
 use Rattle.shtext.specs.Edit.{ASplice, edited, first_begin, last_end, new_end}
-use Rattle.shtext.specs.Meter.{raised}
+use Rattle.shsource.specs.Meter.{raised}
 use Rattle.shwindow.specs.Held as the_held
 use Rattle.shwindow.specs.Meter.{risen}
 use Rattle.shwindow.specs.Window.{IsWindow}

@@ -8,7 +8,7 @@ use Rattle.shgrammar.specs.Lines.{AKind, FaultWithin, entries_line, faulty_line}
 use Rattle.shread.specs.Answers.{meter_of}
 use Rattle.shread.specs.declared.reader.Reader.{Reader}
 use Rattle.shtext.specs.Edit.{ASplice}
-use Rattle.shtext.specs.Meter.{raised}
+use Rattle.shsource.specs.Meter.{raised}
 use Rattle.shwindow.specs.Lines.{IsRow}
 use Rattle.shwindow.specs.Meter.{RoseWithin}
 use Rattle.shwindow.specs.declared.line.HeldLine.{HeldLine}

@@ -12,7 +12,7 @@ use Rattle.shast.specs.declared.node.NodeKind.TheVariants as nodes
 use Rattle.shast.specs.declared.node.NodeLine.{NodeLine}
 use Rattle.shast.specs.declared.tree.Span.{Span}
 use Rattle.shtext.specs.Edit.{ASplice}
-use Rattle.shtext.specs.Text.{column_of, line_of}
+use Rattle.shsource.specs.Text.{column_of, line_of}
 use Rattle.shlive.specs.Held.{Held, SessionOptions}
 use Rattle.shlive.specs.Answers.{HasNodesAt, HasOutline, HasStatus, HasText}
 use Rattle.shlive.specs.Edits.{IsNotMade, IsMade}

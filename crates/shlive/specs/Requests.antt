@@ -1,7 +1,7 @@
 -- The requests that an input spells, and its end.
 use Rattle.std.specs.Prelude.{◌≡◌, zero, suc, ℕ, nat_le, List, [], ◌∷◌, ◌++◌, List as Row, length, take, drop, Option, None, Some, if◌then◌else◌}
 use Rattle.shtext.specs.Edit.{ASplice}
-use Rattle.shtext.specs.Text.{is_newline}
+use Rattle.shsource.specs.Text.{is_newline}
 use Rattle.shlive.specs.RequestKinds.{request_kind_of, part_of}
 use Rattle.shlive.specs.declared.request_kind.EditForm.{EditForm}
 use Rattle.shlive.specs.declared.request_kind.EditForm.TheVariants as forms

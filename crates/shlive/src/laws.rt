@@ -4,7 +4,7 @@ ghost use Rattle.shast.specs.declared.node.NodeLine.{NodeLine};
 ghost use Rattle.shgrammar.specs.Scripts.{FirstFault};
 ghost use Rattle.shgrammar.specs.declared.edition.Edition.{Edition};
 ghost use Rattle.shgrammar.specs.declared.fault.Fault.{Fault};
-ghost use Rattle.shtext.specs.Meter.{raised};
+ghost use Rattle.shsource.specs.Meter.{raised};
 ghost use Rattle.shlive.specs.Answers.{HasNodesAt, HasOutline, HasStatus, HasText};
 ghost use Rattle.shlive.specs.Edits.{AreRead, IsAfter, Tried, bytes_after};
 ghost use Rattle.shlive.specs.Held.{Held};

@@ -1,7 +1,7 @@
 //! The open script.
 ghost use Rattle.std.specs.Prelude.{◌≡◌, ◌≤◌, [], IfErr, IfOk, IfSome, IsOk, OnOk, length, option_map, Some, false, true, ◌<◌};
 ghost use Rattle.shread.specs.Answers.{edition_of, meter_of};
-ghost use Rattle.shtext.specs.Meter.{raised};
+ghost use Rattle.shsource.specs.Meter.{raised};
 ghost use Rattle.shgrammar.specs.Scripts.{FirstFault};
 ghost use Rattle.shgrammar.specs.declared.fault.Fault.{Fault};
 ghost use Rattle.shtext.specs.Buffer.{buffer_bytes};

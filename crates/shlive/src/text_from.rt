@@ -1,6 +1,6 @@
 //! The rest of a text, as a text of its own.
 ghost use Rattle.shtext.specs.Buffer.{buffer_bytes};
-ghost use Rattle.shtext.specs.Text.{IsRun};
+ghost use Rattle.shsource.specs.Text.{IsRun};
 
 use shtext::{Buffer, Source};
 

@@ -3,7 +3,7 @@ ghost use Rattle.std.specs.Prelude.{◌≡◌, ◌+◌, ◌-◌, ◌<◌, ◌≤
 ghost use Rattle.shast.specs.View.{view_list};
 ghost use Rattle.shgrammar.specs.Lines.{AKind};
 ghost use Rattle.shread.specs.Answers.{meter_of, view_kind};
-ghost use Rattle.shtext.specs.Meter.{raised};
+ghost use Rattle.shsource.specs.Meter.{raised};
 ghost use Rattle.shlive.specs.HeldLines.{IsHeldLine, entries_in, fault_in};
 
 use shread::{Fault, LineKind, Reader};

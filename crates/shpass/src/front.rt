@@ -6,7 +6,7 @@ ghost use Rattle.shgrammar.specs.Search.{LineBefore, MayPass, StopsAt};
 use crate::newline::ends_in_newline;
 use shgrammar::{Edition, Keep};
 use shline::{Begin, NO_TREE, ReadOptions, Stop, line_at};
-use shtext::Source;
+use shsource::Source;
 use std::alloc::{AllocError, Global};
 use std::mem;
 

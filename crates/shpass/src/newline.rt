@@ -2,7 +2,7 @@
 ghost use Rattle.std.specs.Prelude.{◌≡◌, ◌+◌, ◌-◌, ◌^◌, ◌<◌, drop};
 ghost use Rattle.shgrammar.specs.Standing.{raw_stands};
 
-use shtext::Source;
+use shsource::Source;
 
 /// Whether a newline is the last byte of a line of so many bytes, of one or more.
 #[tactic(auto, unfolding(shgrammar::specs::Standing::raw_stands), using(shgrammar::proofs::Stretches::get_drop))]

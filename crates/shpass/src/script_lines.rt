@@ -11,7 +11,7 @@ use crate::newline::ends_in_newline;
 use shast::{Entry, Spare};
 use shgrammar::{Edition, Keep};
 use shline::{Begin, ParsedLine, ReadOptions, Stop, WITH_TREE, line_at};
-use shtext::Source;
+use shsource::Source;
 use std::alloc::{AllocError, Global};
 
 /// What some lines of a script leave for the next one to know: whether an empty line

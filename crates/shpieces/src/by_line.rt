@@ -10,7 +10,7 @@ use shgrammar::{Edition, Fault};
 use shline::Stop;
 use shpass::{LinesBefore, ScriptLines};
 use shprint::{Layout, Page, Printer};
-use shtext::Source;
+use shsource::Source;
 use std::alloc::{AllocError, Global};
 use thiserror::Error;
 

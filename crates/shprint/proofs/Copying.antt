@@ -9,7 +9,7 @@ use Rattle.shgrammar.specs.Characters.{backslash, hyphen, newline_char}
 use Rattle.shast.specs.Shape.{bare, text_at}
 use Rattle.shast.specs.declared.tree.Span.{Span}
 use Rattle.shast.specs.declared.tree.RedirectOperator.TheVariants as redirects
-use Rattle.shtext.specs.Text.{IsRun}
+use Rattle.shsource.specs.Text.{IsRun}
 use Rattle.shprint.specs.Printed.{would_lengthen}
 
 -- ---- by stretches

@@ -9,7 +9,7 @@ use Rattle.shgrammar.specs.declared.token.Position.TheVariants.{Command, Prefix,
 use Rattle.shgrammar.specs.declared.token.Reserved.{Reserved}
 use Rattle.shgrammar.specs.declared.token.Token.{Token}
 use Rattle.shgrammar.specs.declared.token.Token.TheVariants as tokens
-use Rattle.shtext.specs.Text.{is_newline as is_newline_byte}
+use Rattle.shsource.specs.Text.{is_newline as is_newline_byte}
 use Rattle.shgrammar.specs.Classes.{is_digit}
 use Rattle.shgrammar.specs.Standing.{continues, is_byte, passes, raw_stands}
 use Rattle.shgrammar.specs.Bytes.{byte_at, past, past_byte, past_continuations, stands, stands_in}

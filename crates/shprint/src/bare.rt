@@ -3,7 +3,7 @@ ghost use Rattle.std.specs.Prelude.{◌≡◌, ◌++◌, IfOk};
 ghost use Rattle.shast.specs.Shape.{bare_at};
 
 use shast::Span;
-use shtext::Source;
+use shsource::Source;
 use std::alloc::AllocError;
 
 /// Adds the bytes of a span without its continuations. Such a span is short: it is

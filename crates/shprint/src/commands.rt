@@ -17,7 +17,7 @@ use shast::{
     AndOr, AndOrOperator, AndOrPart, Branch, CaseItem, Command, Comment, Compound, Content, Entry,
     Form, Function, Item, Join, List, Pipeline, PipelinePart, Span, Word,
 };
-use shtext::Source;
+use shsource::Source;
 use std::alloc::AllocError;
 
 /// How an operator of an and-or list is spelled.

@@ -10,7 +10,7 @@ ghost use Rattle.shprint.specs.Written.{Prints, Puts, print_join_on};
 use crate::page::Page;
 use crate::printer::Printer;
 use shast::{Comment, Join};
-use shtext::Source;
+use shsource::Source;
 use std::alloc::AllocError;
 
 /// Whether the operands that a join joins stand on lines of their own.

@@ -14,7 +14,7 @@ use crate::printer::Printer;
 use crate::stretch::word_span;
 use shast::{HereDocument, Item, ItemContent, RedirectOperator, Redirection, Span, Word};
 use shgrammar::{delimiter_of, plain_part};
-use shtext::Source;
+use shsource::Source;
 use std::alloc::AllocError;
 
 /// How the operator of a redirection is spelled.

@@ -16,7 +16,7 @@ use crate::layout::Layout;
 use crate::page::Page;
 use shast::Span;
 use shgrammar::Script;
-use shtext::Source;
+use shsource::Source;
 use std::alloc::{AllocError, Global};
 
 /// How many bytes of a text are copied at once. Most texts have fewer.

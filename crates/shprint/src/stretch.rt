@@ -11,7 +11,7 @@ ghost use Rattle.shprint.specs.Written.{PrintAlike, item_after, marks_of_items, 
 
 use crate::printer::Printer;
 use shast::{Item, ItemContent, Span};
-use shtext::Source;
+use shsource::Source;
 
 /// The span of an item that is a word, or an assignment.
 pub(crate) fn word_span(item: &Item) -> Option<Span>

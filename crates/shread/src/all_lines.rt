@@ -8,7 +8,7 @@ use crate::error::ReadError;
 use shast::make::list_of;
 use shgrammar::{Edition, Script};
 use shpass::ScriptLines;
-use shtext::Source;
+use shsource::Source;
 use std::alloc::Global;
 
 /// A whole script. One without a byte wants no memory.

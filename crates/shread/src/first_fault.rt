@@ -7,7 +7,7 @@ ghost use Rattle.shread.specs.Answers.{Tells};
 use crate::error::ReadError;
 use shgrammar::{Edition, Fault, Keep};
 use shline::{Begin, NO_TREE, ParsedLine, ReadOptions, Stop, line_at};
-use shtext::Source;
+use shsource::Source;
 use std::alloc::Global;
 use std::mem;
 

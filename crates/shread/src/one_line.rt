@@ -12,7 +12,7 @@ use shast::make::list_of;
 use shgrammar::{Edition, Keep};
 use shline::{Begin, ReadOptions, WITH_TREE, line_at};
 use shpass::ends_in_newline;
-use shtext::Source;
+use shsource::Source;
 use std::alloc::Global;
 
 /// What a line without fault is.

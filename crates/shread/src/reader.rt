@@ -2,7 +2,7 @@
 ghost use Rattle.std.specs.Prelude.{◌≡◌, ◌-◌, ◌<◌, ◌≤◌, ℕ, drop, false, length, true, List as Row, None, IfOk, IfErr, IfSome, IsOk};
 ghost use Rattle.shread.specs.Answers.{edition_of, meter_of, view_kind, view_line};
 ghost use Rattle.shline.specs.Limits.{wants_memory};
-ghost use Rattle.shtext.specs.Meter.{raised};
+ghost use Rattle.shsource.specs.Meter.{raised};
 ghost use Rattle.shgrammar.specs.Scripts.{view_script};
 ghost use Rattle.shgrammar.specs.Form.{Spelled};
 ghost use Rattle.shgrammar.specs.Lines.{ALine, EntryNodesWithin, EntrySpansWithin, FaultWithin, IsLine, NoFurther, SameBytes};
@@ -20,7 +20,7 @@ use crate::one_line::line_from;
 use shast::List;
 use shgrammar::{Edition, Fault, Script};
 use shline::NO_TREE;
-use shtext::Source;
+use shsource::Source;
 use std::alloc::Global;
 
 /// What a top-level line is.

@@ -1,7 +1,7 @@
 -- The newlines of a stretch of a text, and the line and the column after it.
 use Rattle.std.proofs.Common.{◌≡◌, ℕ, zero, suc, ◌+◌, ◌-◌, ◌<◌, ◌≤◌, Bool, true, false, List, count_by, length, take, get_or, refl, sym, ap, ◌∙◌, arith, add-zero}
 use Rattle.std.proofs.lemmas.List.Sums.{count_by_more_no, count_by_more_yes}
-use Rattle.shtext.specs.Text.{is_newline, line_of, since_newline}
+use Rattle.shsource.specs.Text.{is_newline, line_of, since_newline}
 use Rattle.shtext.proofs.Newlines.{ends, stays}
 
 -- bytes without a newline stay in the line

@@ -1,7 +1,7 @@
 -- The lines of a text, and where each begins.
 use Rattle.std.proofs.Common.{◌≡◌, ◌⊎◌, inl, inr, ⊎_elim, ℕ, zero, suc, ◌+◌, ◌-◌, ◌<◌, ◌≤◌, Bool, true, false, List, Option, None, Some, length, take, get_or, refl, sym, ap, ◌∙◌, arith}
 use Rattle.std.proofs.lemmas.Bool.{cases_lt}
-use Rattle.shtext.specs.Text.{IsLineStart, is_newline, line_of, column_of, since_newline}
+use Rattle.shsource.specs.Text.{IsLineStart, is_newline, line_of, column_of, since_newline}
 use Rattle.shtext.proofs.Newlines.{ends, stays, grows}
 
 -- past a place, the line or the column has moved

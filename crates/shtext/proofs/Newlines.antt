@@ -1,7 +1,7 @@
 -- What newlines, and bytes that are none, do to the line and the column of a place.
 use Rattle.std.proofs.Common.{◌≡◌, ℕ, zero, suc, ◌+◌, ◌<◌, ◌≤◌, ◌==◌, Bool, true, false, cond, List, length, take, get_or, refl, ap, ◌∙◌, arith}
 use Rattle.std.proofs.lemmas.List.Sums.{fold_more, count_by_more_no, count_by_more_yes}
-use Rattle.shtext.specs.Text.{is_newline, line_of, since_newline}
+use Rattle.shsource.specs.Text.{is_newline, line_of, since_newline}
 
 since-more : (bytes : List ℕ) (i : ℕ) → i < length bytes →
     since_newline (take (i + 1) bytes) ≡ cond (get_or bytes i 0 == 10) 0 (since_newline (take i bytes) + 1)

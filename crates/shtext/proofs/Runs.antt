@@ -1,7 +1,7 @@
 -- Stretches of a text.
 use Rattle.std.proofs.Common.{◌≡◌, ℕ, ◌+◌, ◌-◌, ◌<◌, ◌≤◌, List, ◌++◌, length, drop, get_or, refl, sym, ap, ◌∙◌, arith}
 use Rattle.std.proofs.lemmas.List.{get_or-append_right, get_or_append_left, get_or-drop, length-append, length-drop}
-use Rattle.shtext.specs.Text.{IsRun}
+use Rattle.shsource.specs.Text.{IsRun}
 
 -- a stretch of a chunk
 pub run_within : (B X k Y : List ℕ) (at : ℕ) → B ≡ X ++ (k ++ Y) → length X ≤ at → at < length X + length k →

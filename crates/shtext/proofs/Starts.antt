@@ -3,7 +3,7 @@ use Rattle.std.proofs.Common.{◌≡◌, ℕ, ◌+◌, ◌-◌, ◌<◌, ◌≤�
 use Rattle.std.proofs.lemmas.Bool.{cases_lt}
 use Rattle.std.proofs.lemmas.List.{get_or-append_right, get_or_append_left, take-append-le}
 use Rattle.std.proofs.Math.Seq.{take-append-add}
-use Rattle.shtext.specs.Text.{IsLineStart, column_of, is_newline, line_of, since_newline}
+use Rattle.shsource.specs.Text.{IsLineStart, column_of, is_newline, line_of, since_newline}
 use Rattle.shtext.proofs.Counting.{still}
 use Rattle.shtext.proofs.Newlines.{no_pass, ends, stays, grows}
 use Rattle.shtext.proofs.Summing.{newlines_append}

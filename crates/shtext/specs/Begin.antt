@@ -1,6 +1,6 @@
 -- Where the line begins that goes on after a stretch of a text.
 use Rattle.std.specs.Prelude.{◌≡◌, ℕ, ◌+◌, ◌<◌, ◌≤◌, List, length, slice_index, take}
-use Rattle.shtext.specs.Text.{since_newline}
+use Rattle.shsource.specs.Text.{since_newline}
 
 -- Where the line at the offset `from` begins at `start`, the one after the stretch
 -- that stands there begins at `begin`.

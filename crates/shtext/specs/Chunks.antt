@@ -1,6 +1,6 @@
 -- Bytes in chunks, and sums over them.
 use Rattle.std.specs.Prelude.{◌≡◌, ◌⊎◌, zero, suc, ℕ, ◌+◌, ◌-◌, ◌/◌, ◌<◌, ◌≤◌, List, [], ◌∷◌, ◌++◌, List as Row, count_by, drop, length, min, slice_index, slice_index_or, slice_range, take}
-use Rattle.shtext.specs.Text.{is_newline}
+use Rattle.shsource.specs.Text.{is_newline}
 
 -- the most bytes of a chunk
 abbrev pub most : ℕ

@@ -1,8 +1,6 @@
-pub mod Text
 pub mod Edit
 pub mod Rows
 pub mod Chunks
 pub mod Buffer
 pub mod Device
-pub mod Meter
 pub mod Begin

@@ -2,15 +2,15 @@
 ghost use Rattle.std.specs.Prelude.{◌≡◌, ◌+◌, ◌*◌, ◌<◌, ◌≤◌, [], IfErr, IfOk, IsOk, OnOk, length};
 ghost use Rattle.shtext.specs.Chunks.{AreFull, EachHas, HasSums, begin_of, ends_of, fewest, joined, newlines_of, most};
 ghost use Rattle.shtext.specs.Edit.{AreAllowed, Refuses, limit, one_splice};
-ghost use Rattle.shtext.specs.Text.{IsRun};
+ghost use Rattle.shsource.specs.Text.{IsRun};
 
 use crate::chunk::{CHUNK, Chunk};
 use crate::cut::cut;
 use crate::edit::SEAM;
 use crate::error::TextError;
-use crate::source::Source;
 use crate::sums::{add_up_anew, place_near, sum_before};
 use crate::tally::Tally;
+use shsource::Source;
 use std::alloc::Global;
 
 /// A text that is edited in two steps, so that nothing can go wrong once its bytes change: a change is

@@ -1,12 +1,12 @@
 //! The lines of a buffer, by the counts of its chunks.
 ghost use Rattle.std.specs.Prelude.{◌≡◌, ◌+◌, ◌-◌, ◌<◌, ◌≤◌, true, count_by, length, slice_index, take};
-ghost use Rattle.shtext.specs.Text.{IsLineStart, column_of, is_newline, line_of};
+ghost use Rattle.shsource.specs.Text.{IsLineStart, column_of, is_newline, line_of};
 ghost use Rattle.shtext.specs.Buffer.{buffer_bytes};
 
 use crate::buffer::Buffer;
 use crate::count::newlines_in;
-use crate::source::Source;
 use crate::sums::{place_of, sum_before};
+use shsource::Source;
 
 impl Buffer {
     /// The line of an offset.

@@ -1,11 +1,11 @@
 //! Some bytes of a text, with the count of their newlines.
 ghost use Rattle.std.specs.Prelude.{◌≡◌, ◌-◌, ◌≤◌, [], IfOk, count_by, drop, length, slice_range, take};
-ghost use Rattle.shtext.specs.Text.{is_newline};
+ghost use Rattle.shsource.specs.Text.{is_newline};
 ghost use Rattle.shtext.specs.Chunks.{most};
 
 use crate::copy::push_part;
 use crate::count::newlines_in;
-use crate::source::Source;
+use shsource::Source;
 use std::alloc::{AllocError, Global};
 use std::marker::Model;
 
@@ -26,7 +26,7 @@ pub(crate) struct Chunk {
 
 impl Model for Chunk {
     ghost use Rattle.std.specs.Prelude.{◌≡◌, ◌≤◌, ℕ, List, count_by, length, vec_capacity};
-    ghost use Rattle.shtext.specs.Text.{is_newline};
+    ghost use Rattle.shsource.specs.Text.{is_newline};
     ghost use Rattle.shtext.specs.Chunks.{most};
 
     ghost Value = { List ℕ };

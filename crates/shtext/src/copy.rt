@@ -1,7 +1,7 @@
 //! Parts of a text.
 ghost use Rattle.std.specs.Prelude.{◌≡◌, ◌+◌, ◌-◌, ◌<◌, ◌≤◌, ◌^◌, ◌++◌, ◌↔◌, IsTrue, drop, length, slice_range, take, vec_capacity, vec_len};
 
-use crate::source::Source;
+use shsource::Source;
 
 /// Adds the bytes of a text from one offset up to another, for which there is room. It
 /// takes no memory.

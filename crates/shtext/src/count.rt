@@ -1,7 +1,7 @@
 //! How many newlines there are in some bytes. Most stand near the next one, so that no search
 //! is as fast as a look at each byte, many bytes at once.
 ghost use Rattle.std.specs.Prelude.{◌≡◌, ◌≤◌, count_by, length};
-ghost use Rattle.shtext.specs.Text.{is_newline};
+ghost use Rattle.shsource.specs.Text.{is_newline};
 
 /// The bytes of a row, a lane each: so few that a `u8` counts its newlines, and as many as fill the
 /// registers of a processor some times.

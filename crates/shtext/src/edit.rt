@@ -14,10 +14,10 @@ use crate::edited::Edited;
 use crate::error::TextError;
 use crate::fill::fill_anew;
 use crate::filling::Filling;
-use crate::source::Source;
 use crate::splice::Splice;
 use crate::sums::add_up_anew;
 use crate::tally::{LIMIT, Tally};
+use shsource::Source;
 use std::alloc::{AllocError, Global};
 use std::mem;
 

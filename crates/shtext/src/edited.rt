@@ -2,11 +2,11 @@
 ghost use Rattle.std.specs.Prelude.{◌+◌, ◌-◌, ◌≤◌, length};
 ghost use Rattle.shtext.specs.Chunks.{joined, most};
 ghost use Rattle.shtext.specs.Edit.{limit, spliced};
-ghost use Rattle.shtext.specs.Text.{IsRun};
+ghost use Rattle.shsource.specs.Text.{IsRun};
 
 use crate::buffer::Buffer;
 use crate::chunk::CHUNK;
-use crate::source::Source;
+use shsource::Source;
 
 /// The edited text: the buffer's bytes before the change, the new bytes, and the buffer's bytes after it.
 #[derive(Clone, Copy, Debug)]

@@ -5,7 +5,7 @@ ghost use Rattle.shtext.specs.Chunks.{EachHas, Refilled, fewest, joined, needed}
 use crate::chunk::Chunk;
 use crate::cut::{chunks_for, front_len};
 use crate::make_place::make_place;
-use crate::source::Source;
+use shsource::Source;
 
 /// Puts chunks with the bytes of a text in the place of those from `from` up to `to`. It takes no
 /// memory: those that give way are filled anew, and what is wanting comes from the spare ones.

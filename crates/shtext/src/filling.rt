@@ -2,7 +2,7 @@
 ghost use Rattle.std.specs.Prelude.{◌+◌, ◌≤◌, length};
 ghost use Rattle.shtext.specs.Edit.{limit};
 
-use crate::source::Source;
+use shsource::Source;
 
 /// What is to stand in the chunks that give way to an edit: their bytes before it, the new
 /// ones, and their bytes after it.

@@ -1,7 +1,7 @@
 //! Laws of the definitions alone, which no code stands behind.
 ghost use Rattle.std.specs.Prelude.{◌≡◌, ◌⊎◌, ◌+◌, ◌-◌, ◌<◌, ◌≤◌, ℕ, List, None, Option, Some, drop, length, take};
 ghost use Rattle.shtext.specs.Edit.{spliced};
-ghost use Rattle.shtext.specs.Text.{IsLineStart, line_of};
+ghost use Rattle.shsource.specs.Text.{IsLineStart, line_of};
 
 /// A line begins at one offset, and a text has the lines from 1 up to that of its length, and no others.
 pub fn line_starts()

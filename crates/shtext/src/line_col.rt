@@ -1,11 +1,11 @@
 //! The line and the column of an offset.
 ghost use Rattle.std.specs.Prelude.{◌≡◌, ◌+◌, ◌<◌, ◌≤◌, ◌^◌, length};
 ghost use Rattle.shtext.specs.Begin.{BeginsLine};
-ghost use Rattle.shtext.specs.Text.{column_of, line_of};
+ghost use Rattle.shsource.specs.Text.{column_of, line_of};
 
 use crate::count::newlines_in;
-use crate::source::Source;
 use memchr::memrchr;
+use shsource::Source;
 
 /// Where the line begins that goes on after a stretch at an offset: after its last
 /// newline, or where the line before it began.

@@ -1,6 +1,6 @@
 -- How a meter of the bytes that were read rises.
 use Rattle.std.specs.Prelude.{ℕ, ◌≤◌, max}
-use Rattle.shtext.specs.Meter.{raised}
+use Rattle.shsource.specs.Meter.{raised}
 
 -- a meter after n more bytes: it never falls, though it were past its greatest number
 abbrev pub risen : ℕ → ℕ → ℕ

@@ -11,7 +11,7 @@ use crate::line::{HeldLine, LineReader};
 use crate::lines::Lines;
 use crate::place::BlockPlace;
 use crate::window::{Window, read_window};
-use shtext::Source;
+use shsource::Source;
 use std::alloc::{AllocError, Global};
 use std::marker::Model;
 

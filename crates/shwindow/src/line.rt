@@ -2,7 +2,7 @@
 ghost use Rattle.std.specs.Prelude.{◌≡◌, ◌+◌, ◌<◌, ◌≤◌, ◌^◌, ℕ, List, IfOk, IsOk, OnErr, drop, false, length};
 ghost use Rattle.shwindow.specs.Meter.{risen};
 
-use shtext::Source;
+use shsource::Source;
 use std::alloc::AllocError;
 
 /// A line as it was read. What it says of its bytes it says of the line alone, wherever that stands.

@@ -13,7 +13,7 @@ use crate::blocks::Blocks;
 use crate::line::{HeldLine, LineReader};
 use crate::lines::Lines;
 use crate::place::BlockPlace;
-use shtext::Source;
+use shsource::Source;
 use std::alloc::{AllocError, Global};
 
 /// What was read of a window.

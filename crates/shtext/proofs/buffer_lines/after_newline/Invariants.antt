@@ -1,5 +1,5 @@
 use Rattle.std.proofs.Common.{◌≡◌, ◌-◌, ◌≤◌, count_by, length, take}
-use Rattle.shtext.specs.Text.{is_newline}
+use Rattle.shsource.specs.Text.{is_newline}
 use Rattle.shtext.proofs.buffer_lines.after_newline.Given as goal
 
 abbrev pub invariant-bytes : goal.invariant-bytes

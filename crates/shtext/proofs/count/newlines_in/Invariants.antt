@@ -1,5 +1,5 @@
 use Rattle.std.proofs.Common.{◌≡◌, ◌+◌, count_by, length}
-use Rattle.shtext.specs.Text.{is_newline}
+use Rattle.shsource.specs.Text.{is_newline}
 use Rattle.shtext.proofs.count.newlines_in.Given as goal
 
 abbrev pub invariant-rows : goal.invariant-rows

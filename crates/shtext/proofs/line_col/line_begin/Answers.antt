@@ -1,5 +1,5 @@
 use Rattle.std.proofs.Common.{◌<◌, length, ap, ◌∙◌, arith}
-use Rattle.shtext.specs.Text.{is_newline}
+use Rattle.shsource.specs.Text.{is_newline}
 use Rattle.shtext.proofs.Counting.{begun, still}
 use Rattle.shtext.proofs.Newlines.{no_pass}
 use Rattle.shtext.proofs.line_col.line_begin.Goals as goal

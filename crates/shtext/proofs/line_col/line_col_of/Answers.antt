@@ -2,7 +2,7 @@ use Rattle.std.proofs.Common.{[], ◌≡◌, ◌+◌, ◌<◌, ◌≤◌, List, 
 use Rattle.std.proofs.lemmas.List.{get_or-take, length-take-le}
 use Rattle.std.proofs.lemmas.List.Sums.{count_by-le-length}
 use Rattle.std.proofs.Math.Seq.{take-length}
-use Rattle.shtext.specs.Text.{is_newline, line_of}
+use Rattle.shsource.specs.Text.{is_newline, line_of}
 use Rattle.shtext.proofs.Counting.{lines}
 use Rattle.shtext.proofs.Newlines.{since_start}
 use Rattle.shtext.proofs.line_col.line_col_of.Goals as goal

@@ -1,5 +1,5 @@
 use Rattle.std.proofs.Common.{◌≡◌, ◌≤◌, ◌+◌, ◌-◌, take}
-use Rattle.shtext.specs.Text.{line_of, since_newline}
+use Rattle.shsource.specs.Text.{line_of, since_newline}
 use Rattle.shtext.proofs.line_col.line_col_of.Given as goal
 
 abbrev pub invariant-runs : goal.invariant-runs

@@ -2,7 +2,7 @@ use Rattle.std.proofs.Common.{◌<◌, ◌≤◌, ◌+◌, ◌-◌, ℕ, List, L
 use Rattle.std.proofs.lemmas.List.{get_or_append_left, take_rest}
 use borrow.Rule.Slice.PartMut.{post_of}
 use Rattle.std.proofs.lemmas.List.Sums.{count_by-le-length}
-use Rattle.shtext.specs.Text.{is_newline}
+use Rattle.shsource.specs.Text.{is_newline}
 use Rattle.shtext.specs.Chunks.{ends_of, joined, newlines_of}
 use Rattle.shtext.specs.Edit.{limit}
 use Rattle.shtext.proofs.Joined.{joined_low}

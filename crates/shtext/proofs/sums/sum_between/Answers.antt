@@ -1,7 +1,7 @@
 use Rattle.std.proofs.Common.{◌≡◌, ◌<◌, ◌+◌, ℕ, List, List as Row, length, take, arith, ap, ◌∙◌, length-append, count_by}
 use Rattle.std.proofs.lemmas.List.{drop-set-lt}
 use Rattle.std.proofs.lemmas.List.Sums.{count_by-le-length}
-use Rattle.shtext.specs.Text.{is_newline}
+use Rattle.shsource.specs.Text.{is_newline}
 use Rattle.shtext.specs.Chunks.{joined}
 use Rattle.shtext.proofs.Joined.{joined_low, joined_more}
 use Rattle.shtext.proofs.Summing.{newlines_append, sums_set}

@@ -1,5 +1,5 @@
 use Rattle.std.proofs.Common.{◌≡◌, ◌+◌, ap, count_by, refl, take}
-use Rattle.shtext.specs.Text.{is_newline}
+use Rattle.shsource.specs.Text.{is_newline}
 use Rattle.shform.proofs.Parts.{held_passed}
 use Rattle.shform.proofs.partial_script.PartialScript.pass.Goals as goal
 

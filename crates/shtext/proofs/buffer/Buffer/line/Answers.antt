@@ -1,5 +1,5 @@
 use Rattle.std.proofs.Common.{◌≡◌, ◌≤◌, ◌+◌, ◌-◌, List, ℕ, List as Row, arith, ap, ◌∙◌, length, take, drop, count_by, length-append}
-use Rattle.shtext.specs.Text.{is_newline, line_of}
+use Rattle.shsource.specs.Text.{is_newline, line_of}
 use Rattle.shtext.specs.Chunks.{before, joined}
 use Rattle.shtext.proofs.Joined.{joined_around, joined_more}
 use Rattle.shtext.proofs.Starts.{lines_before}

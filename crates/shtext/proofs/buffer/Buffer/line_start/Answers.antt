@@ -1,5 +1,5 @@
 use Rattle.std.proofs.Common.{◌≡◌, ◌<◌, ◌+◌, ◌-◌, List, ℕ, List as Row, arith, ap, sym, subst, ◌∙◌, length, take, drop, count_by, get_or, Some}
-use Rattle.shtext.specs.Text.{IsLineStart, is_newline}
+use Rattle.shsource.specs.Text.{IsLineStart, is_newline}
 use Rattle.shtext.proofs.Newlines.{since_start}
 use Rattle.shtext.specs.Chunks.{before, joined}
 use Rattle.shtext.proofs.Joined.{joined_around, joined_low, joined_more}

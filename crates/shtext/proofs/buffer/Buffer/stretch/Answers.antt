@@ -1,6 +1,6 @@
 use Rattle.std.proofs.Common.{◌≡◌, ◌<◌, ◌+◌, ◌-◌, ℕ, List, List as Row, length, take, drop, arith, ap, subst, sym, ◌∙◌, length-append}
 use Rattle.shtext.specs.Chunks.{joined}
-use Rattle.shtext.specs.Text.{IsRun}
+use Rattle.shsource.specs.Text.{IsRun}
 use Rattle.shtext.proofs.Joined.{joined_around, joined_more}
 use Rattle.shtext.proofs.Runs.{run_within}
 use Rattle.shtext.proofs.buffer.Buffer.stretch.Goals as goal

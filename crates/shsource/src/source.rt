@@ -1,6 +1,6 @@
 //! Texts that tell one list of bytes, whether they lie in one piece or in many.
 ghost use Rattle.std.specs.Prelude.{◌≡◌, ℕ, List, length, slice_get};
-ghost use Rattle.shtext.specs.Text.{IsRun, flat_bytes};
+ghost use Rattle.shsource.specs.Text.{IsRun, flat_bytes};
 
 /// A text: one list of bytes, which is read by the byte or by stretches.
 pub trait Source {

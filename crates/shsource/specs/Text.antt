@@ -1,6 +1,6 @@
 -- Where a byte stands in a list of bytes, and the line and the column of an offset.
 use Rattle.std.specs.Prelude.{◌≡◌, ◌≢◌, ℕ, ◌+◌, ◌<◌, ◌≤◌, ◌==◌, Bool, List, Option, None, Some, length, take, slice_index, count_by, fold, if◌then◌else◌}
-use Rattle.shtext.specs.declared.source.Flat.{Flat}
+use Rattle.shsource.specs.declared.source.Flat.{Flat}
 
 -- the bytes of a text that lies in one slice
 abbrev pub flat_bytes : Flat → List ℕ
