@@ -1,4 +1,6 @@
 //! The tree of a script. It holds places, and no text: each text is the bytes of the source at its span.
+ghost use Rattle.std.specs.Prelude.{◌≡◌};
+ghost use Rattle.shast.specs.Nodes.{through};
 
 /// From the offset of a first byte to the offset after a last one.
 ///
@@ -8,6 +10,18 @@
 pub struct Span {
     pub start: usize,
     pub end: usize,
+}
+
+impl Span {
+    /// From where this one begins to where the other ends.
+    pub fn through(self, last: Span) -> Span
+        ensures { result ≡ through self last }
+    {
+        Span {
+            start: self.start,
+            end: last.end,
+        }
+    }
 }
 
 /// A comment: from its `#` to its last byte that is no blank (XCU 2.3, rule 9).

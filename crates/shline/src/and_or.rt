@@ -9,8 +9,8 @@ ghost use Rattle.shline.specs.Rows.{view_and_or_parts};
 
 use crate::cursor::Cursor;
 use crate::stop::Stop;
-use shast::make::and_or_part_of;
 use shast::{AndOrOperator, AndOrPart};
+use shmake::make::and_or_part_of;
 use shsource::Source;
 use std::mem;
 

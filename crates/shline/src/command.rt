@@ -13,9 +13,9 @@ ghost use Rattle.shgrammar.specs.Levels.{level};
 
 use crate::cursor::Cursor;
 use crate::stop::Stop;
-use shast::make::{argument_of, assign_of, simple_of};
 use shast::{Command, Item, Word};
 use shgrammar::{Position, Token};
+use shmake::make::{argument_of, assign_of, simple_of};
 use shsource::Source;
 use std::alloc::AllocError;
 use std::mem;

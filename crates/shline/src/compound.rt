@@ -11,12 +11,12 @@ ghost use Rattle.shast.specs.View.{view_branch, view_command, view_form, view_li
 
 use crate::cursor::Cursor;
 use crate::stop::Stop;
-use shast::make::{
+use shast::{Branch, Command, Form, List, Span};
+use shgrammar::{Closing, FaultKind, Opener, Position};
+use shmake::make::{
     brace_of, branch_of, compound_command, compound_of, if_of, simple_of, subshell_of, until_of,
     while_of,
 };
-use shast::{Branch, Command, Form, List, Span};
-use shgrammar::{Closing, FaultKind, Opener, Position};
 use shsource::Source;
 use std::mem;
 

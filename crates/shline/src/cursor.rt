@@ -6,8 +6,9 @@ ghost use Rattle.shsource.specs.Text.{IsRun};
 
 use crate::documents::Documents;
 use crate::parsed_line::Begin;
-use shast::{Entry, Item, Spare};
+use shast::{Entry, Item};
 use shgrammar::{Edition, Keep, Next, Token};
+use shmake::Spare;
 use shsource::Source;
 use std::alloc::Global;
 

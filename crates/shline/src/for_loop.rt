@@ -14,9 +14,9 @@ ghost use Rattle.shast.specs.View.{view_comment, view_form, view_join, view_list
 
 use crate::cursor::Cursor;
 use crate::stop::Stop;
-use shast::make::{comment_entry, for_of, list_of};
 use shast::{Comment, Form, Item, Join, List, Span, Word};
 use shgrammar::{Closing, FaultKind, Position, Token};
+use shmake::make::{comment_entry, for_of, list_of};
 use shsource::Source;
 use std::alloc::{AllocError, Global};
 

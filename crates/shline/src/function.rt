@@ -10,9 +10,9 @@ ghost use Rattle.shast.specs.View.{view_command, view_comment};
 
 use crate::cursor::Cursor;
 use crate::stop::Stop;
-use shast::make::{function_command, function_of};
 use shast::{Command, Comment, Join, Span};
 use shgrammar::{Closing, FaultKind, Position};
+use shmake::make::{function_command, function_of};
 use shsource::Source;
 use std::alloc::{AllocError, Global};
 

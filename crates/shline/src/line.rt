@@ -9,8 +9,9 @@ ghost use Rattle.shast.specs.View.{view_entry};
 use crate::cursor::Cursor;
 use crate::list::Listed;
 use crate::stop::Stop;
-use shast::{Entry, Span, put_bodies_in};
+use shast::{Entry, Span};
 use shgrammar::{Position, Token};
+use shmake::put_bodies_in;
 use shsource::Source;
 
 /// These entries with the bodies of their level.

@@ -12,9 +12,9 @@ ghost use Rattle.shast.specs.View.{view_comment, view_entry, view_list};
 
 use crate::cursor::Cursor;
 use crate::stop::Stop;
-use shast::make::{and_or_of, command_entry, comment_entry, list_of, pipeline_of};
 use shast::{Comment, Entry, List};
 use shgrammar::{Separator, Token};
+use shmake::make::{and_or_of, command_entry, comment_entry, list_of, pipeline_of};
 use shsource::Source;
 use std::alloc::{AllocError, Global};
 use std::mem;

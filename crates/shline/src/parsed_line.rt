@@ -11,7 +11,8 @@ ghost use Rattle.shast.specs.View.{view_entry};
 use crate::cursor::{Cursor, ReadOptions};
 use crate::line::filled_entries;
 use crate::stop::Stop;
-use shast::{Entry, Spare};
+use shast::Entry;
+use shmake::Spare;
 use shsource::Source;
 use std::alloc::Global;
 

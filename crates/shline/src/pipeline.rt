@@ -10,9 +10,9 @@ ghost use Rattle.shast.specs.View.{view_pipeline};
 
 use crate::cursor::Cursor;
 use crate::stop::Stop;
-use shast::make::{pipeline_of, pipeline_part_of};
 use shast::{Pipeline, PipelinePart, Span};
 use shgrammar::{Position, Reserved, Token};
+use shmake::make::{pipeline_of, pipeline_part_of};
 use shsource::Source;
 use std::mem;
 

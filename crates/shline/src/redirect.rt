@@ -12,9 +12,9 @@ ghost use Rattle.shast.specs.View.{view_command, view_word};
 use crate::cursor::Cursor;
 use crate::documents::is_strip;
 use crate::stop::Stop;
-use shast::make::{redirect_of, redirection_of, with_redirects};
 use shast::{Command, Item, RedirectOperator, Span, Word};
 use shgrammar::{FaultKind, Position, Token};
+use shmake::make::{redirect_of, redirection_of, with_redirects};
 use shsource::Source;
 use std::mem;
 

@@ -13,9 +13,10 @@ ghost use Rattle.shast.specs.View.{view_list};
 use crate::cursor::{Cursor, ReadOptions};
 use crate::list::Listed;
 use crate::stop::Stop;
-use shast::make::{list_of, subst_of};
-use shast::{List, Span, Subst, put_bodies};
+use shast::{List, Span, Subst};
 use shgrammar::{Closing, Fault, FaultKind, Position};
+use shmake::make::{list_of, subst_of};
+use shmake::put_bodies;
 use shsource::Source;
 use std::alloc::AllocError;
 

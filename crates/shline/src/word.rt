@@ -14,9 +14,9 @@ ghost use Rattle.shgrammar.specs.Levels.{level};
 
 use crate::cursor::Cursor;
 use crate::stop::Stop;
-use shast::make::word_of;
 use shast::{Subst, Word};
 use shgrammar::{FaultKind, Mode, Piece};
+use shmake::make::word_of;
 use shsource::Source;
 
 impl<'a, S: Source, const TREE: u8> Cursor<'a, S, TREE> {

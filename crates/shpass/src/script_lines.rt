@@ -8,9 +8,10 @@ ghost use Rattle.shpass.specs.LineByLine.{AtStart, GoesPast, LineReads, LineWith
 ghost use Rattle.shpass.specs.LineByLine.{before_of, bytes_of, edition_of, is_blank_after, no_lines, place_of};
 
 use crate::newline::ends_in_newline;
-use shast::{Entry, Spare};
+use shast::Entry;
 use shgrammar::{Edition, Keep};
 use shline::{Begin, ParsedLine, ReadOptions, Stop, WITH_TREE, line_at};
+use shmake::Spare;
 use shsource::Source;
 use std::alloc::{AllocError, Global};
 

@@ -5,9 +5,10 @@ ghost use Rattle.shpieces.specs.Printing.{IsErrorWithin, IsNoText, IsPrinted, ed
 ghost use Rattle.shpieces.specs.declared.by_line.PrintError.TheVariants.{Memory};
 ghost use Rattle.shprint.specs.ReadBack.{IsTextOf};
 
-use shast::{Entry, Spare};
+use shast::Entry;
 use shgrammar::{Edition, Fault};
 use shline::Stop;
+use shmake::Spare;
 use shpass::{LinesBefore, ScriptLines};
 use shprint::{Layout, Page, Printer};
 use shsource::Source;

@@ -5,8 +5,8 @@ ghost use Rattle.shgrammar.specs.Scripts.{script_at};
 ghost use Rattle.shast.specs.Nodes.{NodesWithin};
 
 use crate::error::ReadError;
-use shast::make::list_of;
 use shgrammar::{Edition, Script};
+use shmake::make::list_of;
 use shpass::ScriptLines;
 use shsource::Source;
 use std::alloc::Global;

@@ -2,6 +2,7 @@
 use crate::reader_trees::all_rows;
 use shast::{Entry, Spare};
 use shline::{ParsedLine, Stop};
+use shmake::Spare;
 use shpass::{LinesBefore, ScriptLines};
 use shread::Edition;
 use shtext::Flat;

@@ -12,16 +12,16 @@ ghost use Rattle.shtree.specs.Carried.{Carries, CarriesAll};
 ghost use Rattle.shast.specs.Tree.{argument, assign, command, entry, item, remark};
 ghost use Rattle.shast.specs.View.{view_and_or, view_and_or_part, view_branch, view_case_item, view_command, view_comment, view_compound, view_content, view_entry, view_form, view_function, view_here, view_item, view_item_content, view_join, view_list, view_otherwise, view_pipeline, view_pipeline_part, view_redirection, view_subst, view_word};
 
-use shast::make::{
-    and_or_of, and_or_part_of, brace_of, branch_of, case_item_of, case_of, compound_command,
-    compound_of, for_of, function_command, function_of, if_of, list_of, pipeline_of,
-    pipeline_part_of, redirection_of, simple_of, subshell_of, subst_of, until_of, while_of,
-    word_of,
-};
 use shast::{
     AndOr, AndOrPart, Branch, CaseItem, Command, Comment, Compound, Content, Entry, Form, Function,
     HereDocument, Item, ItemContent, Join, List, Pipeline, PipelinePart, Redirection, Span, Subst,
     Word,
+};
+use shmake::make::{
+    and_or_of, and_or_part_of, brace_of, branch_of, case_item_of, case_of, compound_command,
+    compound_of, for_of, function_command, function_of, if_of, list_of, pipeline_of,
+    pipeline_part_of, redirection_of, simple_of, subshell_of, subst_of, until_of, while_of,
+    word_of,
 };
 use std::alloc::{AllocError, Global};
 

@@ -17,6 +17,6 @@ pub use normal::is_normal;
 pub use shast::{
     AndOr, AndOrOperator, AndOrPart, Branch, CaseItem, Command, Comment, Compound, Content, Entry,
     Form, Function, HereDocument, Item, ItemContent, Join, List, NodeKind, NodeLine, Pipeline,
-    PipelinePart, RedirectOperator, Redirection, Span, Subst, Word, commands_end, make, put_bodies,
-    put_bodies_in,
+    PipelinePart, RedirectOperator, Redirection, Span, Subst, Word,
 };
+pub use shmake::{commands_end, make, put_bodies, put_bodies_in};

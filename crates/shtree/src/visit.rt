@@ -13,7 +13,10 @@ ghost use Rattle.shast.specs.View.{view_and_or, view_and_or_part, view_branch, v
 use shast::{
     AndOr, AndOrPart, Branch, CaseItem, Command, Comment, Compound, Content, Entry, Form, Function,
     Item, ItemContent, List, NodeKind, NodeLine, Pipeline, PipelinePart, Redirection, Span, Subst,
-    Word, and_or_span, compound_span, function_span, items_span, pipeline_span, redirection_span,
+    Word,
+};
+use shmake::{
+    and_or_span, compound_span, function_span, items_span, pipeline_span, redirection_span,
 };
 use std::alloc::AllocError;
 

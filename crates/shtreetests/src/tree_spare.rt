@@ -2,7 +2,7 @@
 use crate::growths::Growths;
 use crate::tree_bodies::Documents;
 use crate::tree_built::Script;
-use shast::Spare;
+use shmake::Spare;
 use shtree::make::{compound_command, for_of};
 use shtree::{Entry, Item};
 use std::alloc::{AllocError, Global};

@@ -2,7 +2,7 @@ use Rattle.std.proofs.Common.{◌≤◌}
 use Rattle.shast.specs.declared.tree.AndOr.{size-AndOr}
 use Rattle.shast.specs.declared.tree.List.{size-List}
 use Rattle.shast.specs.declared.tree.Pipeline.{size-Pipeline}
-use Rattle.shast.proofs.spare.+spare.Given as goal
+use Rattle.shmake.proofs.spare.+spare.Given as goal
 
 -- what is left of a part of the tree is no deeper than the whole was
 

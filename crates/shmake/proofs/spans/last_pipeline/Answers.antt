@@ -1,6 +1,6 @@
 use Rattle.shast.proofs.Last.{last_pipeline_is}
 use Rattle.shast.proofs.Seen.{and_or_part_seen}
-use Rattle.shast.proofs.spans.last_pipeline.Goals as goal
+use Rattle.shmake.proofs.spans.last_pipeline.Goals as goal
 
 pub returns-in-Some : goal.returns-in-Some
 returns-in-Some c =

@@ -3,7 +3,7 @@ ghost use Rattle.std.specs.Prelude.{◌≡◌, map, option_map, false, None};
 ghost use Rattle.shast.specs.Tree.{and_or, and_or_parts_of, argument, assign, branch, branches_of, brace, command, compound, entries_of, entry, for_in, for_words_of, formed, if_then, item, items_of, pipeline, pipeline_parts_of, redirect, compound_with, remark, simple, subshell, subst, substs_of, until_do, while_do, with_redirects, word, function, case_in, case_item, cases_of, patterns_of};
 ghost use Rattle.shast.specs.View.{view_and_or, view_and_or_part, view_branch, view_command, view_comment, view_compound, view_entry, view_form, view_here, view_item, view_join, view_list, view_otherwise, view_pipeline, view_pipeline_part, view_redirection, view_subst, view_word, view_function, view_case_item};
 
-use crate::tree::{
+use shast::{
     AndOr, AndOrOperator, AndOrPart, Branch, CaseItem, Command, Comment, Compound, Content, Entry,
     Form, Function, HereDocument, Item, ItemContent, Join, List, Pipeline, PipelinePart,
     RedirectOperator, Redirection, Span, Subst, Word,
@@ -112,7 +112,7 @@ pub fn compound_command(of: Box<Compound>) -> Command
 }
 
 /// Puts these redirections in the place of its own.
-#[tactic(auto, using(crate::proofs::Redirected::compound_redirected))]
+#[tactic(auto, using(shast::proofs::Redirected::compound_redirected))]
 fn redirect_to(compound: &mut Compound, redirects: Vec<Item>)
     ensures { view_compound compound.new
         ≡ compound_with (view_compound compound.old) (items_of (map view_item redirects.items)) }

@@ -1,6 +1,6 @@
 use Rattle.std.proofs.Common.{◌∙◌, sym}
 use Rattle.shast.proofs.Last.{last_item_is}
-use Rattle.shast.proofs.spans.last_item.Goals as goal
+use Rattle.shmake.proofs.spans.last_item.Goals as goal
 
 pub returns-in-Some : goal.returns-in-Some
 returns-in-Some c = c.item_span.ensures

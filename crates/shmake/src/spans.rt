@@ -1,25 +1,13 @@
 //! Where the parts of a script stand that have no span of their own.
 ghost use Rattle.std.specs.Prelude.{◌≡◌, false, map};
 ghost use Rattle.shast.specs.Tree.{and_or_parts_of, entries_of, item, items_of, pipeline_parts_of};
-ghost use Rattle.shast.specs.Nodes.{and_or_span, command_end, command_span, commands_end, compound_span, item_span, items_span, last_command, last_item, last_pipeline, pipeline_span, through};
+ghost use Rattle.shast.specs.Nodes.{and_or_span, command_end, command_span, commands_end, compound_span, item_span, items_span, last_command, last_item, last_pipeline, pipeline_span};
 ghost use Rattle.shast.specs.View.{view_and_or, view_and_or_part, view_command, view_compound, view_content, view_entry, view_function, view_item, view_pipeline, view_pipeline_part, view_redirection};
 
-use crate::tree::{
+use shast::{
     AndOr, AndOrPart, Command, Compound, Content, Entry, Function, Item, ItemContent, Pipeline,
     PipelinePart, Redirection, Span,
 };
-
-impl Span {
-    /// From where this one begins to where the other ends.
-    pub fn through(self, last: Span) -> Span
-        ensures { result ≡ through self last }
-    {
-        Span {
-            start: self.start,
-            end: last.end,
-        }
-    }
-}
 
 /// From its number, or its operator, to its word.
 pub fn redirection_span(redirect: &Redirection) -> Span

@@ -2,7 +2,7 @@ use Rattle.std.proofs.Common.{◌≡◌, drop, map}
 use Rattle.shast.specs.Bodies.{fill_and_or_part, fill_branch, fill_case, fill_entry, fill_pipe}
 use Rattle.shast.specs.View.{view_and_or_part, view_branch, view_case_item, view_entry, view_pipeline_part}
 use Rattle.shast.proofs.Going.{going}
-use Rattle.shast.proofs.bodies.+fill.Given as goal
+use Rattle.shmake.proofs.bodies.+fill.Given as goal
 
 abbrev pub invariant-fill_entries-loop-entry : goal.invariant-fill_entries-loop-entry
 invariant-fill_entries-loop-entry l = record {

@@ -1,6 +1,6 @@
 use Rattle.std.proofs.Common.{arith, rules}
 use Rattle.shast.proofs.Going.{going_more}
-use Rattle.shast.proofs.bodies.+fill.Goals as goal
+use Rattle.shmake.proofs.bodies.+fill.Goals as goal
 
 pub fill_entries-loop-entry-preserved : goal.fill_entries-loop-entry-preserved
 fill_entries-loop-entry-preserved t c = record { unvisited = search rules; so_far = grind (arith, going_more) }

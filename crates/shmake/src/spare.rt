@@ -3,7 +3,7 @@
 
 ghost use Rattle.std.specs.Prelude.{◌≡◌, []};
 
-use crate::tree::{
+use shast::{
     AndOr, Branch, CaseItem, Command, Compound, Content, Entry, Form, Item, ItemContent, List,
     Pipeline,
 };

@@ -6,7 +6,7 @@ ghost use Rattle.shast.specs.Bodies.{fill_and_or, fill_and_or_part, fill_and_or_
 ghost use Rattle.shast.specs.Tree.{and_or_parts_of, branches_of, cases_of, entries_of, items_of, otherwise_of, pipeline_parts_of};
 ghost use Rattle.shast.specs.View.{view_and_or, view_and_or_part, view_branch, view_case_item, view_command, view_compound, view_content, view_entry, view_form, view_function, view_here, view_item, view_item_content, view_list, view_pipeline, view_pipeline_part, view_redirection};
 
-use crate::tree::{
+use shast::{
     AndOr, AndOrPart, Branch, CaseItem, Command, Compound, Content, Entry, Form, Function,
     HereDocument, Item, ItemContent, List, Pipeline, PipelinePart, Redirection, Span,
 };
@@ -15,7 +15,7 @@ use crate::tree::{
 /// of substitutions are levels of their own.
 ///
 /// Where there are more documents than bodies, the last ones stay as they are.
-#[tactic(auto, using(crate::proofs::Going::filled_none, crate::proofs::Going::filled_some))]
+#[tactic(auto, using(shast::proofs::Going::filled_none, shast::proofs::Going::filled_some))]
 pub fn put_bodies(list: &mut List, bodies: &[Span])
     ensures { view_list list.new ≡ filled bodies.now (view_list list.old) }
 {
@@ -27,7 +27,7 @@ pub fn put_bodies(list: &mut List, bodies: &[Span])
 }
 
 /// The same, for the entries of a list that are not its first ones, or that are in no list yet.
-#[tactic(auto, using(crate::proofs::Going::row_none, crate::proofs::Going::row_some))]
+#[tactic(auto, using(shast::proofs::Going::row_none, shast::proofs::Going::row_some))]
 pub fn put_bodies_in(entries: &mut [Entry], bodies: &[Span])
     ensures { map view_entry entries.new ≡ filled_row bodies.now (map view_entry entries.old) }
 {
@@ -47,7 +47,7 @@ fn fill_list(list: &mut List, bodies: &[Span], next: &mut usize)
 }
 
 #[cycle(fill)]
-#[tactic(auto, using(crate::proofs::Going::going_more, crate::proofs::Going::going_over, crate::proofs::Going::entries_going, crate::proofs::Going::row_going))]
+#[tactic(auto, using(shast::proofs::Going::going_more, shast::proofs::Going::going_over, shast::proofs::Going::entries_going, shast::proofs::Going::row_going))]
 fn fill_entries(entries: &mut [Entry], bodies: &[Span], next: &mut usize)
     ensures list { (entries_of (map view_entry entries.new), drop next.new bodies.now)
         ≡ fill_entries (entries_of (map view_entry entries.old)) (drop next.old bodies.now) }
@@ -60,7 +60,7 @@ fn fill_entries(entries: &mut [Entry], bodies: &[Span], next: &mut usize)
 }
 
 #[cycle(fill)]
-#[tactic(auto, unfolding(crate::specs::Bodies::fill_entry), using(crate::proofs::Going::none_left))]
+#[tactic(auto, unfolding(shast::specs::Bodies::fill_entry), using(shast::proofs::Going::none_left))]
 fn fill_entry(entry: &mut Entry, bodies: &[Span], next: &mut usize)
     ensures { (view_entry entry.new, drop next.new bodies.now)
         ≡ fill_entry (view_entry entry.old) (drop next.old bodies.now) }
@@ -72,7 +72,7 @@ fn fill_entry(entry: &mut Entry, bodies: &[Span], next: &mut usize)
 }
 
 #[cycle(fill)]
-#[tactic(auto, unfolding(crate::specs::Bodies::fill_content))]
+#[tactic(auto, unfolding(shast::specs::Bodies::fill_content))]
 fn fill_content(content: &mut Content, bodies: &[Span], next: &mut usize)
     ensures { (view_content content.new, drop next.new bodies.now)
         ≡ fill_content (view_content content.old) (drop next.old bodies.now) }
@@ -84,7 +84,7 @@ fn fill_content(content: &mut Content, bodies: &[Span], next: &mut usize)
 }
 
 #[cycle(fill)]
-#[tactic(auto, unfolding(crate::specs::Bodies::fill_and_or))]
+#[tactic(auto, unfolding(shast::specs::Bodies::fill_and_or))]
 fn fill_and_or(and_or: &mut AndOr, bodies: &[Span], next: &mut usize)
     ensures { (view_and_or and_or.new, drop next.new bodies.now)
         ≡ fill_and_or (view_and_or and_or.old) (drop next.old bodies.now) }
@@ -94,7 +94,7 @@ fn fill_and_or(and_or: &mut AndOr, bodies: &[Span], next: &mut usize)
 }
 
 #[cycle(fill)]
-#[tactic(auto, using(crate::proofs::Going::going_more, crate::proofs::Going::going_over, crate::proofs::Going::and_or_parts_going))]
+#[tactic(auto, using(shast::proofs::Going::going_more, shast::proofs::Going::going_over, shast::proofs::Going::and_or_parts_going))]
 fn fill_and_or_parts(parts: &mut [AndOrPart], bodies: &[Span], next: &mut usize)
     ensures { (and_or_parts_of (map view_and_or_part parts.new), drop next.new bodies.now)
         ≡ fill_and_or_parts (and_or_parts_of (map view_and_or_part parts.old))
@@ -114,7 +114,7 @@ fn fill_and_or_part(part: &mut AndOrPart, bodies: &[Span], next: &mut usize)
 }
 
 #[cycle(fill)]
-#[tactic(auto, unfolding(crate::specs::Bodies::fill_pipeline))]
+#[tactic(auto, unfolding(shast::specs::Bodies::fill_pipeline))]
 fn fill_pipeline(pipeline: &mut Pipeline, bodies: &[Span], next: &mut usize)
     ensures { (view_pipeline pipeline.new, drop next.new bodies.now)
         ≡ fill_pipeline (view_pipeline pipeline.old) (drop next.old bodies.now) }
@@ -124,7 +124,7 @@ fn fill_pipeline(pipeline: &mut Pipeline, bodies: &[Span], next: &mut usize)
 }
 
 #[cycle(fill)]
-#[tactic(auto, using(crate::proofs::Going::going_more, crate::proofs::Going::going_over, crate::proofs::Going::pipes_going))]
+#[tactic(auto, using(shast::proofs::Going::going_more, shast::proofs::Going::going_over, shast::proofs::Going::pipes_going))]
 fn fill_pipes(parts: &mut [PipelinePart], bodies: &[Span], next: &mut usize)
     ensures { (pipeline_parts_of (map view_pipeline_part parts.new), drop next.new bodies.now)
         ≡ fill_pipes (pipeline_parts_of (map view_pipeline_part parts.old))
@@ -144,7 +144,7 @@ fn fill_pipe(part: &mut PipelinePart, bodies: &[Span], next: &mut usize)
 }
 
 #[cycle(fill)]
-#[tactic(auto, unfolding(crate::specs::Bodies::fill_command))]
+#[tactic(auto, unfolding(shast::specs::Bodies::fill_command))]
 fn fill_command(command: &mut Command, bodies: &[Span], next: &mut usize)
     ensures { (view_command command.new, drop next.new bodies.now)
         ≡ fill_command (view_command command.old) (drop next.old bodies.now) }
@@ -173,7 +173,7 @@ fn fill_function(function: &mut Box<Function>, bodies: &[Span], next: &mut usize
 }
 
 #[cycle(fill)]
-#[tactic(auto, unfolding(crate::specs::Bodies::fill_command))]
+#[tactic(auto, unfolding(shast::specs::Bodies::fill_command))]
 fn fill_body(function: &mut Function, bodies: &[Span], next: &mut usize)
     ensures { (view_function function.new, drop next.new bodies.now)
         ≡ fill_command (view_function function.old) (drop next.old bodies.now) }
@@ -182,7 +182,7 @@ fn fill_body(function: &mut Function, bodies: &[Span], next: &mut usize)
 }
 
 #[cycle(fill)]
-#[tactic(auto, unfolding(crate::specs::Bodies::fill_compound))]
+#[tactic(auto, unfolding(shast::specs::Bodies::fill_compound))]
 fn fill_compound(compound: &mut Compound, bodies: &[Span], next: &mut usize)
     ensures { (view_compound compound.new, drop next.new bodies.now)
         ≡ fill_compound (view_compound compound.old) (drop next.old bodies.now) }
@@ -192,7 +192,7 @@ fn fill_compound(compound: &mut Compound, bodies: &[Span], next: &mut usize)
 }
 
 #[cycle(fill)]
-#[tactic(auto, unfolding(crate::specs::Bodies::fill_form))]
+#[tactic(auto, unfolding(shast::specs::Bodies::fill_form))]
 fn fill_form(form: &mut Form, bodies: &[Span], next: &mut usize)
     ensures { (view_form form.new, drop next.new bodies.now)
         ≡ fill_form (view_form form.old) (drop next.old bodies.now) }
@@ -217,7 +217,7 @@ fn fill_form(form: &mut Form, bodies: &[Span], next: &mut usize)
 }
 
 #[cycle(fill)]
-#[tactic(auto, unfolding(crate::specs::Bodies::fill_branch))]
+#[tactic(auto, unfolding(shast::specs::Bodies::fill_branch))]
 fn fill_branch(branch: &mut Branch, bodies: &[Span], next: &mut usize)
     ensures { (view_branch branch.new, drop next.new bodies.now)
         ≡ fill_branch (view_branch branch.old) (drop next.old bodies.now) }
@@ -227,7 +227,7 @@ fn fill_branch(branch: &mut Branch, bodies: &[Span], next: &mut usize)
 }
 
 #[cycle(fill)]
-#[tactic(auto, using(crate::proofs::Going::going_more, crate::proofs::Going::going_over, crate::proofs::Going::branches_going))]
+#[tactic(auto, using(shast::proofs::Going::going_more, shast::proofs::Going::going_over, shast::proofs::Going::branches_going))]
 fn fill_branches(branches: &mut [Branch], bodies: &[Span], next: &mut usize)
     ensures { (branches_of (map view_branch branches.new), drop next.new bodies.now)
         ≡ fill_branches (branches_of (map view_branch branches.old)) (drop next.old bodies.now) }
@@ -238,7 +238,7 @@ fn fill_branches(branches: &mut [Branch], bodies: &[Span], next: &mut usize)
 }
 
 #[cycle(fill)]
-#[tactic(auto, unfolding(crate::specs::Bodies::fill_else))]
+#[tactic(auto, unfolding(shast::specs::Bodies::fill_else))]
 fn fill_else(otherwise: &mut Option<List>, bodies: &[Span], next: &mut usize)
     ensures { (otherwise_of (option_map view_list otherwise.new), drop next.new bodies.now)
         ≡ fill_else (otherwise_of (option_map view_list otherwise.old)) (drop next.old bodies.now) }
@@ -249,7 +249,7 @@ fn fill_else(otherwise: &mut Option<List>, bodies: &[Span], next: &mut usize)
 }
 
 #[cycle(fill)]
-#[tactic(auto, using(crate::proofs::Going::going_more, crate::proofs::Going::going_over, crate::proofs::Going::cases_going))]
+#[tactic(auto, using(shast::proofs::Going::going_more, shast::proofs::Going::going_over, shast::proofs::Going::cases_going))]
 fn fill_cases(items: &mut [CaseItem], bodies: &[Span], next: &mut usize)
     ensures { (cases_of (map view_case_item items.new), drop next.new bodies.now)
         ≡ fill_cases (cases_of (map view_case_item items.old)) (drop next.old bodies.now) }
@@ -260,7 +260,7 @@ fn fill_cases(items: &mut [CaseItem], bodies: &[Span], next: &mut usize)
 }
 
 #[cycle(fill)]
-#[tactic(auto, unfolding(crate::specs::Bodies::fill_case))]
+#[tactic(auto, unfolding(shast::specs::Bodies::fill_case))]
 fn fill_case(item: &mut CaseItem, bodies: &[Span], next: &mut usize)
     ensures { (view_case_item item.new, drop next.new bodies.now)
         ≡ fill_case (view_case_item item.old) (drop next.old bodies.now) }
@@ -268,7 +268,7 @@ fn fill_case(item: &mut CaseItem, bodies: &[Span], next: &mut usize)
     fill_list(&mut item.body, bodies, next);
 }
 
-#[tactic(auto, using(crate::proofs::Going::going_more, crate::proofs::Going::going_over, crate::proofs::Going::items_going))]
+#[tactic(auto, using(shast::proofs::Going::going_more, shast::proofs::Going::going_over, shast::proofs::Going::items_going))]
 fn fill_items(items: &mut [Item], bodies: &[Span], next: &mut usize)
     ensures { (items_of (map view_item items.new), drop next.new bodies.now)
         ≡ fill_items (items_of (map view_item items.old)) (drop next.old bodies.now) }
@@ -278,7 +278,7 @@ fn fill_items(items: &mut [Item], bodies: &[Span], next: &mut usize)
     }
 }
 
-#[tactic(auto, unfolding(crate::specs::Bodies::fill_item))]
+#[tactic(auto, unfolding(shast::specs::Bodies::fill_item))]
 fn fill_item(item: &mut Item, bodies: &[Span], next: &mut usize)
     ensures { (view_item item.new, drop next.new bodies.now)
         ≡ fill_item (view_item item.old) (drop next.old bodies.now) }
@@ -286,7 +286,7 @@ fn fill_item(item: &mut Item, bodies: &[Span], next: &mut usize)
     fill_item_content(&mut item.what, bodies, next);
 }
 
-#[tactic(auto, unfolding(crate::specs::Bodies::fill_item_content))]
+#[tactic(auto, unfolding(shast::specs::Bodies::fill_item_content))]
 fn fill_item_content(content: &mut ItemContent, bodies: &[Span], next: &mut usize)
     ensures { (view_item_content content.new, drop next.new bodies.now)
         ≡ fill_item_content (view_item_content content.old) (drop next.old bodies.now) }
@@ -303,7 +303,7 @@ fn fill_boxed_redirection(redirect: &mut Box<Redirection>, bodies: &[Span], next
     fill_redirection(redirect, bodies, next);
 }
 
-#[tactic(auto, unfolding(crate::specs::Bodies::fill_item_content))]
+#[tactic(auto, unfolding(shast::specs::Bodies::fill_item_content))]
 fn fill_redirection(redirect: &mut Redirection, bodies: &[Span], next: &mut usize)
     ensures { (view_redirection redirect.new, drop next.new bodies.now)
         ≡ fill_item_content (view_redirection redirect.old) (drop next.old bodies.now) }
