@@ -1,5 +1,6 @@
 pub mod Awaited
 pub mod Stops
+pub mod Loops
 pub mod Kept
 pub mod Searches
 pub mod ByteSets

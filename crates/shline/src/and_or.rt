@@ -62,7 +62,7 @@ impl<'a, S: Source, const TREE: u8> Cursor<'a, S, TREE> {
     /// The pipelines of an and-or list after its first.
     #[cycle(commands)]
     #[inline(always)]
-    #[tactic(auto, using(shgrammar::proofs::Turns::many_again, shgrammar::proofs::Turns::many_done, crate::proofs::Stops::many_stop))]
+    #[tactic(auto, using(crate::proofs::Stops::many_stop))]
     pub(crate) fn joined_pipelines(&mut self, room: usize) -> Result<Vec<AndOrPart>, Stop>
         ensures { TokenToToken self.old
             (many (and_or_turn (level room)) (joined_so [] self.old.next))

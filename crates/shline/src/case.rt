@@ -123,7 +123,7 @@ impl<'a, S: Source, const TREE: u8> Cursor<'a, S, TREE> {
 
     /// The patterns after the first one.
     #[cycle(commands)]
-    #[tactic(auto, using(shgrammar::proofs::Turns::many_again, shgrammar::proofs::Turns::many_done, crate::proofs::Stops::many_stop))]
+    #[tactic(auto, using(crate::proofs::Stops::many_stop))]
     fn more_patterns(&mut self, patterns: &mut Vec<Word>, room: usize) -> Result<(), Stop>
         ensures { TokenToToken self.old (many (pattern_turn (level room)) (patterned (view_words
             patterns.old) self.old.next)) result (λ _. patterned (view_words patterns.new)

@@ -97,7 +97,7 @@ impl<'a, S: Source, const TREE: u8> Cursor<'a, S, TREE> {
 
     /// The items of a simple command after these. The token in hand stands in this position.
     #[cycle(commands)]
-    #[tactic(auto, using(shgrammar::proofs::Turns::many_again, shgrammar::proofs::Turns::many_done, crate::proofs::Stops::many_stop))]
+    #[tactic(auto, using(crate::proofs::Stops::many_stop))]
     fn items(
         &mut self,
         items: &mut Vec<Item>,

@@ -100,7 +100,7 @@ impl<'a, S: Source, const TREE: u8> Cursor<'a, S, TREE> {
 
     /// The branches after the first, up to what is no `elif`.
     #[cycle(commands)]
-    #[tactic(auto, using(shgrammar::proofs::Turns::many_again, shgrammar::proofs::Turns::many_done, crate::proofs::Stops::many_stop))]
+    #[tactic(auto, using(crate::proofs::Stops::many_stop))]
     fn elifs(&mut self, room: usize) -> Result<Vec<Branch>, Stop>
         ensures { TokenToToken self.old
             (many (elif_turn (level room)) (branched [] self.old.next)) result

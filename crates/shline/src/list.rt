@@ -227,7 +227,7 @@ impl<'a, S: Source, const TREE: u8> Cursor<'a, S, TREE> {
 
     /// The lines of a list, up to what begins no entry.
     #[cycle(commands)]
-    #[tactic(auto, using(shgrammar::proofs::Turns::many_again, shgrammar::proofs::Turns::many_done, crate::proofs::Stops::many_stop))]
+    #[tactic(auto, using(crate::proofs::Stops::many_stop))]
     pub(crate) fn list_lines(&mut self, listed: &mut Listed, room: usize) -> Result<(), Stop>
         ensures { TokenToToken self.old
             (many (list_turn (level room)) (list_so (view_listed listed.old)

@@ -72,7 +72,7 @@ impl<'a, S: Source, const TREE: u8> Cursor<'a, S, TREE> {
     /// The commands of a pipeline after its first.
     #[cycle(commands)]
     #[inline(always)]
-    #[tactic(auto, using(shgrammar::proofs::Turns::many_again, shgrammar::proofs::Turns::many_done, crate::proofs::Stops::many_stop))]
+    #[tactic(auto, using(crate::proofs::Stops::many_stop))]
     pub(crate) fn pipes(&mut self, room: usize) -> Result<Vec<PipelinePart>, Stop>
         ensures { TokenToToken self.old
             (many (pipe_turn (level room)) (piped [] self.old.next)) result

@@ -1,4 +1,4 @@
-use Rattle.std.proofs.Common.{rules, ◌≡◌, ℕ, ◌<◌, ◌≤◌, ◌+◌, ◌-◌, ◌∙◌, Ok, Some, List as Row, length, map, ap, sym, arith, true, false, refl}
+use Rattle.std.proofs.Common.{rules, ◌≡◌, [], ℕ, ◌<◌, ◌≤◌, ◌+◌, ◌-◌, ◌∙◌, Ok, Some, List as Row, length, map, ap, sym, arith, true, false, refl}
 use Rattle.shgrammar.specs.declared.mode.Piece.TheVariants as pieces
 use Rattle.shgrammar.specs.Bytes.{past_continuations}
 use Rattle.shline.specs.InHand.{InHand}
@@ -18,13 +18,15 @@ use Rattle.shast.specs.Tree.{ASubst, subst}
 use Rattle.shast.specs.View.{view_list, view_subst}
 use Rattle.shgrammar.proofs.Levels.{substitution_read}
 use Rattle.shgrammar.proofs.PlainBytes.{ordinary_here, piece_and_plain}
-use Rattle.shgrammar.specs.Commands.{begins_redirect, redirect_operator_of, redirect_turn, so_many}
-use Rattle.shgrammar.specs.Compounds.{case_turn, is_closing}
+use Rattle.shgrammar.specs.Commands.{begins_redirect, item_turn, and_or_turn, joined_so, pipe_turn, piped, redirect_operator_of, redirect_turn, so_many}
+use Rattle.shgrammar.specs.Compounds.{branched, case_turn, elif_turn, is_closing, pattern_turn, patterned, word_turn}
+use Rattle.shgrammar.specs.Lists.{list_so, list_turn}
 use Rattle.shgrammar.specs.declared.token.Closing.TheVariants.{Esac}
-use Rattle.shgrammar.specs.declared.token.Position.TheVariants.{Command as AsCommand}
+use Rattle.shgrammar.specs.declared.token.Position.TheVariants.{Suffix, Command as AsCommand}
 use Rattle.shgrammar.proofs.Turns.{many_done}
-use Rattle.shline.specs.Listed.{view_cases}
-use Rattle.shline.specs.Rows.{view_items}
+use Rattle.shline.specs.Listed.{view_cases, view_listed}
+use Rattle.shline.specs.Rows.{view_items, view_words}
+use Rattle.shline.proofs.Loops.{loop_done, loop_again}
 use Rattle.shline.proofs.Wanted.{here_wants}
 use Rattle.shline.proofs.cursor.Cursor.+commands.Goals as goal
 
@@ -190,3 +192,89 @@ cases-returns g t c =
       search rules,
       search rules,
     )
+
+-- ---- loops whose turns are rows
+
+pub elifs-turns-preserved : goal.elifs-turns-preserved
+elifs-turns-preserved g t c =
+    loop_again c.args.self.now c.turns.self c.elif_turn.new.self (elif_turn (level c.args.room))
+    (branched [] c.args.self.now.next) _ _
+    c.if-branch.true c.turns.invariant c.in_ok-elif_turn.ensures
+
+pub elifs-returns : goal.elifs-returns
+elifs-returns g t c =
+    loop_done c.args.self.now c.turns.self c.elif_turn.new.self (elif_turn (level c.args.room))
+    (branched [] c.args.self.now.next) _ _
+    c.if-branch.false c.turns.invariant c.in_ok-elif_turn.ensures
+
+pub pipes-turns-preserved : goal.pipes-turns-preserved
+pipes-turns-preserved g t c =
+    loop_again c.args.self.now c.turns.self c.pipe_turn.new.self (pipe_turn (level c.args.room))
+    (piped [] c.args.self.now.next) _ _
+    c.if-branch.true c.turns.invariant c.in_ok-pipe_turn.ensures
+
+pub pipes-returns : goal.pipes-returns
+pipes-returns g t c =
+    loop_done c.args.self.now c.turns.self c.pipe_turn.new.self (pipe_turn (level c.args.room))
+    (piped [] c.args.self.now.next) _ _
+    c.if-branch.false c.turns.invariant c.in_ok-pipe_turn.ensures
+
+pub joined_pipelines-turns-preserved : goal.joined_pipelines-turns-preserved
+joined_pipelines-turns-preserved g t c =
+    loop_again c.args.self.now c.turns.self c.and_or_turn.new.self (and_or_turn (level c.args.room))
+    (joined_so [] c.args.self.now.next) _ _
+    c.if-branch.true c.turns.invariant c.in_ok-and_or_turn.ensures
+
+pub joined_pipelines-returns : goal.joined_pipelines-returns
+joined_pipelines-returns g t c =
+    loop_done c.args.self.now c.turns.self c.and_or_turn.new.self (and_or_turn (level c.args.room))
+    (joined_so [] c.args.self.now.next) _ _
+    c.if-branch.false c.turns.invariant c.in_ok-and_or_turn.ensures
+
+pub words-turns-preserved : goal.words-turns-preserved
+words-turns-preserved g t c =
+    loop_again c.args.self.now c.turns.self c.word_turn.new.self (word_turn (level c.args.room))
+    (so_many [] Suffix c.args.self.now.next) _ _
+    c.if-branch.true c.turns.invariant c.in_ok-word_turn.ensures
+
+pub words-returns : goal.words-returns
+words-returns g t c =
+    loop_done c.args.self.now c.turns.self c.word_turn.new.self (word_turn (level c.args.room))
+    (so_many [] Suffix c.args.self.now.next) _ _
+    c.if-branch.false c.turns.invariant c.in_ok-word_turn.ensures
+
+pub list_lines-turns-preserved : goal.list_lines-turns-preserved
+list_lines-turns-preserved g t c =
+    loop_again c.args.self.now c.turns.self c.list_turn.new.self (list_turn (level c.args.room))
+    (list_so (view_listed c.args.listed.now) c.args.self.now.next) _ _
+    c.if-branch.true c.turns.invariant c.in_ok-list_turn.ensures
+
+pub list_lines-returns : goal.list_lines-returns
+list_lines-returns g t c =
+    loop_done c.args.self.now c.turns.self c.list_turn.new.self (list_turn (level c.args.room))
+    (list_so (view_listed c.args.listed.now) c.args.self.now.next) _ _
+    c.if-branch.false c.turns.invariant c.in_ok-list_turn.ensures
+
+pub more_patterns-turns-preserved : goal.more_patterns-turns-preserved
+more_patterns-turns-preserved g t c =
+    loop_again c.args.self.now c.turns.self c.pattern_turn.new.self (pattern_turn (level c.args.room))
+    (patterned (view_words c.args.patterns.now) c.args.self.now.next) _ _
+    c.if-branch.true c.turns.invariant c.in_ok-pattern_turn.ensures
+
+pub more_patterns-returns : goal.more_patterns-returns
+more_patterns-returns g t c =
+    loop_done c.args.self.now c.turns.self c.pattern_turn.new.self (pattern_turn (level c.args.room))
+    (patterned (view_words c.args.patterns.now) c.args.self.now.next) _ _
+    c.if-branch.false c.turns.invariant c.in_ok-pattern_turn.ensures
+
+pub items-turns-preserved : goal.items-turns-preserved
+items-turns-preserved g t c =
+    loop_again c.args.self.now c.turns.self c.item_turn.new.self (item_turn (level c.args.room))
+    (so_many (view_items c.args.items.now) c.args.position.now c.args.self.now.next) _ _
+    c.if-branch.true c.turns.invariant c.in_ok-item_turn.ensures
+
+pub items-returns : goal.items-returns
+items-returns g t c =
+    loop_done c.args.self.now c.turns.self c.item_turn.new.self (item_turn (level c.args.room))
+    (so_many (view_items c.args.items.now) c.args.position.now c.args.self.now.next) _ _
+    c.if-branch.false c.turns.invariant c.in_ok-item_turn.ensures

@@ -1,0 +1,45 @@
+-- Loops whose turns are rows: a turn that goes on, and the last one.
+use Rattle.std.proofs.Common.{◌≡◌, ◌≤◌, ◌∙◌, ℕ, Bool, true, false, Ok, length, sym, arith}
+use Rattle.shline.specs.declared.cursor.Cursor.{Cursor}
+use Rattle.shline.specs.Clauses.{at_token, given_of, keep_of, Keeps, Leads, Rests, start_of, text_of, Turns}
+use Rattle.shgrammar.specs.Form.{Form, Step, many}
+use Rattle.shgrammar.proofs.Turns.{many_again, many_done}
+
+-- what stayed over two steps
+over : {S : Type 0} {k : ℕ} {g : _} (start now new : Cursor S k g) → Keeps start now → Keeps now new → Keeps start new
+over start now new first second =
+    (second.0 ∙ first.0, second.1 ∙ first.1, second.2 ∙ first.2, second.3 ∙ first.3)
+
+-- from the start of a loop to the token before a turn, and by that turn to another token
+module _ {S A : Type 0} {k : ℕ} {g : _} (start now new : Cursor S k g) (turn : A → Form (Step A)) (first a b : A)
+  where
+    -- what is left to be read before the turn
+    abbrev pub Left : Type 0
+    Left = Rests start (many turn first) (at_token start) (many turn a) (at_token now) now
+
+    -- a turn after which another may follow
+    pub loop_again : {more : Bool} → more ≡ true → Left → Turns now (turn a) (Ok more) b new
+        → Rests start (many turn first) (at_token start) (many turn b) (at_token new) new
+    loop_again {more = false} is left one = absurd (cc)
+    loop_again {more = true} is left one =
+        let kept = left.2 in
+        let read = rw (kept.0, kept.1, kept.2, kept.3) at one.0 in
+        let within : start_of new ≤ length (text_of start) =
+        rw (sym kept.0, sym kept.1, sym one.2.0, sym one.2.1) new.within in (
+          sym (many_again turn (keep_of start) (given_of start) a b (at_token now) (at_token new) read one.1 within)
+              ∙ left.0,
+          omega (arith, left.1, one.1),
+          over start now new kept one.2,
+        )
+
+    -- and one after which none does
+    pub loop_done : {more : Bool} → more ≡ false → Left → Turns now (turn a) (Ok more) b new
+        → Leads start (many turn first) (at_token start) b (at_token new) new
+    loop_done {more = true} is left one = absurd (cc)
+    loop_done {more = false} is left one =
+        let kept = left.2 in
+        let read = rw (kept.0, kept.1, kept.2, kept.3) at one.0 in (
+          sym left.0 ∙ many_done turn (keep_of start) (given_of start) a b (at_token now) (at_token new) read,
+          omega (arith, left.1, one.1),
+          over start now new kept one.2,
+        )
