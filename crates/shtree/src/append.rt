@@ -2,7 +2,7 @@
 //!
 //! The list is borrowed, so a copy of it is made: first all of it, and then it is
 //! appended. Each function copies one part of a script.
-#![tactic(auto, using(crate::proofs::Carrying::entries_carried, crate::proofs::Carrying::and_or_parts_carried, crate::proofs::Carrying::pipes_carried, crate::proofs::Carrying::branches_carried, crate::proofs::Carrying::cases_carried, crate::proofs::Carrying::patterns_carried, crate::proofs::Carrying::items_carried, crate::proofs::Carrying::substs_carried))]
+#![tactic(auto)]
 
 ghost use Rattle.std.specs.Prelude.{◌≡◌, ◌-◌, IfOk, map, option_map, OnErr, OnOk};
 ghost use Rattle.shast.specs.Capped.{capped, capped_body};

@@ -1,6 +1,6 @@
 //! The walk over a tree that gathers its nodes. Each function adds the nodes of one part of a
 //! script: itself, and then what it holds from left to right.
-#![tactic(auto, using(crate::proofs::Gathering::gathered_append, crate::proofs::Gathering::gathered_none))]
+#![tactic(auto)]
 
 ghost use Rattle.std.specs.Prelude.{◌≡◌, [], ◌∷◌, ◌++◌, Bool, false, map, option_map};
 ghost use Rattle.std.specs.Option.{option_to_list};
@@ -55,6 +55,7 @@ fn add_comment<W: Wanted>(
 }
 
 /// The comment after a command on its line, where there is one.
+#[tactic(auto, using(crate::proofs::Gathering::gathered_none))]
 fn add_own_comment<W: Wanted>(
     comment: &Option<Comment>,
     wanted: W,
