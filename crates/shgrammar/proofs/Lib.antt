@@ -1,6 +1,8 @@
--- the laws of forms: turns, the one outcome of each form, what holds of whatever it gives, levels
+-- the laws of forms: turns, the one outcome of each form, what comes where another comes, what holds of
+-- whatever it gives, levels
 pub mod Turns
 pub mod OneOutcome
+pub mod Each
 pub mod Holds
 pub mod Levels
 -- bytes: continuations, stretches, places, and what is ordinary in a mode

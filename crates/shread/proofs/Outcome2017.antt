@@ -1,13 +1,12 @@
 -- The outcomes by POSIX.1-2017 are those where rows see what that edition says: a form reads the same where
 -- rows see the same.
-use Rattle.std.proofs.Common.{◌≡◌, ℕ, Bool, Ok, Err, List, List as Row, drop, refl, sym, subst, ◌∙◌}
+use Rattle.std.proofs.Common.{◌≡◌, ℕ, List, List as Row, drop, refl, sym}
 use Rattle.shgrammar.specs.declared.edition.Edition.TheVariants.{Y2017}
-use Rattle.shgrammar.specs.declared.fault.FaultKind.{FaultKind}
-use Rattle.shgrammar.specs.Form.{Comes, Form, Read, Spelled, Step, Telling, give, see, move, push, stop, both, when, token, loop, ends_as, change, with_bytes, a_level, in_substitution, Just, Then, and_then, or_stops, Either, holds, fails, OneToken, whole, broken_off, Turns, last, rests, more, halts, Ending, goes_through, stops_inside, WithBytes, with_its_bytes, without_bytes, OwnLevel, level_read, level_stops, may}
-use Rattle.shgrammar.specs.HereDocuments.{own_level}
+use Rattle.shgrammar.specs.Form.{Form, Spelled, give, see, move, push, stop, both, when, token, loop, ends_as, change, with_bytes, a_level, in_substitution, may}
 use Rattle.shgrammar.specs.Scripts.{AScript, Lines, Outcome, SoFar, is_blank_line, line_ended, last_line, faulty, the_line}
 use Rattle.shgrammar.specs.Sights.{Given, Sight, State, given, here, the_byte, the_piece, the_rest, the_end, a_raw, last_backslash, the_token, the_comment, is_a_name, a_document_waits, the_delimiter, seen}
 use Rattle.shgrammar.proofs.Editions.{delimiter_seen, piece_seen, token_seen}
+use Rattle.shgrammar.proofs.Each.{Each, each_bytes, each_either, each_ending, each_just, each_level, each_then, each_token, each_turns}
 use Rattle.shread.specs.Outcome2017.{Lines_2017, Outcome_2017, line_ended as line_ended_2017, last_line as last_line_2017, faulty as faulty_2017, may_2017, seen_2017}
 
 same_seen : {X : Type 0} (f : Sight X) (g : Given) (s : State) → g.edition ≡ Y2017 → seen f g s ≡ seen_2017 f g s
@@ -23,52 +22,6 @@ same_seen the_comment g s by = refl
 same_seen is_a_name g s by = refl
 same_seen a_document_waits g s by = refl
 same_seen (the_delimiter bytes) g s by = delimiter_seen bytes g s by
-
--- ---- what is made of forms comes where these come
-
--- what comes by the one comes by the other
-abbrev Each : {X : Type 0} → Comes X → Comes X → Type 0
-Each {X = X} r q = (s : State) (y : Read X) (k : Row Spelled) → r s y k → q s y k
-
-each_just : {X : Type 0} {x z : X} {s : State} → x ≡ z → (y : Read X) (k : Row Spelled) → Just x s y k → Just z s y k
-each_just {s = s} same y k part = subst (λ z. Just z s y k) same part
-
-each_then : {X Y : Type 0} {r r2 : Comes X} {q q2 : X → Comes Y} → Each r r2 → ((x : X) → Each (q x) (q2 x)) →
-    Each (Then r q) (Then r2 q2)
-each_then one two s y k (and_then {x = x} {t = t} {k = k1} {l = l} p rest) =
-    and_then (one s (Ok (x, t)) k1 p) (two x t y l rest)
-each_then one two s y k (or_stops {f = f} p) = or_stops (one s (Err f) k p)
-
-each_either : {X : Type 0} {r r2 q q2 : Comes X} {b c : Bool} → b ≡ c → Each r r2 → Each q q2 →
-    (s : State) (y : Read X) (k : Row Spelled) → Either b r q s y k → Either c r2 q2 s y k
-each_either same one two s y k (holds is p) = holds (sym same ∙ is) (one s y k p)
-each_either same one two s y k (fails is p) = fails (sym same ∙ is) (two s y k p)
-
-each_token : {X : Type 0} (told : Telling) (g : Given) {r r2 : Comes X} → Each r r2 →
-    Each (OneToken told g r) (OneToken told g r2)
-each_token told g one s y k (whole {x = x} {t = t} {k = k1} p) = whole (one s (Ok (x, t)) k1 p)
-each_token told g one s y k (broken_off {f = f} p) = broken_off (one s (Err f) k p)
-
-each_turns : {A : Type 0} (g : Given) {turn turn2 : A → Comes (Step A)} → ((a : A) → Each (turn a) (turn2 a)) →
-    (a : A) (s : State) (y : Read A) (k : Row Spelled) → Turns g turn a s y k → Turns g turn2 a s y k
-each_turns g one a s y k (last p) = last (one a s _ k p)
-each_turns g one a s y k (rests p still) = rests (one a s _ k p) still
-each_turns g one a s y k (more {b = b} {t = t} {k = k1} {l = l} p on next) =
-    more (one a s _ k1 p) on (each_turns g one b t y l next)
-each_turns g one a s y k (halts p) = halts (one a s _ k p)
-
-each_ending : {X : Type 0} (kind : FaultKind) (at : ℕ) {r r2 : Comes X} → Each r r2 →
-    Each (Ending kind at r) (Ending kind at r2)
-each_ending kind at one s y k (goes_through p) = goes_through (one s _ k p)
-each_ending kind at one s y k (stops_inside p) = stops_inside (one s _ k p)
-
-each_bytes : {X : Type 0} (g : Given) {r r2 : Comes X} → Each r r2 → Each (WithBytes g r) (WithBytes g r2)
-each_bytes g one s y k (with_its_bytes p) = with_its_bytes (one s _ k p)
-each_bytes g one s y k (without_bytes p) = without_bytes (one s _ k p)
-
-each_level : {X : Type 0} {r r2 : Comes X} → Each r r2 → Each (OwnLevel r) (OwnLevel r2)
-each_level one s y k (level_read p) = level_read (one (own_level s) _ k p)
-each_level one s y k (level_stops p) = level_stops (one (own_level s) _ k p)
 
 -- ---- forms
 
