@@ -1,6 +1,6 @@
 -- Tests that look ahead, where a byte ends the reading in both texts: the same answers.
 use Rattle.std.proofs.Common.{◌≡◌, ℕ, zero, suc, ◌+◌, ◌-◌, ◌≤◌, ◌<◌, ◌==◌, Bool, true, false, not, cond, ◌&&◌, List, List as Row, [], ◌∷◌, length, Option, Some, None, slice_get, refl, sym, ap, subst, ◌∙◌, arith, ⊎_elim}
-use Rattle.std.proofs.lemmas.Bool.{and_parts, both_ways, cases_Bool}
+use Rattle.std.proofs.lemmas.Bool.{and_parts, both_ways, cases_Bool, not-true}
 use Rattle.std.proofs.lemmas.Bool.Decides.{nat_tests}
 use Rattle.shsource.specs.Text.{is_newline}
 use Rattle.shgrammar.specs.Classes.{is_blank, is_letter, is_digit, is_name}
@@ -143,10 +143,6 @@ unfolding is_word_at
 spelled_more T p x xs = refl
 
 -- what is not true is false
-pub not_false : (b : Bool) → not b ≡ true → b ≡ false
-not_false true f = absurd cc
-not_false false f = refl
-
 -- bytes that both texts have from a up to L, and the one there, which ends whatever is looked for
 pub record ListEnds (edition : Edition) (T T2 : List ℕ) (a L : ℕ) (to : ℕ → ℕ) (c : ℕ) : Type 0 where
   pub kept : Kept edition T T2 a (L + 1) to
@@ -377,7 +373,7 @@ module _ {edition : Edition} {T T2 : List ℕ} {a L : ℕ} {to : ℕ → ℕ} {c
       spelled_more T2 (to p) x xs ∙ ap (λ b. b && is_word_at T2 (past_byte T2 (to p)) xs) (same_stands s x)
       ∙ same_and (stands T p x) _ _ (λ f. ap (λ q. is_word_at T2 q xs) (same_after s)
       ∙ same_word xs (past_byte T p) there.1
-      (next_safe (λ b. b == x) (goes_one c x here.0 (ender c x E.ender.ends_it (not_false (ends (Some x)) there.0)))
+      (next_safe (λ b. b == x) (goes_one c x here.0 (ender c x E.ender.ends_it (not-true (ends (Some x)) there.0)))
       s (stands_is p x f)))
       ∙ sym (spelled_more T p x xs)
 

@@ -2,6 +2,7 @@
 -- and only its first entry tells whether it is blank.
 use Rattle.std.proofs.Common.{◌≡◌, ℕ, ◌+◌, Bool, true, false, not, ◌&&◌, Ok, Err, List, List as Row, [], ◌∷◌, ◌++◌, map, drop, Option, Some, None, option_map, is_some, refl, sym, ap, subst, ◌∙◌, arith}
 use Rattle.std.proofs.lemmas.List.{map-append}
+use Rattle.std.proofs.Math.Bool.{and-false, and-true}
 use Rattle.shgrammar.specs.declared.keep.Keep.TheVariants.{Outer, Whole}
 use Rattle.shast.specs.declared.tree.Span.{Span}
 use Rattle.shast.specs.Bodies.{fill_entry, fill_row, filled_row}
@@ -29,14 +30,6 @@ use Rattle.shgrammar.specs.declared.edition.Edition.{Edition}
 
 -- ---- the first entry of a row
 
-and_true : (b : Bool) → (b && true) ≡ b
-and_true true = refl
-and_true false = refl
-
-and_false : (b : Bool) → (b && false) ≡ false
-and_false true = refl
-and_false false = refl
-
 -- an entry is blank, or it is not
 abbrev BlankIs : Bool → AnEntry → Type 0
 BlankIs blank (entry what background b comment) = b ≡ blank
@@ -54,14 +47,14 @@ module _ (k : ℕ) (deep : Bool) where
       blanked_entry (pale && false) (entry_to k deep e) ≡ entry_to k deep e
   not_blank pale blank (entry what background b comment) is =
       ap (λ (c : Bool). entry (carried_content (span_to k) (body_to k) deep what) background c
-      (option_map (span_to k) comment)) (and_false pale ∙ sym (is ∙ and_false blank))
+      (option_map (span_to k) comment)) (and-false pale ∙ sym (is ∙ and-false blank))
 
   row_pushed : (pale blank begun : Bool) (xs : Row AnEntry) (e : AnEntry) → begun ≡ not (is_empty xs) →
       BlankIs (blank && not begun) e
       → blanked_row pale (map (entry_to k deep) xs) ++ blanked_entry (pale && not begun) (entry_to k deep e) ∷ []
       ≡ blanked_row pale (map (entry_to k deep) (xs ++ e ∷ []))
   row_pushed pale blank false [] e begins is =
-      ap (λ (b : Bool). blanked_entry b (entry_to k deep e) ∷ []) (and_true pale)
+      ap (λ (b : Bool). blanked_entry b (entry_to k deep e) ∷ []) (and-true pale)
   row_pushed pale blank true [] e begins is = absurd cc
   row_pushed pale blank false (x ∷ xs) e begins is = absurd cc
   row_pushed pale blank true (x ∷ xs) e begins is =

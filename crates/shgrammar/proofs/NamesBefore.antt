@@ -5,6 +5,7 @@ use Rattle.std.proofs.lemmas.Bool.{and_parts, both_ways, cases_Bool}
 use Rattle.std.proofs.lemmas.Bool.Decides.{nat_tests}
 use Rattle.std.proofs.lemmas.List.{take_at}
 use Rattle.std.proofs.lemmas.Option.{slice_get_within}
+use Rattle.std.proofs.Math.Bool.{and-false}
 use Rattle.shgrammar.specs.declared.keep.Keep.TheVariants.{Whole}
 use Rattle.shgrammar.specs.declared.mode.Mode.TheVariants.{Plain}
 use Rattle.shgrammar.specs.declared.token.Position.TheVariants.{Command}
@@ -312,11 +313,7 @@ module _ (room : ℕ) (g : Given) (p n : ℕ) (read : ReadsWord room g p n) (sti
 
     no_assignment : begins_assignment U (to p) ≡ false
     unfolding begins_assignment stands
-    no_assignment = rw (past_name, limit_byte) (and_none (stands_in is_letter U (to p)))
-      where
-        and_none : (b : Bool) → (b && false) ≡ false
-        and_none true = refl
-        and_none false = refl
+    no_assignment = rw (past_name, limit_byte) (and-false (stands_in is_letter U (to p)))
 
     no_number : is_number U (to p) ≡ false
     unfolding is_number stands_in

@@ -1,6 +1,7 @@
 -- The list of a script is in normal form.
 use Rattle.std.proofs.Common.{◌≡◌, ◌∙◌, refl, ap, ℕ, zero, suc, Bool, true, false, ◌&&◌, ◌||◌, not, Ok, Err, List, List as Row, [], ◌∷◌, ◌++◌, drop, Option, Some, None, is_some}
 use Rattle.std.proofs.lemmas.Bool.{and_from, and_parts}
+use Rattle.std.proofs.Math.Bool.{and-false, or-true}
 use Rattle.shgrammar.specs.declared.keep.Keep.TheVariants.{Whole}
 use Rattle.shgrammar.specs.declared.mode.Mode.{Mode}
 use Rattle.shgrammar.specs.declared.mode.Piece.{Piece}
@@ -71,18 +72,14 @@ entries_join [] ls all more = more
 entries_join (e ∷ es) ls all more = let parts = and_parts _ _ all in
     and_from _ _ parts.0 (entries_join es ls parts.1 more)
 
--- a list with one more entry
-or_true : (b : Bool) → (b || true) ≡ true
-or_true true = refl
-or_true false = refl
-
+-- of two that may hold, where the second follows from another
 or_more : (a b c : Bool) → (b ≡ true → c ≡ true) → (a || b) ≡ true → (a || c) ≡ true
 or_more true b c more e = refl
 or_more false b c more e = more e
 
 command_last : (es : Row AnEntry) (e : AnEntry) → is_command e ≡ true → holds_command (entries_of (es ++ e ∷ [])) ≡ true
 command_last [] e one = rw one refl
-command_last (x ∷ es) e one = rw (command_last es e one) (or_true (is_command x))
+command_last (x ∷ es) e one = rw (command_last es e one) (or-true (is_command x))
 
 still_command : (es : Row AnEntry) (e : AnEntry) → holds_command (entries_of es) ≡ true →
     holds_command (entries_of (es ++ e ∷ [])) ≡ true
@@ -134,15 +131,11 @@ remark_more blank l e so one is =
       command = λ f. still_command l.entries e (so.command f);
     }
 
-and_false : (b : Bool) → (b && false) ≡ false
-and_false true = refl
-and_false false = refl
-
 -- after a newline
 pub newline_more : (blank : Bool) (l : Listed) → NormalList blank l → NormalList blank (next_line l)
 newline_more blank l so = record {
   first = so.first;
-  none = λ e f. rw f (and_false (not l.begun));
+  none = λ e f. rw f (and-false (not l.begun));
   all = so.all;
   command = so.command;
 }
@@ -215,7 +208,7 @@ normal_after (c ∷ cs) es so = normal_after cs es so
 pub script_more : (gap : Bool) (es : Row AnEntry) (ls : Row AnEntry) → is_normal (entries_of es) ≡ true →
     (gap && not (is_empty es) ≡ false → first_not_blank (entries_of ls) ≡ true)
     → are_normal (entries_of ls) ≡ true → is_normal (entries_of (es ++ ls)) ≡ true
-script_more gap [] ls list first all = and_from _ _ (first (and_false gap)) all
+script_more gap [] ls list first all = and_from _ _ (first (and-false gap)) all
 script_more gap (e ∷ es) ls list first all = let parts = and_parts _ _ list in
     and_from _ _ parts.0 (entries_join (e ∷ es) ls parts.1 all)
 
@@ -360,7 +353,7 @@ module _ (g : Given) where
 
     normal_with : (cs : Row Span) (c : Option Span) (broken : Bool) (s : State) → broken_by cs broken ≡ true →
         N (with_comment cs c) (λ ds t. broken_by ds (broken || is_some c) ≡ true) s
-    normal_with cs (Some c) broken s so = record { told = all_broken (cs ++ c ∷ []) _ (or_true broken) }
+    normal_with cs (Some c) broken s so = record { told = all_broken (cs ++ c ∷ []) _ (or-true broken) }
     normal_with cs None broken s so = tells_give Whole g (still_broken cs broken false so)
 
     abbrev JoinHolds : JoinSo → State → Type 0

@@ -15,6 +15,7 @@ use Rattle.shgrammar.specs.Levels.{level}
 use Rattle.shgrammar.specs.Plain.{is_special_in, is_plain, ArePlain}
 use Rattle.shast.specs.Tree.{ASubst, word, no_subst, substs_of}
 use Rattle.std.proofs.lemmas.Bool.Decides.{nat_tests}
+use Rattle.std.proofs.lemmas.Bool.{not-true, or_parts}
 use Rattle.shgrammar.specs.declared.keep.Keep.{Keep}
 use Rattle.shgrammar.proofs.Turns.{many_again, many_done}
 use Rattle.shgrammar.proofs.Places.{word_longer}
@@ -25,18 +26,10 @@ use Rattle.shgrammar.specs.declared.edition.Edition.{Edition}
 
 -- ---- a plain byte
 
-or_parts : (x y : Bool) → (x || y) ≡ false → (x ≡ false) × (y ≡ false)
-or_parts true y e = absurd cc
-or_parts false y e = (refl, e)
-
-not_so : (x : Bool) → not x ≡ true → x ≡ false
-not_so true e = absurd cc
-not_so false e = refl
-
 -- it is none of the bytes that are special in every mode, and none that is so in this one
 others : (a b c d : Bool) → not (a || b || c || d) ≡ true → (a ≡ false) × (b ≡ false) × (c ≡ false) × (d ≡ false)
 others a b c d none =
-    let three = or_parts _ _ (not_so _ none) in
+    let three = or_parts _ _ (not-true _ none) in
     let two = or_parts _ _ three.0 in
     let one = or_parts _ _ two.0 in
     (one.0, one.1, two.1, three.1)

@@ -3,7 +3,7 @@
 use Rattle.std.proofs.Common.{◌≡◌, ℕ, ◌+◌, ◌-◌, ◌==◌, ◌≤◌, Bool, true, false, ◌||◌, not, List, [], ◌∷◌, ◌++◌, length, take, drop, Option, Some, None, get_or, refl, sym, ap, ◌∙◌, arith}
 use Rattle.std.specs.Prelude.{◌&&◌, nat_lt}
 use Rattle.std.specs.List.{list_all}
-use Rattle.std.proofs.lemmas.Bool.{and_parts, lt-ltb}
+use Rattle.std.proofs.lemmas.Bool.{and_left, and_parts, and_right, lt-ltb}
 use Rattle.std.proofs.lemmas.Bool.Decides.{nat_tests}
 use Rattle.std.proofs.lemmas.List.{append-nil, drop_all, drop_more, drop-drop, length-drop, length-take-le, take-append-drop}
 use Rattle.shast.specs.Shape.{bare}
@@ -34,13 +34,6 @@ all_three : (a b c : Bool) → (a && b && c) ≡ true → (a ≡ true) × (b ≡
 all_three false b c e = absurd cc
 all_three true false c e = absurd cc
 all_three true true c e = (refl, refl, e)
-
-both_false : (a b : Bool) → b ≡ false → (a && b) ≡ false
-both_false true b e = e
-both_false false b e = refl
-
-first_false : (a b : Bool) → a ≡ false → (a && b) ≡ false
-first_false a b e = rw e refl
 
 -- it is not special, and quotes nothing
 module _ (b : ℕ) (plain : is_plain Plain b ≡ true) where
@@ -88,7 +81,7 @@ left_more b xs (Some bs) = refl
 plain_step : (q : Quoting) (second : Bool) (b : ℕ) (bs : List ℕ) → is_plain Plain b ≡ true →
     unquoted q second (b ∷ bs) ≡ left_before b (unquoted q second bs)
 plain_step q second b bs plain =
-    unquoted_byte q second b bs (both_false _ _ (not_live q 92 b (no_backslash b plain)))
+    unquoted_byte q second b bs (and_right _ _ (not_live q 92 b (no_backslash b plain)))
     ∙ rw (no_quote b plain q, not_live q 96 b (no_backquote b plain), not_live q 36 b (no_dollar b plain)) refl
 
 plain_on : (q : Quoting) (second : Bool) (xs rest : List ℕ) → list_all (is_plain Plain) xs ≡ true →
@@ -111,7 +104,7 @@ unfolding bare
 alone_bare [] all = refl
 alone_bare (b ∷ xs) all =
     let both = and_parts _ _ all in
-    let is : bare (b ∷ xs) ≡ b ∷ bare xs = bare_one b xs (λ c cs e. first_false _ _ (no_backslash b both.0)) in
+    let is : bare (b ∷ xs) ≡ b ∷ bare xs = bare_one b xs (λ c cs e. and_left _ _ (no_backslash b both.0)) in
     rw (is, no_backslash b both.0, no_single b both.0, no_double b both.0) (alone_bare xs both.1)
 
 -- ---- of them in quotes
@@ -136,7 +129,7 @@ last_quote b e = last_by b (b == 39) refl e
 quoted_left : (b : ℕ) (xs : List ℕ) → is_quote not_quoted b ≡ true → list_all (is_plain Plain) xs ≡ true →
     unquoted not_quoted false (b ∷ xs ++ b ∷ []) ≡ Some xs
 quoted_left b xs is all =
-    unquoted_byte not_quoted false b (xs ++ b ∷ []) (both_false _ _ (quote_quotes b is))
+    unquoted_byte not_quoted false b (xs ++ b ∷ []) (and_right _ _ (quote_quotes b is))
     ∙ rw is refl
     ∙ plain_on (after_quote not_quoted b) false xs (b ∷ []) all
     ∙ ap (left_of xs) (last_quote b is)
@@ -144,7 +137,7 @@ quoted_left b xs is all =
 
 quoted_bare : (b : ℕ) (bs : List ℕ) → is_quote not_quoted b ≡ true → is_quoted (b ∷ bs) ≡ true
 quoted_bare b bs is =
-    let first : bare (b ∷ bs) ≡ b ∷ bare bs = bare_one b bs (λ c cs e. first_false _ _ (quote_quotes b is)) in
+    let first : bare (b ∷ bs) ≡ b ∷ bare bs = bare_one b bs (λ c cs e. and_left _ _ (quote_quotes b is)) in
     rw (first, quote_quotes b is, is) refl
 
 -- ---- of them after a backslash

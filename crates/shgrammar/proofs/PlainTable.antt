@@ -2,6 +2,7 @@
 use Rattle.std.proofs.Common.{◌≡◌, ℕ, zero, suc, ◌+◌, ◌<◌, ◌==◌, Bool, true, false, ◌&&◌, not, Some, List, [], ◌∷◌, length, get_or, refl, sym, ap, ◌∙◌, arith, add-zero, zero-add}
 use Rattle.std.specs.Prelude.{bit_and}
 use Rattle.std.proofs.lemmas.Bool.{and_parts}
+use Rattle.std.proofs.Math.Bool.{not-not}
 use Rattle.shgrammar.specs.declared.byte_kinds.TheConstants.{MARKS}
 use Rattle.shgrammar.specs.declared.mode.Mode.{Mode}
 use Rattle.shgrammar.specs.declared.mode.Mode.TheVariants.{Plain, Double, Brace, DoubleBrace, Arith}
@@ -47,15 +48,11 @@ table_tells mode b lt = agrees_at (alone mode) (is_plain mode) MARKS 0 b (all_ag
 
 -- ---- where a word ends, and what a name has
 
-not_not : (x : Bool) → not (not x) ≡ x
-not_not true = refl
-not_not false = refl
-
 -- a test whose bytes are marked
 marks : (set : ℕ) (test : ℕ → Bool) (b : ℕ) → agrees set (λ c. not (test c)) MARKS 0 ≡ true → b < 256 →
     not (bit_and (get_or MARKS b 0) set == 0) ≡ test b
 marks set test b e lt = ap not (agrees_at set (λ c. not (test c)) MARKS 0 b e lt ∙ ap (λ c. not (test c)) (zero-add b))
-    ∙ not_not (test b)
+    ∙ not-not (test b)
 
 ends_agree : agrees 32 (λ b. not (ends (Some b))) MARKS 0 ≡ true
 unfolding agrees same

@@ -138,9 +138,6 @@ pub unquoted_escape : (q : Quoting) (second : Bool) (b c : ℕ) (bs : List ℕ) 
 unfolding unquoted
 unquoted_escape q second b c bs is = rw is refl
 
-same_and : (b c d : Bool) → b ≡ c → (b && d) ≡ (c && d)
-same_and b c d is = ap (λ x. x && d) is
-
 longer : (word : List ℕ) (at : ℕ) → at < length word →
     nat_lt 0 (length (drop (at + 1) word)) ≡ nat_lt (at + 1) (length word)
 longer word at lt = grind (arith, nat_tests, length-drop (at + 1) word)
@@ -153,7 +150,7 @@ pub take_byte : (q : Quoting) (second : Bool) (text word : List ℕ) (at : ℕ) 
 take_byte q second text word at lt other =
     ap (λ l. left_of text (unquoted q second l)) (drop_more word at 0 lt)
     ∙ ap (left_of text) (unquoted_byte q second (get_or word at 0) (drop (at + 1) word)
-    (same_and _ _ (is_live q 92 (get_or word at 0)) (longer word at lt) ∙ other))
+    (ap (λ b. b && is_live q 92 (get_or word at 0)) (longer word at lt) ∙ other))
 
 pub take_escape : (q : Quoting) (second : Bool) (text word : List ℕ) (at : ℕ) → at < length word →
     escapes q word at ≡ true

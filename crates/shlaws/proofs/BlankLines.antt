@@ -1,6 +1,7 @@
 -- A newline token after an entry ends its line, and each further one makes the next entry blank.
 use Rattle.std.proofs.Common.{◌≡◌, ◌↔◌, ℕ, zero, suc, ◌+◌, ◌≤◌, Bool, true, false, not, List as Row, [], ◌∷◌, ◌++◌, Option, refl, sym, ap, ◌∙◌, arith}
 use Rattle.std.specs.Prelude.{◌&&◌}
+use Rattle.std.proofs.Math.Bool.{and-false, and-true}
 use Rattle.shast.specs.Tree.{AnEntry}
 use Rattle.shgrammar.specs.Commands.{is_empty}
 use Rattle.shgrammar.specs.Lists.{Listed, is_blank_next, next_line, none_listed, with_command, with_remark}
@@ -21,12 +22,8 @@ same_entries (suc n) l = same_entries n l
 pub after_entry : (l : Listed) (n : ℕ) → l.begun ≡ true → is_empty l.entries ≡ false
     → (is_blank_next (past_newlines n l) ≡ true) ↔ (2 ≤ n)
 after_entry l zero begun some =
-    let no : is_blank_next l ≡ false = rw begun (never l.blank) in
+    let no : is_blank_next l ≡ false = rw begun (and-false l.blank) in
     (λ is. absurd (let both : true ≡ false = sym is ∙ no in cc), λ le. absurd (omega arith))
-  where
-    never : (b : Bool) → (b && false) ≡ false
-    never true = refl
-    never false = refl
 after_entry l (suc zero) begun some =
     let no : is_blank_next (next_line l) ≡ false = rw begun refl in
     (λ is. absurd (let both : true ≡ false = sym is ∙ no in cc), λ le. absurd (omega arith))
@@ -35,11 +32,8 @@ after_entry l (suc (suc n)) begun some = (λ is. omega arith, λ le. rw (same_en
 pub before_all : (n : ℕ) → is_blank_next (past_newlines n (none_listed false)) ≡ false
 before_all zero = refl
 before_all (suc n) =
-    rw (same_entries n (none_listed false)) (never (past_newlines n (none_listed false)).begun)
-  where
-    never : (b : Bool) → ((not b && false) && true) ≡ false
-    never true = refl
-    never false = refl
+    let begun = (past_newlines n (none_listed false)).begun in
+    rw (same_entries n (none_listed false)) (and-true (not begun && false) ∙ and-false (not begun))
 
 pub after_command : (l : Listed) (es : Row AnEntry) (e : AnEntry) (parted : Option ℕ) (n : ℕ)
     → (is_blank_next (past_newlines n (with_command l (es ++ e ∷ []) parted)) ≡ true) ↔ (2 ≤ n)

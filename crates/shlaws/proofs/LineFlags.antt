@@ -2,6 +2,7 @@
 use Rattle.std.proofs.Common.{◌≡◌, ℕ, Bool, true, false, not, List as Row, [], ◌∷◌, ◌++◌, Option, Some, None, Ok, is_some, refl, sym, ap, subst, ◌∙◌, append_assoc, append-nil}
 use Rattle.std.specs.Prelude.{◌&&◌, ◌||◌}
 use Rattle.std.proofs.lemmas.Bool.{or_right}
+use Rattle.std.proofs.Math.Bool.{and-false, and-true, or-false}
 use Rattle.shast.specs.Normal.{is_blank_entry}
 use Rattle.shast.specs.Tree.{AnEntry}
 use Rattle.shast.specs.declared.tree.Span.{Span}
@@ -20,18 +21,10 @@ use Rattle.shlaws.proofs.BlankLines.{not_empty}
 
 -- ---- one entry more
 
-same_flag : (b : Bool) → (b && true) ≡ b
-same_flag true = refl
-same_flag false = refl
-
-no_flag : (b : Bool) → (b && false) ≡ false
-no_flag true = refl
-no_flag false = refl
-
 flag_more : (blank : Bool) (es : Row AnEntry) (e : AnEntry) → AreBlankAtFirst blank es
     → is_blank_entry e ≡ (blank && is_empty es) → AreBlankAtFirst blank (es ++ e ∷ [])
-flag_more blank [] e flags is = (is ∙ same_flag blank, tt)
-flag_more blank (x ∷ xs) e flags is = (flags.0, flag_more false xs e flags.1 (is ∙ no_flag blank))
+flag_more blank [] e flags is = (is ∙ and-true blank, tt)
+flag_more blank (x ∷ xs) e flags is = (flags.0, flag_more false xs e flags.1 (is ∙ and-false blank))
 
 -- of a line on which these entries stand
 flag_of : (blank begun none : Bool) → (blank && not (begun || not none)) ≡ ((blank && not begun) && none)
@@ -46,13 +39,9 @@ nothing_read l = record {
   entries = [];
   all = sym (append-nil l.entries);
   flags = tt;
-  begun = same l.begun;
+  begun = sym (or-false l.begun);
   blank = refl;
 }
-  where
-    same : (b : Bool) → b ≡ (b || false)
-    same true = refl
-    same false = refl
 
 one_more : (before l m : Listed) (e : AnEntry) → HasMore before l → is_blank_entry e ≡ is_blank_next l
     → m.entries ≡ l.entries ++ e ∷ [] → m.begun ≡ true → m.blank ≡ l.blank → HasMore before m

@@ -1,7 +1,8 @@
 -- Which byte begins which piece, outside quotes and in double quotes.
 use Rattle.std.proofs.Common.{◌≡◌, ℕ, ◌==◌, Bool, true, false, List, Option, Some, None, refl, sym, ap, subst, ◌∙◌}
 use Rattle.std.specs.Prelude.{◌&&◌}
-use Rattle.std.proofs.lemmas.Bool.{and_parts, both_ways, cond_both, eqb-true}
+use Rattle.std.proofs.lemmas.Bool.{and_parts, and_right, both_ways, cond_both, eqb-true}
+use Rattle.std.proofs.Math.Bool.{and-false}
 use Rattle.shgrammar.specs.declared.edition.Edition.{Edition}
 use Rattle.shgrammar.specs.declared.mode.Mode.{Mode}
 use Rattle.shgrammar.specs.declared.mode.Mode.TheVariants.{Plain, Double, Brace, DoubleBrace, Arith}
@@ -71,11 +72,8 @@ module _ (edition : Edition) (T : List ℕ) (last : Bool) (b : ℕ) where
 
   dollar_begins : (mode : Mode) (r : ℕ) (x : Option ℕ) → is_unquoted mode ≡ true → b ≡ dollar_sign
       → Begins (is_later edition) last b x mode (piece_in edition mode (dollar_by T r x))
-  dollar_begins mode r None read is = dollar is refl refl refl (λ later. none (is_quote (quoting_in mode) apostrophe))
-    where
-      none : (c : Bool) → (c && false) ≡ false
-      none true = refl
-      none false = refl
+  dollar_begins mode r None read is =
+      dollar is refl refl refl (λ later. and-false (is_quote (quoting_in mode) apostrophe))
   dollar_begins mode r (Some y) read is =
       let G : Piece → Type 0 =
       λ z. Begins (is_later edition) last b (Some y) mode (piece_in edition mode z) in
@@ -88,11 +86,7 @@ module _ (edition : Edition) (T : List ℕ) (last : Bool) (b : ℕ) where
       (λ e. parameter is (ap (λ (n : ℕ). Some n) (same_byte y left_brace e)))
       (λ no_brace. cond_both (y == apostrophe) _ _ G (λ e. dollar_quoted mode y read is no_dollar no_open no_brace e)
       (λ no_quote. dollar is no_dollar no_open no_brace
-      (λ later. none (is_quote (quoting_in mode) apostrophe) (y == apostrophe) no_quote)))))
-    where
-      none : (c d : Bool) → d ≡ false → (c && d) ≡ false
-      none true d e = e
-      none false d e = refl
+      (λ later. and_right (is_quote (quoting_in mode) apostrophe) (y == apostrophe) no_quote)))))
 
   byte_begins : (mode : Mode) (p : ℕ) (x : Option ℕ) → is_unquoted mode ≡ true → (b == backslash) ≡ false
       → (b == grave_accent) ≡ false → (b == dollar_sign) ≡ false
