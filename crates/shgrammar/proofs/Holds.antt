@@ -15,10 +15,13 @@ use Rattle.shgrammar.specs.Sights.{Given, State, Sight, seen, Move, one_byte, co
 use Rattle.shgrammar.specs.HereDocuments.{Change, waits, bodies_here, changed, bodies_from, state_by, own_level, outer_level}
 use Rattle.shgrammar.specs.declared.fault.Fault.{Fault}
 use Rattle.shgrammar.specs.Form.{Spelled, raw, nothing_read, change, with_bytes, a_level, Read, ◌▸◌, Form, give, see, move, push, stop, both, when, Telling, token, loop, many, ends_as, with_end, Step, again, done, leads_on, moved_on, turns, does, in_substitution, inside}
+use Rattle.shgrammar.specs.Commands.{pick, unexpected}
+use Rattle.shgrammar.specs.Words.{Inner}
 use Rattle.shgrammar.proofs.Stretches.{place_low}
 use Rattle.shgrammar.proofs.Places.{after_low, blanks_low, next_newline_low, next_of_low, parameter_low, reserved_low, digits_low, next_escaped_low}
 use Rattle.shgrammar.proofs.Delimiters.{bodies_low}
 use Rattle.shgrammar.proofs.Turns.{turns_on, turns_rest, turns_done, turns_fault}
+use Rattle.shgrammar.specs.declared.token.Next.{Next}
 
 -- P holds of what is read and of the state after it; of a fault nothing is said
 abbrev pub Holds : {X : Type 0} → (X → State → Type 0) → Read X → Type 0
@@ -37,6 +40,12 @@ pub holds_so : {X : Type 0} (P Q : X → State → Type 0) (x : Read X) → Hold
     → Holds Q x
 holds_so P Q (Ok (c, t)) one so = so c t one
 holds_so P Q (Err e) one so = tt
+
+-- two facts at once
+pub holds_and : {X : Type 0} (P Q : X → State → Type 0) (x : Read X) → Holds P x → Holds Q x
+    → Holds (λ a t. P a t × Q a t) x
+holds_and P Q (Ok (a, t)) one two = (one, two)
+holds_and P Q (Err f) one two = tt
 
 module _ (keep : Keep) (g : Given) where
   -- of what the form r gives from s on
@@ -215,6 +224,45 @@ pub tells_pushed : (g : Given) {A Y : Type 0} {Q : Y → State → Type 0} {xs :
     → Tells Whole g (both (push xs x) q) Q s
 tells_pushed g rest = record { told = rest.told }
 
+-- ---- what a form gives with its tree, the text left to be inferred
+
+module _ {g : Given} where
+  -- this is given
+  pub gives : {X : Type 0} {x : X} {P : X → State → Type 0} {s : State} → P x s → Tells Whole g (give x) P s
+  gives so = tells_give Whole g so
+
+  -- what the first form gives may be anything
+  pub after : {X Y : Type 0} {Q : Y → State → Type 0} {r : Form X} {q : X → Form Y} {s : State} →
+      ((x : X) (t : State) → Tells Whole g (q x) Q t) → Tells Whole g (both r q) Q s
+  after rest = tells_after Whole g rest
+
+  -- what is seen, and then the rest
+  pub sees : {X Y : Type 0} {Q : Y → State → Type 0} {f : Sight X} {q : X → Form Y} {s : State} →
+      Tells Whole g (q (seen f g s)) Q s → Tells Whole g (both (see f) q) Q s
+  sees rest = tells_seen Whole g rest
+
+  -- one more element of the tree, and then the rest
+  pub pushed_on : {A Y : Type 0} {Q : Y → State → Type 0} {xs : Row A} {x : A} {q : Row A → Form Y} {s : State} →
+      Tells Whole g (q (xs ++ x ∷ [])) Q s → Tells Whole g (both (push xs x) q) Q s
+  pushed_on rest = tells_pushed g rest
+
+  -- one form, or another
+  pub picked : {X : Type 0} {P : X → State → Type 0} (b : Bool) {r q : Form X} {s : State} → Tells Whole g r P s →
+      Tells Whole g q P s → Tells Whole g (pick b r q) P s
+  picked true one two = one
+  picked false one two = two
+
+  -- one form, where a test holds, or another
+  pub picked_by : {X : Type 0} {P : X → State → Type 0} (b : Bool) {r q : Form X} {s : State} →
+      (b ≡ true → Tells Whole g r P s) → Tells Whole g q P s → Tells Whole g (pick b r q) P s
+  picked_by true one two = one refl
+  picked_by false one two = two
+
+  -- where a row stops, nothing is said
+  pub stops : {X : Type 0} {P : X → State → Type 0} (inner : Inner) (n : Next) {s : State} →
+      Tells Whole g (unexpected {X = X} inner n) P s
+  stops inner n = tells_after Whole g (λ w t. record { told = tt })
+
 -- ---- no form goes back
 
 closer_low : (mode : Mode) (T : List ℕ) (p : ℕ) → p ≤ past_closer T mode p
@@ -258,7 +306,7 @@ change_low (waits w) g s t is = let same : record { at = s.at; waiting = s.waiti
 change_low bodies_here g s t is =
     state_low s t (bodies_from g s.waiting s.bodies s.at) (λ y read. bodies_low g s.waiting s.bodies s.at y read) is
 
--- after a state
+-- what is read ends where this state stands, or after that
 abbrev pub AtOrAfter : {X : Type 0} → State → X → State → Type 0
 AtOrAfter s x t = s.at ≤ t.at
 

@@ -18,9 +18,9 @@ use Rattle.shast.specs.declared.tree.AndOrOperator.{AndOrOperator}
 use Rattle.shast.specs.Tree.{APipelinePart, AnAndOrPart, ABranch, AForm, Entries, pipeline_parts_of, and_or_parts_of, branches_of, AnEntry, AnItem, ASubst, AWord, item, entries_of, items_of, substs_of, ACommand, ItemsOf, argument, redirect, with_redirects, simple, compound, formed, function, ACaseItem, cases_of, patterns_of}
 use Rattle.shast.specs.Normal.{is_blank_entry, is_broken, is_command, holds_command, first_not_blank, first_not_broken, is_whole, are_normal, is_normal_entry, are_normal_items, is_normal_item, is_normal_word, are_normal_substs, is_normal_subst, is_normal_join, broken_by, is_normal_command, is_normal_pipeline, are_normal_pipes, is_normal_and_or, are_normal_and_ors, is_normal_branch, are_normal_branches, is_normal_else, are_normal_words, is_normal_form, is_normal, are_normal_patterns, is_normal_case, are_normal_cases}
 use Rattle.shgrammar.specs.Sights.{Given, given, State, standing}
-use Rattle.shgrammar.specs.Form.{Read, Form, push, both, step_if}
+use Rattle.shgrammar.specs.Form.{Read, Form, step_if}
 use Rattle.shgrammar.specs.Words.{Inner, WordSoFar, having, opened, piece_row, a_piece, contents, a_word}
-use Rattle.shgrammar.specs.Commands.{is_empty, pick, is_pipe, begins_simple, begins_word, begins_redirect, begins_pipeline, opener_of, compound_by, and_or_operator_of, breaks, Items, so_many, after_word, a_target, one_redirect, after_redirect, redirect_turn, with_redirect_list, as_item, an_item, item_by, item_turn, a_simple, unexpected, with_comment, JoinSo, join_turn, a_join, a_command, Piped, piped, one_command, pipe_turn, a_pipeline, Joined, joined_so, one_pipeline, joined_by, and_or_turn, an_and_or, an_entry, a_word_command, is_word, is_paren}
+use Rattle.shgrammar.specs.Commands.{is_empty, is_pipe, begins_simple, begins_word, begins_redirect, begins_pipeline, opener_of, compound_by, and_or_operator_of, breaks, Items, so_many, after_word, a_target, one_redirect, after_redirect, redirect_turn, with_redirect_list, as_item, an_item, item_by, item_turn, a_simple, with_comment, JoinSo, join_turn, a_join, a_command, Piped, piped, one_command, pipe_turn, a_pipeline, Joined, joined_so, one_pipeline, joined_by, and_or_turn, an_and_or, an_entry, a_word_command, is_word, is_paren}
 use Rattle.shgrammar.specs.Lists.{Listed, ListSo, list_so, none_listed, is_blank_next, with_command, with_remark, next_line, one_entry, entry_turn, remark_by, a_remark, on_line, list_turn, a_list}
 use Rattle.shgrammar.specs.Compounds.{Branched, branched, Closed, is_closing, a_branch, elif_turn, an_else, an_if, a_loop, a_group, a_for_name, word_turn, for_words, a_for_head, after_remarks, a_for, a_form, a_compound, a_function, under_name, a_case_word, begins_pattern, Patterned, a_pattern, one_pattern, pattern_turn, a_pattern_list, a_body, CasesSo, cases_so, one_case, case_turn, a_case_head, a_case}
 use Rattle.shgrammar.specs.Substitutions.{substitution_list, a_substitution, one_substitution}
@@ -30,7 +30,7 @@ use Rattle.shgrammar.specs.HereDocuments.{own_level}
 use Rattle.shast.proofs.Going.{row_filled}
 use Rattle.shast.proofs.OpenSame.{first_filled, all_filled}
 use Rattle.shgrammar.specs.Scripts.{AScript, SoFar, is_blank_line, line_from, script_by, script_below, script_on, script_at, nothing_yet}
-use Rattle.shgrammar.proofs.Holds.{tells_with_bytes, tells_level, Holds, Tells, Turned, tells_give, tells_then, tells_token, tells_many, tells_after, tells_ending, tells_pushed, tells_inside}
+use Rattle.shgrammar.proofs.Holds.{tells_with_bytes, tells_level, Holds, Tells, Turned, tells_then, tells_token, tells_many, tells_ending, tells_inside, after, gives, picked_by, pushed_on, stops}
 use Rattle.shast.specs.Nodes.{word_span}
 use Rattle.shgrammar.specs.declared.edition.Edition.{Edition}
 
@@ -218,17 +218,9 @@ module _ (g : Given) where
   abbrev N : {X : Type 0} → Form X → (X → State → Type 0) → State → Type 0
   N r P s = Tells Whole g r P s
 
-  -- what a form gives may be anything
-  after : {X Y : Type 0} {Q : Y → State → Type 0} {r : Form X} {q : X → Form Y} {s : State} →
-      ((x : X) (t : State) → N (q x) Q t) → N (both r q) Q s
-  after rest = tells_after Whole g rest
-
-  -- one more element, and then the rest
-  pushed_on : {A Y : Type 0} {Q : Y → State → Type 0} {xs : Row A} {x : A} {q : Row A → Form Y} {s : State} →
-      N (q (xs ++ x ∷ [])) Q s → N (both (push xs x) q) Q s
-  pushed_on rest = tells_pushed g rest
-
   -- ---- words
+
+  -- Each row of a word: where the substitutions so far are in normal form, so are those with what it adds.
 
   abbrev Substs : WordSoFar → State → Type 0
   Substs h t = are_normal_substs (substs_of h.substs) ≡ true
@@ -245,30 +237,30 @@ module _ (g : Given) where
     normal_opened : (mode : Mode) (b : ℕ) (h : WordSoFar) (s : State) → Substs h s →
         N (opened inner mode b h) (Turned Whole g Substs) s
     normal_opened mode b h s so =
-        tells_then Whole g (fine.construct mode b h.substs s so) (λ zs t good. tells_give Whole g good)
+        tells_then Whole g (fine.construct mode b h.substs s so) (λ zs t good. gives good)
 
     normal_piece_by : (mode : Mode) (b : ℕ) (h : WordSoFar) (piece : Piece) (s : State) → Substs h s →
         N (piece_row inner mode b h piece) (Turned Whole g Substs) s
-    normal_piece_by mode b h pieces.Closer s so = after (λ x t. tells_give Whole g so)
+    normal_piece_by mode b h pieces.Closer s so = after (λ x t. gives so)
     normal_piece_by mode b h pieces.Missing s so = record { told = tt }
     normal_piece_by mode b h pieces.LoneBackslash s so = record { told = tt }
-    normal_piece_by mode b h pieces.Escape s so = after (λ x t. after (λ y u. tells_give Whole g so))
-    normal_piece_by mode b h pieces.Single s so = after (λ x t. tells_give Whole g so)
-    normal_piece_by mode b h pieces.DollarSingle s so = after (λ x t. tells_give Whole g so)
+    normal_piece_by mode b h pieces.Escape s so = after (λ x t. after (λ y u. gives so))
+    normal_piece_by mode b h pieces.Single s so = after (λ x t. gives so)
+    normal_piece_by mode b h pieces.DollarSingle s so = after (λ x t. gives so)
     normal_piece_by mode b h pieces.Double s so = after (λ q t. after (λ x u. normal_opened _ q h u so))
-    normal_piece_by mode b h pieces.Backquote s so = after (λ x t. tells_give Whole g so)
-    normal_piece_by mode b h pieces.Pid s so = after (λ x t. after (λ y u. tells_give Whole g so))
+    normal_piece_by mode b h pieces.Backquote s so = after (λ x t. gives so)
+    normal_piece_by mode b h pieces.Pid s so = after (λ x t. after (λ y u. gives so))
     normal_piece_by mode b h pieces.Subst s so =
         after (λ q t. after (λ x u. after
-        (λ y v. tells_then Whole g (fine.substitution q h.substs v so) (λ zs w good. tells_give Whole g good))))
+        (λ y v. tells_then Whole g (fine.substitution q h.substs v so) (λ zs w good. gives good))))
     normal_piece_by mode b h pieces.Arith s so =
         after (λ q t. after (λ x u. after (λ y v. after (λ z w. normal_opened _ q h w so))))
     normal_piece_by mode b h pieces.Param s so =
         after (λ q t. after (λ x u. after (λ y v. after (λ z w. after (λ m a. normal_opened m q h a so)))))
-    normal_piece_by mode b h pieces.Open s so = after (λ x t. tells_give Whole g so)
-    normal_piece_by mode b h pieces.Close s so = after (λ x t. tells_give Whole g so)
+    normal_piece_by mode b h pieces.Open s so = after (λ x t. gives so)
+    normal_piece_by mode b h pieces.Close s so = after (λ x t. gives so)
     normal_piece_by mode b h pieces.BadClose s so = record { told = tt }
-    normal_piece_by mode b h pieces.Ordinary s so = after (λ x t. tells_give Whole g so)
+    normal_piece_by mode b h pieces.Ordinary s so = after (λ x t. gives so)
 
     normal_piece : (mode : Mode) (b : ℕ) (h : WordSoFar) (s : State) → Substs h s →
         N (a_piece inner mode b h) (Turned Whole g Substs) s
@@ -280,14 +272,14 @@ module _ (g : Given) where
     unfolding contents
     normal_contents mode b ss s so =
         tells_then Whole g (tells_many Whole g (a_piece inner mode b) Substs (normal_piece mode b) (having 0 ss) s so)
-        (λ h t good. tells_give Whole g good)
+        (λ h t good. gives good)
 
     normal_word : (s : State) → N (a_word inner) (λ w t. is_normal_word w ≡ true) s
     unfolding a_word
     normal_word s =
         after (λ p t. tells_then Whole g
         (tells_token Whole g {Q = λ w u. are_normal_substs (substs_of w.0) ≡ true} (normal_contents _ p [] t refl)
-        (λ ss u good. good)) (λ w u good. tells_give Whole g good))
+        (λ ss u good. good)) (λ w u good. gives good))
 
     -- ---- commands
 
@@ -306,21 +298,13 @@ module _ (g : Given) where
     normal_item i position s so =
         tells_then Whole g (normal_word s)
         (λ w t good. pushed_on (after
-        (λ n u. tells_give Whole g (row_more i.items _ i.next.broken so
+        (λ n u. gives (row_more i.items _ i.next.broken so
         (normal_content position (breaks i) w good) refl))))
-
-    normal_pick : {X : Type 0} {P : X → State → Type 0} (b : Bool) {r q : Form X} {s : State} → (b ≡ true → N r P s) →
-        N q P s → N (pick b r q) P s
-    normal_pick true one two = one refl
-    normal_pick false one two = two
-
-    stopped : {X : Type 0} {P : X → State → Type 0} (n : Next) {s : State} → N (unexpected {X = X} inner n) P s
-    stopped n = after (λ w t. record { told = tt })
 
     normal_target : (s : State) → N (a_target inner) (λ w t. is_normal_word w.0 ≡ true) s
     unfolding a_target
-    normal_target s = after (λ n t. normal_pick (is_word n.token)
-        (λ e. tells_with_bytes Whole g (normal_word t) (λ a u so. so)) (stopped n))
+    normal_target s = after (λ n t. picked_by (is_word n.token)
+        (λ e. tells_with_bytes Whole g (normal_word t) (λ a u so. so)) (stops inner n))
 
     -- whatever holds of the items with one more in normal form
     normal_redirect : (P : Items → State → Type 0) (broken : Bool) (position : Position) (is : Row AnItem) (n : Next)
@@ -331,15 +315,15 @@ module _ (g : Given) where
     normal_redirect P broken position is n s more =
         after (λ p t. after (λ d u. after
         (λ o v. tells_then Whole g (normal_target v) (λ w x good. after (λ h a. pushed_on (after (λ m y.
-        tells_give Whole g (more (item broken (redirect d.0 o.0 o.1 w.0 h)) m y good refl))))))))
+        gives (more (item broken (redirect d.0 o.0 o.1 w.0 h)) m y good refl))))))))
 
     normal_item_by : (i : Items) (position : Option Position) (s : State) → NormalRow i.items →
         N (item_by inner i position) (Turned Whole g ItemsSo) s
     normal_item_by i (Some position) s so = normal_item i position s so
     normal_item_by i None s so =
-        normal_pick (begins_redirect i.next.token)
+        picked_by (begins_redirect i.next.token)
         (λ e. normal_redirect ItemsSo (breaks i) (after_redirect i.position) i.items i.next s
-        (λ x m t good is. row_more i.items x i.next.broken so good is)) (tells_give Whole g so)
+        (λ x m t good is. row_more i.items x i.next.broken so good is)) (gives so)
 
     normal_item_turn : (i : Items) (s : State) → NormalRow i.items → N (item_turn inner i) (Turned Whole g ItemsSo) s
     unfolding item_turn
@@ -349,12 +333,12 @@ module _ (g : Given) where
         N (a_simple inner i) (λ c t. is_normal_command c.0 ≡ true) s
     unfolding a_simple
     normal_simple i s so = tells_then Whole g (tells_many Whole g (item_turn inner) ItemsSo normal_item_turn i s so)
-        (λ is t good. tells_give Whole g (and_from _ _ good.first good.all))
+        (λ is t good. gives (and_from _ _ good.first good.all))
 
     normal_with : (cs : Row Span) (c : Option Span) (broken : Bool) (s : State) → broken_by cs broken ≡ true →
         N (with_comment cs c) (λ ds t. broken_by ds (broken || is_some c) ≡ true) s
     normal_with cs (Some c) broken s so = record { told = all_broken (cs ++ c ∷ []) _ (or-true broken) }
-    normal_with cs None broken s so = tells_give Whole g (still_broken cs broken false so)
+    normal_with cs None broken s so = gives (still_broken cs broken false so)
 
     abbrev JoinHolds : JoinSo → State → Type 0
     JoinHolds j t = is_normal_join j.join ≡ true
@@ -369,12 +353,12 @@ module _ (g : Given) where
     unfolding join_turn
     normal_join_turn j s so =
         after (λ c t. tells_then Whole g (normal_with j.join.comments c.0 j.join.broken t so)
-        (λ cs u good. after (λ l v. tells_give Whole g (join_holds l.0 _ v (still_broken cs _ l.0 good)))))
+        (λ cs u good. after (λ l v. gives (join_holds l.0 _ v (still_broken cs _ l.0 good)))))
 
     normal_join : (broken : Bool) (s : State) → N (a_join broken) (λ x t. is_normal_join x.0 ≡ true) s
     unfolding a_join
     normal_join broken s = after (λ n t. tells_then Whole g
-        (tells_many Whole g join_turn JoinHolds normal_join_turn _ t refl) (λ j u good. tells_give Whole g good))
+        (tells_many Whole g join_turn JoinHolds normal_join_turn _ t refl) (λ j u good. gives good))
 
     abbrev RedirectsSo : Items → State → Type 0
     RedirectsSo i t = are_normal_items (items_of i.items) ≡ true
@@ -383,9 +367,9 @@ module _ (g : Given) where
         N (redirect_turn inner i) (Turned Whole g RedirectsSo) s
     unfolding redirect_turn
     normal_redirect_turn i s so =
-        normal_pick (begins_redirect i.next.token)
+        picked_by (begins_redirect i.next.token)
         (λ e. normal_redirect RedirectsSo i.next.broken Command i.items i.next s
-        (λ x m t good is. items_more i.items x so good)) (tells_give Whole g so)
+        (λ x m t good is. items_more i.items x so good)) (gives so)
 
     normal_with_redirects : (c : ACommand) (is : ItemsOf Span Span) → is_normal_command c ≡ true →
         are_normal_items is ≡ true → is_normal_command (with_redirects c is) ≡ true
@@ -399,27 +383,27 @@ module _ (g : Given) where
     normal_with_redirect_list c s one =
         tells_then Whole g (tells_many Whole g (redirect_turn inner) RedirectsSo normal_redirect_turn
         (so_many [] Command c.1) s refl)
-        (λ r t all. tells_give Whole g (normal_with_redirects c.0 (items_of r.items) one all))
+        (λ r t all. gives (normal_with_redirects c.0 (items_of r.items) one all))
 
     normal_compound_by : (n : Next) (o : Option Opener) (s : State) →
         N (compound_by inner n o) (λ c t. is_normal_command c.0 ≡ true) s
     normal_compound_by n (Some o) s = tells_then Whole g (fine.compound o s) normal_with_redirect_list
-    normal_compound_by n None s = stopped n
+    normal_compound_by n None s = stops inner n
 
     normal_word_command : (s : State) → N (a_word_command inner) (λ c t. is_normal_command c.0 ≡ true) s
     unfolding a_word_command
     normal_word_command s =
         after (λ good t. tells_then Whole g (normal_word t) (λ w u so. after (λ n v.
-        normal_pick (is_paren n.token)
-        (λ e. normal_pick good (λ f. fine.function (word_span w) v) (record { told = tt }))
+        picked_by (is_paren n.token)
+        (λ e. picked_by good (λ f. fine.function (word_span w) v) (record { told = tt }))
         (pushed_on (normal_simple (so_many (item false (argument w) ∷ []) Suffix n) v
         (row_more [] (item false (argument w)) false no_items so refl))))))
 
     normal_command : (n : Next) (s : State) → N (a_command inner n) (λ c t. is_normal_command c.0 ≡ true) s
     unfolding a_command
     normal_command n s =
-        normal_pick (is_word n.token) (λ e. normal_word_command s)
-        (normal_pick (begins_simple n.token) (λ e. normal_simple (so_many [] Command n) s no_items)
+        picked_by (is_word n.token) (λ e. normal_word_command s)
+        (picked_by (begins_simple n.token) (λ e. normal_simple (so_many [] Command n) s no_items)
         (normal_compound_by n (opener_of n.token) s))
 
     abbrev PipedHolds : Piped → State → Type 0
@@ -431,12 +415,12 @@ module _ (g : Given) where
     normal_one_command p s so =
         after (λ x t. tells_then Whole g (normal_join p.next.broken t)
         (λ j u good. tells_then Whole g (normal_command j.1 u)
-        (λ c v fine. pushed_on (tells_give Whole g (pipes_more p.parts _ so good fine)))))
+        (λ c v fine. pushed_on (gives (pipes_more p.parts _ so good fine)))))
 
     normal_pipe_turn : (p : Piped) (s : State) → PipedHolds p s → N (pipe_turn inner p) (Turned Whole g PipedHolds) s
     unfolding pipe_turn
-    normal_pipe_turn p s so = normal_pick (is_pipe p.next.token) (λ e. normal_one_command p s so)
-        (tells_give Whole g so)
+    normal_pipe_turn p s so = picked_by (is_pipe p.next.token) (λ e. normal_one_command p s so)
+        (gives so)
 
     normal_pipeline : (n : Next) (s : State) → N (a_pipeline inner n) (λ p t. is_normal_pipeline p.0 ≡ true) s
     unfolding a_pipeline
@@ -444,7 +428,7 @@ module _ (g : Given) where
         after (λ b t. tells_then Whole g (normal_command b.1 t)
         (λ c u good. tells_then Whole g
         (tells_many Whole g (pipe_turn inner) PipedHolds normal_pipe_turn (piped [] c.1) u refl)
-        (λ p v all. tells_give Whole g (and_from _ _ good all))))
+        (λ p v all. gives (and_from _ _ good all))))
 
     abbrev JoinedHolds : Joined → State → Type 0
     JoinedHolds a t = are_normal_and_ors (and_or_parts_of a.parts) ≡ true
@@ -455,12 +439,12 @@ module _ (g : Given) where
     normal_one_pipeline a o s so =
         after (λ x u. tells_then Whole g (normal_join a.next.broken u)
         (λ j v good. tells_then Whole g (normal_pipeline j.1 v)
-        (λ p w fine. pushed_on (tells_give Whole g (joined_more a.parts _ so good fine)))))
+        (λ p w fine. pushed_on (gives (joined_more a.parts _ so good fine)))))
 
     normal_joined_by : (a : Joined) (o : Option AndOrOperator) (s : State) → JoinedHolds a s →
         N (joined_by inner a o) (Turned Whole g JoinedHolds) s
     normal_joined_by a (Some o) s so = normal_one_pipeline a o s so
-    normal_joined_by a None s so = tells_give Whole g so
+    normal_joined_by a None s so = gives so
 
     normal_and_or_turn : (a : Joined) (s : State) → JoinedHolds a s →
         N (and_or_turn inner a) (Turned Whole g JoinedHolds) s
@@ -473,14 +457,14 @@ module _ (g : Given) where
         tells_then Whole g (normal_pipeline n s)
         (λ p t good. tells_then Whole g
         (tells_many Whole g (and_or_turn inner) JoinedHolds normal_and_or_turn (joined_so [] p.1) t refl)
-        (λ a u all. tells_give Whole g (and_from _ _ good all)))
+        (λ a u all. gives (and_from _ _ good all)))
 
     normal_entry : (blank : Bool) (n : Next) (s : State) →
         N (an_entry inner blank n) (λ e t. (is_normal_entry e.entry ≡ true) × (is_command e.entry ≡ true)
         × (is_blank_entry e.entry ≡ blank)) s
     unfolding an_entry
     normal_entry blank n s = tells_then Whole g (normal_and_or n s)
-        (λ a t good. after (λ z u. after (λ c v. tells_give Whole g (good, refl, refl))))
+        (λ a t good. after (λ z u. after (λ c v. gives (good, refl, refl))))
 
     -- ---- lists
 
@@ -498,19 +482,19 @@ module _ (g : Given) where
       unfolding one_entry
       normal_one_entry l s so =
           tells_then Whole g (normal_entry _ l.next s)
-          (λ e t good. pushed_on (tells_give Whole g
+          (λ e t good. pushed_on (gives
           (step_holds (is_some e.parted) _ t (command_more blank l.list e.entry e.parted so good.0 good.1 good.2))))
 
       normal_entry_turn : (l : ListSo) (s : State) → NormalList blank l.list →
           N (entry_turn inner l) (Turned Whole g ListHolds) s
       unfolding entry_turn
-      normal_entry_turn l s so = normal_pick (begins_pipeline l.next.token) (λ e. normal_one_entry l s so)
-          (tells_give Whole g so)
+      normal_entry_turn l s so = picked_by (begins_pipeline l.next.token) (λ e. normal_one_entry l s so)
+          (gives so)
 
       normal_remark_by : (l : ListSo) (x : Option Span × Next) (s : State) → NormalList blank l.list →
           N (remark_by l x) ListHolds s
-      normal_remark_by l (Some c, n) s so = pushed_on (tells_give Whole g (remark_more blank l.list _ so refl refl))
-      normal_remark_by l (None, n) s so = tells_give Whole g so
+      normal_remark_by l (Some c, n) s so = pushed_on (gives (remark_more blank l.list _ so refl refl))
+      normal_remark_by l (None, n) s so = gives so
 
       normal_on_line : (l : ListSo) (s : State) → NormalList blank l.list → N (on_line inner l) ListHolds s
       unfolding on_line a_remark
@@ -522,7 +506,7 @@ module _ (g : Given) where
           N (list_turn inner l) (Turned Whole g ListHolds) s
       unfolding list_turn
       normal_list_turn l s so = tells_then Whole g (normal_on_line l s so)
-          (λ m t good. after (λ x u. tells_give Whole g (step_holds x.0 _ u (newline_more blank m.list good))))
+          (λ m t good. after (λ x u. gives (step_holds x.0 _ u (newline_more blank m.list good))))
 
       normal_open_line : (s : State) →
           N (an_open_line inner blank)
@@ -530,7 +514,7 @@ module _ (g : Given) where
       unfolding an_open_line
       normal_open_line s = after (λ n t. tells_then Whole g
           (normal_on_line (list_so (none_listed blank) n) t (no_entries blank))
-          (λ l u so. after (λ newline v. tells_give Whole g (so.first, so.all))))
+          (λ l u so. after (λ newline v. gives (so.first, so.all))))
 
       -- bodies change nothing
       pub normal_line : (s : State) →
@@ -541,7 +525,7 @@ module _ (g : Given) where
           tells_then Whole g {P = λ l t. (blank ≡ false → first_not_blank (entries_of l.0.0) ≡ true)
           × (are_normal (entries_of l.0.0) ≡ true)}
           (tells_level Whole g (normal_open_line (own_level s)) (λ x t so. so))
-          (λ l t so. tells_give Whole g (
+          (λ l t so. gives (
             λ e. ap first_not_blank (row_filled l.1 l.0.0) ∙ first_filled l.1 (entries_of l.0.0) ∙ so.0 e,
             ap are_normal (row_filled l.1 l.0.0) ∙ all_filled l.1 (entries_of l.0.0) ∙ so.1,
           ))
@@ -555,8 +539,8 @@ module _ (g : Given) where
     normal_list n s =
         tells_then Whole g (tells_many Whole g (list_turn inner) (ListHolds false) (normal_list_turn false)
         (list_so (none_listed false) n) s (no_entries false))
-        (λ l t so. normal_pick l.list.commands
-        (λ e. tells_give Whole g (and_from _ _ (so.command e) (so.first refl), so.all)) (stopped l.next))
+        (λ l t so. picked_by l.list.commands
+        (λ e. gives (and_from _ _ (so.command e) (so.first refl), so.all)) (stops inner l.next))
 
     -- ---- compound commands
 
@@ -565,7 +549,7 @@ module _ (g : Given) where
     normal_branch n s =
         tells_then Whole g (normal_list n s)
         (λ c t one. after (λ k u. tells_then Whole g (normal_list k.1 u)
-        (λ b v two. tells_give Whole g (and_from _ _ (and_from _ _ (and_from _ _ one.0 one.1) two.0) two.1))))
+        (λ b v two. gives (and_from _ _ (and_from _ _ (and_from _ _ one.0 one.1) two.0) two.1))))
 
     abbrev BranchesHold : Branched → State → Type 0
     BranchesHold b t = are_normal_branches (branches_of b.branches) ≡ true
@@ -573,18 +557,18 @@ module _ (g : Given) where
     normal_elif : (b : Branched) (s : State) → BranchesHold b s → N (elif_turn inner b) (Turned Whole g BranchesHold) s
     unfolding elif_turn
     normal_elif b s so =
-        normal_pick (is_closing closings.Elif b.next.token)
+        picked_by (is_closing closings.Elif b.next.token)
         (λ e. after (λ k t. tells_then Whole g (normal_branch k.1 t)
-        (λ x u good. pushed_on (tells_give Whole g (branches_more b.branches x.0 so good)))))
-        (tells_give Whole g so)
+        (λ x u good. pushed_on (gives (branches_more b.branches x.0 so good)))))
+        (gives so)
 
     normal_else : (n : Next) (s : State) → N (an_else inner n) (λ x t. is_normal_else x.0 ≡ true) s
     unfolding an_else
     normal_else n s =
-        normal_pick (is_closing closings.Else n.token)
+        picked_by (is_closing closings.Else n.token)
         (λ e. after (λ k t. tells_then Whole g (normal_list k.1 t)
-        (λ l u good. tells_give Whole g (and_from _ _ good.0 good.1))))
-        (tells_give Whole g refl)
+        (λ l u good. gives (and_from _ _ good.0 good.1))))
+        (gives refl)
 
     abbrev FormHolds : Closed AForm → State → Type 0
     FormHolds f t = is_normal_form f.what ≡ true
@@ -596,44 +580,44 @@ module _ (g : Given) where
         (λ f t one. tells_then Whole g
         (tells_many Whole g (elif_turn inner) BranchesHold normal_elif (branched [] f.1) t refl)
         (λ b u all. tells_then Whole g (normal_else b.next u)
-        (λ e v other. after (λ c w. tells_give Whole g (and_from _ _ (and_from _ _ one all) other)))))
+        (λ e v other. after (λ c w. gives (and_from _ _ (and_from _ _ one all) other)))))
 
     normal_loop : (n : Next) (s : State) → N (a_loop inner n) (λ x t. is_normal_branch x.what ≡ true) s
     unfolding a_loop
     normal_loop n s =
         tells_then Whole g (normal_list n s)
         (λ c t one. after (λ d u. tells_then Whole g (normal_list d.1 u)
-        (λ b v two. after (λ e w. tells_give Whole g
+        (λ b v two. after (λ e w. gives
         (and_from _ _ (and_from _ _ (and_from _ _ one.0 one.1) two.0) two.1)))))
 
     normal_group : (c : Closing) (n : Next) (s : State) → N (a_group inner c n) (HasCommand (λ x. x.what)) s
     unfolding a_group
-    normal_group c n s = tells_then Whole g (normal_list n s) (λ l t good. after (λ k u. tells_give Whole g good))
+    normal_group c n s = tells_then Whole g (normal_list n s) (λ l t good. after (λ k u. gives good))
 
     normal_for_name : (n : Next) (s : State) → N (a_for_name inner n) (λ x t. is_normal_word x.0 ≡ true) s
     unfolding a_for_name
     normal_for_name n s =
-        normal_pick (begins_word n.token)
+        picked_by (begins_word n.token)
         (λ e. after (λ p t. after (λ good u. tells_then Whole g (normal_word u)
-        (λ w v so. normal_pick good (λ f. after (λ m z. tells_give Whole g so)) (record { told = tt })))))
-        (stopped n)
+        (λ w v so. picked_by good (λ f. after (λ m z. gives so)) (record { told = tt })))))
+        (stops inner n)
 
     normal_word_turn : (i : Items) (s : State) → NormalRow i.items → N (word_turn inner i) (Turned Whole g ItemsSo) s
     unfolding word_turn
-    normal_word_turn i s so = normal_pick (is_word i.next.token) (λ e. normal_item i Suffix s so)
-        (tells_give Whole g so)
+    normal_word_turn i s so = picked_by (is_word i.next.token) (λ e. normal_item i Suffix s so)
+        (gives so)
 
     normal_for_words : (cs : Row Span) (s : State) → N (for_words inner cs) (λ h t. are_normal_words h.words ≡ true) s
     unfolding for_words
     normal_for_words cs s =
         after (λ i t. tells_then Whole g
         (tells_many Whole g (word_turn inner) ItemsSo normal_word_turn (so_many [] Suffix i.1) t no_items)
-        (λ ws u good. after (λ l v. tells_give Whole g (and_from _ _ good.first good.all))))
+        (λ ws u good. after (λ l v. gives (and_from _ _ good.first good.all))))
 
     normal_for_head : (n : Next) (s : State) → N (a_for_head inner n) (λ h t. are_normal_words h.words ≡ true) s
     unfolding a_for_head
     normal_for_head n s = after (λ x t. after
-        (λ l u. normal_pick _ (λ e. normal_for_words l.join.comments u) (tells_give Whole g refl)))
+        (λ l u. picked_by _ (λ e. normal_for_words l.join.comments u) (gives refl)))
 
     normal_for : (n : Next) (s : State) → N (a_for inner n) FormHolds s
     unfolding a_for
@@ -641,14 +625,14 @@ module _ (g : Given) where
         tells_then Whole g (normal_for_name n s)
         (λ x t one. tells_then Whole g (normal_for_head x.1 t)
         (λ h u two. after (λ d v. tells_then Whole g (normal_group closings.Done d.1 v)
-        (λ b w body. tells_give Whole g
+        (λ b w body. gives
         (and_from _ _ (and_from _ _ (and_from _ _ one two) (whole_after h.comments b.what body.0))
         (normal_after h.comments b.what body.1))))))
 
     normal_case_word : (n : Next) (s : State) → N (a_case_word inner n) (λ x t. is_normal_word x.0 ≡ true) s
     unfolding a_case_word
-    normal_case_word n s = normal_pick (begins_word n.token)
-        (λ e. tells_then Whole g (normal_word s) (λ w t so. after (λ m u. tells_give Whole g so))) (stopped n)
+    normal_case_word n s = picked_by (begins_word n.token)
+        (λ e. tells_then Whole g (normal_word s) (λ w t so. after (λ m u. gives so))) (stops inner n)
 
     abbrev PatternsHold : Patterned → State → Type 0
     PatternsHold p t = are_normal_patterns (patterns_of p.patterns) ≡ true
@@ -657,28 +641,28 @@ module _ (g : Given) where
         N (a_pattern inner ws) PatternsHold s
     unfolding a_pattern
     normal_pattern ws s all = tells_then Whole g (normal_word s)
-        (λ w t good. pushed_on (after (λ n u. tells_give Whole g (patterns_more ws w all good))))
+        (λ w t good. pushed_on (after (λ n u. gives (patterns_more ws w all good))))
 
     normal_one_pattern : (ws : Row AWord) (s : State) → are_normal_patterns (patterns_of ws) ≡ true →
         N (one_pattern inner ws) (Turned Whole g PatternsHold) s
     unfolding one_pattern
     normal_one_pattern ws s all =
-        after (λ x t. after (λ n u. normal_pick (begins_word n.token)
-        (λ e. tells_then Whole g (normal_pattern ws u all) (λ p v so. tells_give Whole g so)) (stopped n)))
+        after (λ x t. after (λ n u. picked_by (begins_word n.token)
+        (λ e. tells_then Whole g (normal_pattern ws u all) (λ p v so. gives so)) (stops inner n)))
 
     normal_pattern_turn : (p : Patterned) (s : State) → PatternsHold p s →
         N (pattern_turn inner p) (Turned Whole g PatternsHold) s
     unfolding pattern_turn
-    normal_pattern_turn p s so = normal_pick (is_pipe p.next.token) (λ e. normal_one_pattern p.patterns s so)
-        (tells_give Whole g so)
+    normal_pattern_turn p s so = picked_by (is_pipe p.next.token) (λ e. normal_one_pattern p.patterns s so)
+        (gives so)
 
     normal_patterns : (n : Next) (s : State) → N (a_pattern_list inner n) PatternsHold s
     unfolding a_pattern_list
     normal_patterns n s =
-        normal_pick (begins_pattern n.token)
+        picked_by (begins_pattern n.token)
         (λ e. tells_then Whole g (normal_pattern [] s refl)
         (λ p t so. tells_many Whole g (pattern_turn inner) PatternsHold normal_pattern_turn p t so))
-        (stopped n)
+        (stops inner n)
 
     normal_body : (n : Next) (s : State) → N (a_body inner n) (ListHolds false) s
     unfolding a_body
@@ -694,18 +678,18 @@ module _ (g : Given) where
         after (λ p t. after (λ n u. tells_then Whole g (normal_patterns n u)
         (λ ps v one. after (λ k w. tells_then Whole g (normal_body k.1 w)
         (λ b x two. after (λ e y. pushed_on
-        (tells_give Whole g (cases_more c.items _ so
+        (gives (cases_more c.items _ so
         (and_from _ _ (and_from _ _ one (two.first refl)) two.all)))))))))
 
     normal_case_turn : (c : CasesSo) (s : State) → CasesHold c s → N (case_turn inner c) (Turned Whole g CasesHold) s
     unfolding case_turn
-    normal_case_turn c s so = normal_pick (is_closing closings.Esac c.next.token) (λ e. tells_give Whole g so)
+    normal_case_turn c s so = picked_by (is_closing closings.Esac c.next.token) (λ e. gives so)
         (normal_one_case c s so)
 
     normal_case_head : (n : Next) (s : State) → N (a_case_head inner n) (λ h t. is_normal_word h.0 ≡ true) s
     unfolding a_case_head
     normal_case_head n s = tells_then Whole g (normal_case_word n s)
-        (λ w t so. after (λ l u. after (λ i v. after (λ h x. tells_give Whole g so))))
+        (λ w t so. after (λ l u. after (λ i v. after (λ h x. gives so))))
 
     normal_case : (n : Next) (s : State) → N (a_case inner n) FormHolds s
     unfolding a_case
@@ -713,25 +697,25 @@ module _ (g : Given) where
         tells_then Whole g (normal_case_head n s)
         (λ h t one. tells_then Whole g
         (tells_many Whole g (case_turn inner) CasesHold normal_case_turn (cases_so [] h.1 h.2) t refl)
-        (λ c u all. after (λ e v. tells_give Whole g (and_from _ _ one all))))
+        (λ c u all. after (λ e v. gives (and_from _ _ one all))))
 
     normal_form_by : (o : Opener) (n : Next) (s : State) → N (a_form inner o n) FormHolds s
     normal_form_by openers.Brace n s =
         tells_then Whole g (normal_group closings.Brace n s)
-        (λ l t good. tells_give Whole g (and_from _ _ good.0 good.1))
+        (λ l t good. gives (and_from _ _ good.0 good.1))
     normal_form_by openers.Paren n s =
         tells_then Whole g (normal_group closings.Paren n s)
-        (λ l t good. tells_give Whole g (and_from _ _ good.0 good.1))
+        (λ l t good. gives (and_from _ _ good.0 good.1))
     normal_form_by openers.If n s = normal_if n s
-    normal_form_by openers.While n s = tells_then Whole g (normal_loop n s) (λ l t good. tells_give Whole g good)
-    normal_form_by openers.Until n s = tells_then Whole g (normal_loop n s) (λ l t good. tells_give Whole g good)
+    normal_form_by openers.While n s = tells_then Whole g (normal_loop n s) (λ l t good. gives good)
+    normal_form_by openers.Until n s = tells_then Whole g (normal_loop n s) (λ l t good. gives good)
     normal_form_by openers.For n s = normal_for n s
     normal_form_by openers.Case n s = normal_case n s
 
     normal_compound : (o : Opener) (s : State) → N (a_compound inner o) (λ c t. is_normal_command c.0 ≡ true) s
     unfolding a_compound
     normal_compound o s = after (λ x t. tells_then Whole g (normal_form_by o x.1 t)
-        (λ f u good. pushed_on (tells_give Whole g (and_from _ _ good refl))))
+        (λ f u good. pushed_on (gives (and_from _ _ good refl))))
 
     -- ---- substitutions
 
@@ -742,8 +726,8 @@ module _ (g : Given) where
         after (λ n t. tells_then Whole g
         (tells_many Whole g (list_turn inner) (ListHolds false) (normal_list_turn false)
         (list_so (none_listed false) n) t (no_entries false))
-        (λ l u so. normal_pick (is_closing closings.Paren l.next.token)
-        (λ e. after (λ w z. after (λ x v. tells_give Whole g (so.first refl, so.all)))) (stopped l.next)))
+        (λ l u so. picked_by (is_closing closings.Paren l.next.token)
+        (λ e. after (λ w z. after (λ x v. gives (so.first refl, so.all)))) (stops inner l.next)))
 
     normal_substitution : (b : ℕ) (ss : Row ASubst) (s : State) → are_normal_substs (substs_of ss) ≡ true →
         N (a_substitution inner b ss) (λ zs t. are_normal_substs (substs_of zs) ≡ true) s
@@ -769,7 +753,7 @@ module _ (g : Given) where
     normal_function name s =
         after (λ o t. after (λ c u. after
         (λ l v. tells_then Whole g (normal_compound_by l.next (opener_of l.next.token) v)
-        (λ b w good. tells_give Whole g (normal_under name l.join.comments b.0 good)))))
+        (λ b w good. gives (normal_under name l.join.comments b.0 good)))))
 
   normal_level : (room : ℕ) → Fine (level room)
   unfolding level

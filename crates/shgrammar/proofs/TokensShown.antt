@@ -1,5 +1,5 @@
 -- The token that a row hands on is the one that begins where the reading stands then.
-use Rattle.std.proofs.Common.{◌≡◌, ℕ, zero, suc, ◌==◌, Bool, true, false, cond, List, List as Row, [], ◌∷◌, ◌++◌, Option, Some, None, is_some, refl, sym, subst, ◌∙◌, arith, ap}
+use Rattle.std.proofs.Common.{◌≡◌, ℕ, zero, suc, ◌==◌, Bool, true, false, cond, List, List as Row, [], Option, Some, None, is_some, refl, sym, subst, ◌∙◌, arith, ap}
 use Rattle.std.proofs.lemmas.Bool.Decides.{nat_tests}
 use Rattle.shgrammar.specs.declared.keep.Keep.TheVariants.{Whole}
 use Rattle.shgrammar.specs.declared.token.Closing.{Closing}
@@ -23,30 +23,20 @@ use Rattle.shgrammar.specs.Characters.{right_parenthesis, semicolon, ampersand, 
 use Rattle.shgrammar.specs.Comments.{comment_at}
 use Rattle.shgrammar.specs.Tokens.{begins_assignment, first_word, is_number, reserved_at, is_later, token_at, token_in, token_of, word_by, word_of}
 use Rattle.shgrammar.specs.Sights.{Given, State}
-use Rattle.shgrammar.specs.Form.{Spelled, Form, push, both, many, step_if}
+use Rattle.shgrammar.specs.Form.{Spelled, Form, many, step_if}
 use Rattle.shgrammar.specs.Words.{Inner}
-use Rattle.shgrammar.specs.Commands.{pick, next_token, is_newline_token, is_semicolon, a_semicolon, is_pipe, is_bang, begins_simple, begins_word, begins_redirect, begins_pipeline, opener_of, compound_by, and_or_operator_of, Items, so_many, breaks, after_word, one_redirect, after_redirect, redirect_turn, with_redirect_list, an_item, item_by, item_turn, a_simple, unexpected, comment_by, a_comment, a_newline, with_comment, JoinSo, join_turn, a_join, a_command, a_bang, Piped, piped, one_command, pipe_turn, a_pipeline, Joined, joined_so, one_pipeline, joined_by, and_or_turn, an_and_or, separator_of, separator_by, a_separator, an_entry, is_paren, is_word, a_word_command, ends_item, falls_through}
+use Rattle.shgrammar.specs.Commands.{next_token, is_newline_token, is_semicolon, a_semicolon, is_pipe, is_bang, begins_simple, begins_word, begins_redirect, begins_pipeline, opener_of, compound_by, and_or_operator_of, Items, so_many, breaks, after_word, one_redirect, after_redirect, redirect_turn, with_redirect_list, an_item, item_by, item_turn, a_simple, comment_by, a_comment, a_newline, with_comment, JoinSo, join_turn, a_join, a_command, a_bang, Piped, piped, one_command, pipe_turn, a_pipeline, Joined, joined_so, one_pipeline, joined_by, and_or_turn, an_and_or, separator_of, separator_by, a_separator, an_entry, is_paren, is_word, a_word_command, ends_item, falls_through}
 use Rattle.shgrammar.specs.Lists.{ListSo, list_so, none_listed, one_entry, entry_turn, remark_by, a_remark, on_line, list_turn, a_list}
 use Rattle.shgrammar.specs.Compounds.{Branched, branched, Closed, is_closing, is_open_paren, is_close_paren, reserved_or_paren, closing, a_branch, elif_turn, an_else, an_if, a_loop, a_group, a_for_name, a_linebreak, a_sequential_sep, Headed, word_turn, for_words, a_for_head, a_for, a_form, a_compound, a_function, a_case_word, begins_pattern, Patterned, a_pattern, one_pattern, pattern_turn, a_pattern_list, a_body, ItemEnd, an_ender, an_item_end, CasesSo, cases_so, one_case, case_turn, a_case_head, a_case}
 use Rattle.shgrammar.specs.Levels.{level}
 use Rattle.shgrammar.proofs.Shown.{blanks_still}
-use Rattle.shgrammar.proofs.Holds.{Tells, Turned, tells_give, tells_then, tells_many, tells_after, tells_seen, tells_pushed}
+use Rattle.shgrammar.proofs.Holds.{Tells, Turned, tells_then, tells_many, after, gives, picked, pushed_on, sees, stops}
 use Rattle.shgrammar.specs.declared.edition.Edition.{Edition}
 
 module _ (g : Given) where
   -- P holds of what r reads with its tree, and of the state there
   abbrev N : {X : Type 0} → Form X → (X → State → Type 0) → State → Type 0
   N r P s = Tells Whole g r P s
-
-  -- what a form gives may be anything
-  after : {X Y : Type 0} {Q : Y → State → Type 0} {r : Form X} {q : X → Form Y} {s : State} →
-      ((x : X) (t : State) → N (q x) Q t) → N (both r q) Q s
-  after rest = tells_after Whole g rest
-
-  -- one more element, and then the rest
-  pushed_on : {A Y : Type 0} {Q : Y → State → Type 0} {xs : Row A} {x : A} {q : Row A → Form Y} {s : State} →
-      N (q (xs ++ x ∷ [])) Q s → N (both (push xs x) q) Q s
-  pushed_on rest = tells_pushed g rest
 
   -- this token begins here, in some position of a command
   abbrev pub Begins : Next → State → Type 0
@@ -55,12 +45,6 @@ module _ (g : Given) where
 
   abbrev pub HandsOn : {X : Type 0} → X × Next → State → Type 0
   HandsOn x t = Begins x.1 t
-
-  -- one form, or the other
-  picked : {X : Type 0} {P : X → State → Type 0} (b : Bool) {r q : Form X} {s : State} → N r P s → N q P s →
-      N (pick b r q) P s
-  picked true one two = one
-  picked false one two = two
 
   -- ---- tokens, comments and separators
 
@@ -72,29 +56,29 @@ module _ (g : Given) where
 
   shown_comment : (n : Next) (s : State) → Begins n s → N (a_comment n) HandsOn s
   unfolding a_comment
-  shown_comment n s so = tells_seen Whole g (by_comment (comment_at g.text g.offset s.at))
+  shown_comment n s so = sees (by_comment (comment_at g.text g.offset s.at))
     where
       by_comment : (c : Option Span) → N (comment_by n c) HandsOn s
       by_comment (Some c) = after (λ x t. tells_then Whole g (shown_next Command t)
-          (λ m u good. tells_give Whole g good))
-      by_comment None = tells_give Whole g so
+          (λ m u good. gives good))
+      by_comment None = gives so
 
   shown_newline : (n : Next) (s : State) → Begins n s → N (a_newline n) HandsOn s
   unfolding a_newline
   shown_newline n s so = picked (is_newline_token n.token)
-      (after (λ x t. after (λ y v. tells_then Whole g (shown_next Command v) (λ m u good. tells_give Whole g good))))
-      (tells_give Whole g so)
+      (after (λ x t. after (λ y v. tells_then Whole g (shown_next Command v) (λ m u good. gives good))))
+      (gives so)
 
   shown_semicolon : (n : Next) (s : State) → Begins n s → N (a_semicolon n) HandsOn s
   unfolding a_semicolon
   shown_semicolon n s so = picked (is_semicolon n.token)
-      (after (λ x t. tells_then Whole g (shown_next Command t) (λ m u good. tells_give Whole g good)))
-      (tells_give Whole g so)
+      (after (λ x t. tells_then Whole g (shown_next Command t) (λ m u good. gives good)))
+      (gives so)
 
   shown_separator_by : (n : Next) (o : Option Separator) (s : State) → Begins n s → N (separator_by n o) HandsOn s
   shown_separator_by n (Some x) s so =
-      after (λ y t. tells_then Whole g (shown_next Command t) (λ m u good. tells_give Whole g good))
-  shown_separator_by n None s so = tells_give Whole g so
+      after (λ y t. tells_then Whole g (shown_next Command t) (λ m u good. gives good))
+  shown_separator_by n None s so = gives so
 
   shown_separator : (n : Next) (s : State) → Begins n s → N (a_separator n) HandsOn s
   unfolding a_separator
@@ -110,7 +94,7 @@ module _ (g : Given) where
   -- nothing moves where a comment is kept
   kept_still : (cs : Row Span) (c : Option Span) (s : State) → N (with_comment cs c) (λ ds t. t ≡ s) s
   kept_still cs (Some c) s = record { told = refl }
-  kept_still cs None s = tells_give Whole g refl
+  kept_still cs None s = gives refl
 
   join_step : (p : Bool) (j : JoinSo) (t : State) → Begins j.next t → Turned Whole g JoinShown (step_if p j) t
   join_step true j t so = so
@@ -121,14 +105,14 @@ module _ (g : Given) where
   shown_join_turn j s so =
       tells_then Whole g (shown_comment j.next s so) (λ c t one. tells_then Whole g (kept_still j.join.comments c.0 t)
       (λ cs u still. tells_then Whole g (shown_newline c.1 u (subst (Begins c.1) (sym still) one))
-      (λ l v good. tells_give Whole g (join_step l.0 _ v good))))
+      (λ l v good. gives (join_step l.0 _ v good))))
 
   shown_join : (broken : Bool) (s : State) → N (a_join broken) HandsOn s
   unfolding a_join
   shown_join broken s =
       tells_then Whole g (shown_next Command s)
       (λ n t so. tells_then Whole g (tells_many Whole g join_turn JoinShown shown_join_turn _ t so)
-      (λ j u good. tells_give Whole g good))
+      (λ j u good. gives good))
 
   shown_linebreak : (cs : Row Span) (n : Next) (s : State) → Begins n s → N (a_linebreak cs n) JoinShown s
   unfolding a_linebreak
@@ -144,9 +128,6 @@ module _ (g : Given) where
     pub function : (name : Span) (s : State) → N (inner.function name) HandsOn s
 
   module _ (inner : Inner) (fine : Fine inner) where
-    stopped : {X : Type 0} {P : X → State → Type 0} (n : Next) {s : State} → N (unexpected {X = X} inner n) P s
-    stopped n = after (λ w t. record { told = tt })
-
     abbrev ItemsShown : Items → State → Type 0
     ItemsShown i t = Begins i.next t
 
@@ -157,15 +138,15 @@ module _ (g : Given) where
         after (λ p t. after (λ d u. after
         (λ o v. after (λ w x. after
         (λ h a. after (λ js y. tells_then Whole g (shown_next position y)
-        (λ m z good. tells_give Whole g good)))))))
+        (λ m z good. gives good)))))))
 
     shown_item_by : (i : Items) (o : Option Position) (s : State) → Begins i.next s →
         N (item_by inner i o) (Turned Whole g ItemsShown) s
     unfolding an_item
     shown_item_by i (Some position) s so =
-        after (λ w t. after (λ is u. tells_then Whole g (shown_next position u) (λ n v good. tells_give Whole g good)))
+        after (λ w t. after (λ is u. tells_then Whole g (shown_next position u) (λ n v good. gives good)))
     shown_item_by i None s so = picked (begins_redirect i.next.token)
-        (shown_redirect (breaks i) (after_redirect i.position) i.items i.next s) (tells_give Whole g so)
+        (shown_redirect (breaks i) (after_redirect i.position) i.items i.next s) (gives so)
 
     shown_item_turn : (i : Items) (s : State) → Begins i.next s → N (item_turn inner i) (Turned Whole g ItemsShown) s
     unfolding item_turn
@@ -174,24 +155,24 @@ module _ (g : Given) where
     shown_simple : (i : Items) (s : State) → Begins i.next s → N (a_simple inner i) HandsOn s
     unfolding a_simple
     shown_simple i s so = tells_then Whole g (tells_many Whole g (item_turn inner) ItemsShown shown_item_turn i s so)
-        (λ j t good. tells_give Whole g good)
+        (λ j t good. gives good)
 
     shown_redirect_turn : (i : Items) (s : State) → Begins i.next s →
         N (redirect_turn inner i) (Turned Whole g ItemsShown) s
     unfolding redirect_turn
     shown_redirect_turn i s so = picked (begins_redirect i.next.token)
-        (shown_redirect i.next.broken Command i.items i.next s) (tells_give Whole g so)
+        (shown_redirect i.next.broken Command i.items i.next s) (gives so)
 
     shown_with_redirect_list : (c : ACommand × Next) (s : State) → Begins c.1 s →
         N (with_redirect_list inner c) HandsOn s
     unfolding with_redirect_list
     shown_with_redirect_list c s so =
         tells_then Whole g (tells_many Whole g (redirect_turn inner) ItemsShown shown_redirect_turn
-        (so_many [] Command c.1) s so) (λ r t good. tells_give Whole g good)
+        (so_many [] Command c.1) s so) (λ r t good. gives good)
 
     shown_compound_by : (n : Next) (o : Option Opener) (s : State) → N (compound_by inner n o) HandsOn s
     shown_compound_by n (Some o) s = tells_then Whole g (fine.compound o s) shown_with_redirect_list
-    shown_compound_by n None s = stopped n
+    shown_compound_by n None s = stops inner n
 
     shown_word_command : (s : State) → N (a_word_command inner) HandsOn s
     unfolding a_word_command
@@ -210,8 +191,8 @@ module _ (g : Given) where
     shown_bang : (n : Next) (s : State) → Begins n s → N (a_bang n) HandsOn s
     unfolding a_bang
     shown_bang n s so = picked (is_bang n.token)
-        (after (λ x t. tells_then Whole g (shown_next Command t) (λ m u good. tells_give Whole g good)))
-        (tells_give Whole g so)
+        (after (λ x t. tells_then Whole g (shown_next Command t) (λ m u good. gives good)))
+        (gives so)
 
     abbrev PipedShown : Piped → State → Type 0
     PipedShown p t = Begins p.next t
@@ -220,11 +201,11 @@ module _ (g : Given) where
     unfolding one_command
     shown_one_command p s =
         after (λ x t. tells_then Whole g (shown_join p.next.broken t)
-        (λ j u one. tells_then Whole g (shown_command j.1 u one) (λ c v good. pushed_on (tells_give Whole g good))))
+        (λ j u one. tells_then Whole g (shown_command j.1 u one) (λ c v good. pushed_on (gives good))))
 
     shown_pipe_turn : (p : Piped) (s : State) → Begins p.next s → N (pipe_turn inner p) (Turned Whole g PipedShown) s
     unfolding pipe_turn
-    shown_pipe_turn p s so = picked (is_pipe p.next.token) (shown_one_command p s) (tells_give Whole g so)
+    shown_pipe_turn p s so = picked (is_pipe p.next.token) (shown_one_command p s) (gives so)
 
     shown_pipeline : (n : Next) (s : State) → Begins n s → N (a_pipeline inner n) HandsOn s
     unfolding a_pipeline
@@ -232,7 +213,7 @@ module _ (g : Given) where
         tells_then Whole g (shown_bang n s so) (λ b t one. tells_then Whole g (shown_command b.1 t one)
         (λ c u two. tells_then Whole g
         (tells_many Whole g (pipe_turn inner) PipedShown shown_pipe_turn (piped [] c.1) u two)
-        (λ p v good. tells_give Whole g good)))
+        (λ p v good. gives good)))
 
     abbrev JoinedShown : Joined → State → Type 0
     JoinedShown a t = Begins a.next t
@@ -243,8 +224,8 @@ module _ (g : Given) where
     shown_joined_by a (Some o) s so =
         after (λ x t. tells_then Whole g (shown_join a.next.broken t)
         (λ j u one. tells_then Whole g (shown_pipeline j.1 u one)
-        (λ p v good. pushed_on (tells_give Whole g good))))
-    shown_joined_by a None s so = tells_give Whole g so
+        (λ p v good. pushed_on (gives good))))
+    shown_joined_by a None s so = gives so
 
     shown_and_or_turn : (a : Joined) (s : State) → Begins a.next s →
         N (and_or_turn inner a) (Turned Whole g JoinedShown) s
@@ -257,7 +238,7 @@ module _ (g : Given) where
         tells_then Whole g (shown_pipeline n s so)
         (λ p t one. tells_then Whole g
         (tells_many Whole g (and_or_turn inner) JoinedShown shown_and_or_turn (joined_so [] p.1) t one)
-        (λ a u good. tells_give Whole g good))
+        (λ a u good. gives good))
 
     shown_entry : (blank : Bool) (n : Next) (s : State) → Begins n s →
         N (an_entry inner blank n) (λ e t. Begins e.next t) s
@@ -265,7 +246,7 @@ module _ (g : Given) where
     shown_entry blank n s so =
         tells_then Whole g (shown_and_or n s so)
         (λ a t one. tells_then Whole g (shown_separator a.1 t one)
-        (λ z u two. tells_then Whole g (shown_comment z.1 u two) (λ c v good. tells_give Whole g good)))
+        (λ z u two. tells_then Whole g (shown_comment z.1 u two) (λ c v good. gives good)))
 
     -- ---- lists
 
@@ -281,15 +262,15 @@ module _ (g : Given) where
     shown_one_entry : (l : ListSo) (s : State) → Begins l.next s → N (one_entry inner l) (Turned Whole g ListShown) s
     unfolding one_entry
     shown_one_entry l s so = tells_then Whole g (shown_entry _ l.next s so)
-        (λ e t good. pushed_on (tells_give Whole g (list_step (is_some e.parted) _ t good)))
+        (λ e t good. pushed_on (gives (list_step (is_some e.parted) _ t good)))
 
     shown_entry_turn : (l : ListSo) (s : State) → Begins l.next s → N (entry_turn inner l) (Turned Whole g ListShown) s
     unfolding entry_turn
-    shown_entry_turn l s so = picked (begins_pipeline l.next.token) (shown_one_entry l s so) (tells_give Whole g so)
+    shown_entry_turn l s so = picked (begins_pipeline l.next.token) (shown_one_entry l s so) (gives so)
 
     shown_remark_by : (l : ListSo) (x : Option Span × Next) (s : State) → Begins x.1 s → N (remark_by l x) ListShown s
-    shown_remark_by l (Some c, n) s so = pushed_on (tells_give Whole g so)
-    shown_remark_by l (None, n) s so = tells_give Whole g so
+    shown_remark_by l (Some c, n) s so = pushed_on (gives so)
+    shown_remark_by l (None, n) s so = gives so
 
     pub shown_on_line : (l : ListSo) (s : State) → Begins l.next s → N (on_line inner l) ListShown s
     unfolding on_line a_remark
@@ -302,7 +283,7 @@ module _ (g : Given) where
     unfolding list_turn
     shown_list_turn l s so = tells_then Whole g (shown_on_line l s so)
         (λ m t one. tells_then Whole g (shown_newline m.next t one)
-        (λ x u good. tells_give Whole g (list_step x.0 _ u good)))
+        (λ x u good. gives (list_step x.0 _ u good)))
 
     -- what stands before the end of a list
     pub shown_lines : (n : Next) (s : State) → Begins n s →
@@ -313,7 +294,7 @@ module _ (g : Given) where
     shown_list : (n : Next) (s : State) → Begins n s → N (a_list inner n) HandsOn s
     unfolding a_list
     shown_list n s so = tells_then Whole g (shown_lines n s so)
-        (λ l t good. picked l.list.commands (tells_give Whole g good) (stopped l.next))
+        (λ l t good. picked l.list.commands (gives good) (stops inner l.next))
 
     -- ---- compound commands
 
@@ -323,18 +304,19 @@ module _ (g : Given) where
         N (reserved_or_paren text paren position) HandsOn s
     unfolding reserved_or_paren
     shown_reserved_or_paren text paren position s =
-        after (λ x t. tells_then Whole g (shown_next position t) (λ n u good. tells_give Whole g good))
+        after (λ x t. tells_then Whole g (shown_next position t) (λ n u good. gives good))
 
     shown_closing : (c : Closing) (n : Next) (s : State) → N (closing inner c n) HandsOn s
     unfolding closing
-    shown_closing c n s = picked (is_closing c n.token) (shown_reserved_or_paren _ (is_close_paren c) _ s) (stopped n)
+    shown_closing c n s =
+        picked (is_closing c n.token) (shown_reserved_or_paren _ (is_close_paren c) _ s) (stops inner n)
 
     shown_branch : (n : Next) (s : State) → Begins n s → N (a_branch inner n) HandsOn s
     unfolding a_branch
     shown_branch n s so =
         tells_then Whole g (shown_list n s so)
         (λ c t one. tells_then Whole g (shown_closing closings.Then c.1 t)
-        (λ k u two. tells_then Whole g (shown_list k.1 u two) (λ b v good. tells_give Whole g good)))
+        (λ k u two. tells_then Whole g (shown_list k.1 u two) (λ b v good. gives good)))
 
     abbrev BranchedShown : Branched → State → Type 0
     BranchedShown b t = Begins b.next t
@@ -344,16 +326,16 @@ module _ (g : Given) where
     shown_elif b s so =
         picked (is_closing closings.Elif b.next.token)
         (tells_then Whole g (shown_reserved_or_paren _ false _ s)
-        (λ k t one. tells_then Whole g (shown_branch k.1 t one) (λ x u good. pushed_on (tells_give Whole g good))))
-        (tells_give Whole g so)
+        (λ k t one. tells_then Whole g (shown_branch k.1 t one) (λ x u good. pushed_on (gives good))))
+        (gives so)
 
     shown_else : (n : Next) (s : State) → Begins n s → N (an_else inner n) HandsOn s
     unfolding an_else
     shown_else n s so =
         picked (is_closing closings.Else n.token)
         (tells_then Whole g (shown_reserved_or_paren _ false _ s)
-        (λ k t one. tells_then Whole g (shown_list k.1 t one) (λ l u good. tells_give Whole g good)))
-        (tells_give Whole g so)
+        (λ k t one. tells_then Whole g (shown_list k.1 t one) (λ l u good. gives good)))
+        (gives so)
 
     abbrev ClosedShown : {X : Type 0} → Closed X → State → Type 0
     ClosedShown x t = Begins x.next t
@@ -365,7 +347,7 @@ module _ (g : Given) where
         (λ f t one. tells_then Whole g
         (tells_many Whole g (elif_turn inner) BranchedShown shown_elif (branched [] f.1) t one)
         (λ b u two. tells_then Whole g (shown_else b.next u two)
-        (λ e v three. tells_then Whole g (shown_closing closings.Fi e.1 v) (λ c w good. tells_give Whole g good))))
+        (λ e v three. tells_then Whole g (shown_closing closings.Fi e.1 v) (λ c w good. gives good))))
 
     shown_loop : (n : Next) (s : State) → Begins n s → N (a_loop inner n) ClosedShown s
     unfolding a_loop
@@ -373,27 +355,27 @@ module _ (g : Given) where
         tells_then Whole g (shown_list n s so) (λ c t one. tells_then Whole g (shown_closing closings.Do c.1 t)
         (λ d u two. tells_then Whole g (shown_list d.1 u two)
         (λ b v three. tells_then Whole g (shown_closing closings.Done b.1 v)
-        (λ e w good. tells_give Whole g good))))
+        (λ e w good. gives good))))
 
     shown_group : (c : Closing) (n : Next) (s : State) → Begins n s → N (a_group inner c n) ClosedShown s
     unfolding a_group
     shown_group c n s so = tells_then Whole g (shown_list n s so)
-        (λ l t one. tells_then Whole g (shown_closing c l.1 t) (λ k u good. tells_give Whole g good))
+        (λ l t one. tells_then Whole g (shown_closing c l.1 t) (λ k u good. gives good))
 
     shown_for_name : (n : Next) (s : State) → N (a_for_name inner n) HandsOn s
     unfolding a_for_name
     shown_for_name n s =
         picked (begins_word n.token)
         (after (λ p t. after (λ good u. after
-        (λ w v. picked good (tells_then Whole g (shown_next Command v) (λ m z so. tells_give Whole g so))
+        (λ w v. picked good (tells_then Whole g (shown_next Command v) (λ m z so. gives so))
         (record { told = tt })))))
-        (stopped n)
+        (stops inner n)
 
     shown_sep : (cs : Row Span) (n : Next) (s : State) → Begins n s → N (a_sequential_sep inner cs n) JoinShown s
     unfolding a_sequential_sep
     shown_sep cs n s so = tells_then Whole g (shown_semicolon n s so)
         (λ x t one. tells_then Whole g (shown_linebreak cs x.1 t one)
-        (λ l u good. picked _ (tells_give Whole g good) (stopped l.next)))
+        (λ l u good. picked _ (gives good) (stops inner l.next)))
 
     abbrev HeadShown : Headed → State → Type 0
     HeadShown h t = Begins h.next t
@@ -401,8 +383,8 @@ module _ (g : Given) where
     shown_word_turn : (i : Items) (s : State) → Begins i.next s → N (word_turn inner i) (Turned Whole g ItemsShown) s
     unfolding word_turn an_item
     shown_word_turn i s so = picked (is_word i.next.token)
-        (after (λ w t. after (λ is u. tells_then Whole g (shown_next Suffix u) (λ n v good. tells_give Whole g good))))
-        (tells_give Whole g so)
+        (after (λ w t. after (λ is u. tells_then Whole g (shown_next Suffix u) (λ n v good. gives good))))
+        (gives so)
 
     shown_for_words : (cs : Row Span) (s : State) → N (for_words inner cs) HeadShown s
     unfolding for_words
@@ -410,14 +392,14 @@ module _ (g : Given) where
         tells_then Whole g (shown_reserved_or_paren _ false _ s)
         (λ i t one. tells_then Whole g
         (tells_many Whole g (word_turn inner) ItemsShown shown_word_turn (so_many [] Suffix i.1) t one)
-        (λ ws u two. tells_then Whole g (shown_sep cs ws.next u two) (λ l v good. tells_give Whole g good)))
+        (λ ws u two. tells_then Whole g (shown_sep cs ws.next u two) (λ l v good. gives good)))
 
     shown_for_head : (n : Next) (s : State) → Begins n s → N (a_for_head inner n) HeadShown s
     unfolding a_for_head
     shown_for_head n s so =
         tells_then Whole g (shown_semicolon n s so)
         (λ x t one. tells_then Whole g (shown_linebreak [] x.1 t one)
-        (λ l u two. picked _ (shown_for_words l.join.comments u) (tells_give Whole g two)))
+        (λ l u two. picked _ (shown_for_words l.join.comments u) (gives two)))
 
     shown_for : (n : Next) (s : State) → N (a_for inner n) ClosedShown s
     unfolding a_for
@@ -426,12 +408,12 @@ module _ (g : Given) where
         (λ x t one. tells_then Whole g (shown_for_head x.1 t one)
         (λ h u two. tells_then Whole g (shown_closing closings.Do h.next u)
         (λ d v three. tells_then Whole g (shown_group closings.Done d.1 v three)
-        (λ b w good. tells_give Whole g good))))
+        (λ b w good. gives good))))
 
     shown_case_word : (n : Next) (s : State) → N (a_case_word inner n) HandsOn s
     unfolding a_case_word
     shown_case_word n s = picked (begins_word n.token)
-        (after (λ w t. tells_then Whole g (shown_next Command t) (λ m u good. tells_give Whole g good))) (stopped n)
+        (after (λ w t. tells_then Whole g (shown_next Command t) (λ m u good. gives good))) (stops inner n)
 
     abbrev PatternedShown : Patterned → State → Type 0
     PatternedShown p t = Begins p.next t
@@ -439,18 +421,18 @@ module _ (g : Given) where
     shown_pattern : (ws : Row AWord) (s : State) → N (a_pattern inner ws) PatternedShown s
     unfolding a_pattern
     shown_pattern ws s = after (λ w t. pushed_on
-        (tells_then Whole g (shown_next Suffix t) (λ n u good. tells_give Whole g good)))
+        (tells_then Whole g (shown_next Suffix t) (λ n u good. gives good)))
 
     shown_one_pattern : (ws : Row AWord) (s : State) → N (one_pattern inner ws) (Turned Whole g PatternedShown) s
     unfolding one_pattern
     shown_one_pattern ws s =
         after (λ x t. after (λ n u. picked (begins_word n.token)
-        (tells_then Whole g (shown_pattern ws u) (λ p v good. tells_give Whole g good)) (stopped n)))
+        (tells_then Whole g (shown_pattern ws u) (λ p v good. gives good)) (stops inner n)))
 
     shown_pattern_turn : (p : Patterned) (s : State) → Begins p.next s →
         N (pattern_turn inner p) (Turned Whole g PatternedShown) s
     unfolding pattern_turn
-    shown_pattern_turn p s so = picked (is_pipe p.next.token) (shown_one_pattern p.patterns s) (tells_give Whole g so)
+    shown_pattern_turn p s so = picked (is_pipe p.next.token) (shown_one_pattern p.patterns s) (gives so)
 
     shown_pattern_list : (n : Next) (s : State) → N (a_pattern_list inner n) PatternedShown s
     unfolding a_pattern_list
@@ -458,7 +440,7 @@ module _ (g : Given) where
         picked (begins_pattern n.token)
         (tells_then Whole g (shown_pattern [] s)
         (λ p t one. tells_many Whole g (pattern_turn inner) PatternedShown shown_pattern_turn p t one))
-        (stopped n)
+        (stops inner n)
 
     abbrev EndShown : ItemEnd → State → Type 0
     EndShown e t = Begins e.next t
@@ -467,13 +449,13 @@ module _ (g : Given) where
     unfolding an_ender
     shown_ender b s =
         after (λ y u. after (λ p v. tells_then Whole g (shown_next Command v)
-        (λ n w one. tells_then Whole g (shown_linebreak [] n w one) (λ l z good. tells_give Whole g good))))
+        (λ n w one. tells_then Whole g (shown_linebreak [] n w one) (λ l z good. gives good))))
 
     shown_item_end : (there : ℕ) (n : Next) (s : State) → Begins n s → N (an_item_end inner there n) EndShown s
     unfolding an_item_end
     shown_item_end there n s so =
         picked (ends_item n.token) (shown_ender (falls_through n.token) s)
-        (picked (is_closing closings.Esac n.token) (tells_give Whole g so) (stopped n))
+        (picked (is_closing closings.Esac n.token) (gives so) (stops inner n))
 
     abbrev CasesShown : CasesSo → State → Type 0
     CasesShown c t = Begins c.next t
@@ -485,11 +467,11 @@ module _ (g : Given) where
         (λ ps v one. tells_then Whole g (shown_closing closings.Paren ps.next v)
         (λ k w two. tells_then Whole g (shown_lines k.1 w two)
         (λ b x three. tells_then Whole g (shown_item_end _ b.next x three)
-        (λ e y good. pushed_on (tells_give Whole g good)))))))
+        (λ e y good. pushed_on (gives good)))))))
 
     shown_case_turn : (c : CasesSo) (s : State) → Begins c.next s → N (case_turn inner c) (Turned Whole g CasesShown) s
     unfolding case_turn
-    shown_case_turn c s so = picked (is_closing closings.Esac c.next.token) (tells_give Whole g so) (shown_one_case c s)
+    shown_case_turn c s so = picked (is_closing closings.Esac c.next.token) (gives so) (shown_one_case c s)
 
     shown_case_head : (n : Next) (s : State) → N (a_case_head inner n) (λ h t. Begins h.2 t) s
     unfolding a_case_head
@@ -497,7 +479,7 @@ module _ (g : Given) where
         tells_then Whole g (shown_case_word n s) (λ w t one. tells_then Whole g (shown_linebreak [] w.1 t one)
         (λ l u two. tells_then Whole g (shown_closing closings.In l.next u)
         (λ i v three. tells_then Whole g (shown_linebreak l.join.comments i.1 v three)
-        (λ h x good. tells_give Whole g good))))
+        (λ h x good. gives good))))
 
     shown_case : (n : Next) (s : State) → N (a_case inner n) ClosedShown s
     unfolding a_case
@@ -505,23 +487,23 @@ module _ (g : Given) where
         tells_then Whole g (shown_case_head n s)
         (λ h t one. tells_then Whole g
         (tells_many Whole g (case_turn inner) CasesShown shown_case_turn (cases_so [] h.1 h.2) t one)
-        (λ c u two. tells_then Whole g (shown_closing closings.Esac c.next u) (λ e v good. tells_give Whole g good)))
+        (λ c u two. tells_then Whole g (shown_closing closings.Esac c.next u) (λ e v good. gives good)))
 
     shown_form : (o : Opener) (n : Next) (s : State) → Begins n s → N (a_form inner o n) ClosedShown s
     shown_form openers.Brace n s so =
-        tells_then Whole g (shown_group closings.Brace n s so) (λ l t good. tells_give Whole g good)
+        tells_then Whole g (shown_group closings.Brace n s so) (λ l t good. gives good)
     shown_form openers.Paren n s so =
-        tells_then Whole g (shown_group closings.Paren n s so) (λ l t good. tells_give Whole g good)
+        tells_then Whole g (shown_group closings.Paren n s so) (λ l t good. gives good)
     shown_form openers.If n s so = shown_if n s so
-    shown_form openers.While n s so = tells_then Whole g (shown_loop n s so) (λ l t good. tells_give Whole g good)
-    shown_form openers.Until n s so = tells_then Whole g (shown_loop n s so) (λ l t good. tells_give Whole g good)
+    shown_form openers.While n s so = tells_then Whole g (shown_loop n s so) (λ l t good. gives good)
+    shown_form openers.Until n s so = tells_then Whole g (shown_loop n s so) (λ l t good. gives good)
     shown_form openers.For n s so = shown_for n s
     shown_form openers.Case n s so = shown_case n s
 
     shown_compound : (o : Opener) (s : State) → N (a_compound inner o) HandsOn s
     unfolding a_compound
     shown_compound o s = tells_then Whole g (shown_reserved_or_paren _ (is_open_paren o) _ s)
-        (λ x t one. tells_then Whole g (shown_form o x.1 t one) (λ f u good. pushed_on (tells_give Whole g good)))
+        (λ x t one. tells_then Whole g (shown_form o x.1 t one) (λ f u good. pushed_on (gives good)))
 
     shown_function : (name : Span) (s : State) → N (a_function inner name) HandsOn s
     unfolding a_function
@@ -530,7 +512,7 @@ module _ (g : Given) where
         (λ o t one. tells_then Whole g (shown_closing closings.Paren o.1 t)
         (λ c u two. tells_then Whole g (shown_linebreak [] c.1 u two)
         (λ l v three. tells_then Whole g (shown_compound_by l.next (opener_of l.next.token) v)
-        (λ b w good. tells_give Whole g good))))
+        (λ b w good. gives good))))
 
   -- by how many more may be opened
   pub shown_level : (room : ℕ) → Fine (level room)

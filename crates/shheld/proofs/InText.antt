@@ -1,5 +1,5 @@
 -- No row of the grammar leads past the end of its text.
-use Rattle.std.proofs.Common.{◌≡◌, ℕ, zero, suc, ◌≤◌, Bool, true, false, ◌||◌, List, List as Row, [], ◌∷◌, ◌++◌, Result, Ok, Err, Option, Some, None, is_some, length, refl, ap, subst}
+use Rattle.std.proofs.Common.{◌≡◌, ℕ, zero, suc, ◌≤◌, Bool, true, false, ◌||◌, List, List as Row, [], Result, Ok, Err, Option, Some, None, is_some, length, refl, ap, subst}
 use Rattle.std.proofs.lemmas.Bool.{and_parts, both_ways, cond_both}
 use Rattle.shast.specs.Nodes.{word_span}
 use Rattle.shast.specs.Tree.{ACommand, AnItem, AWord}
@@ -23,20 +23,20 @@ use Rattle.shgrammar.specs.declared.token.Token.TheVariants as tokens
 use Rattle.shgrammar.specs.Bytes.{past_byte}
 use Rattle.shgrammar.specs.Characters.{number_sign}
 use Rattle.shgrammar.specs.Classes.{is_digit, is_name}
-use Rattle.shgrammar.specs.Commands.{pick, next_token, is_newline_token, is_semicolon, a_semicolon, is_pipe, is_bang, begins_simple, begins_word, begins_redirect, begins_pipeline, opener_of, compound_by, and_or_operator_of, Items, so_many, breaks, after_word, one_redirect, after_redirect, redirect_turn, with_redirect_list, an_item, item_by, item_turn, a_simple, unexpected, comment_by, a_comment, a_newline, with_comment, JoinSo, join_turn, a_join, a_command, a_bang, Piped, piped, one_command, pipe_turn, a_pipeline, Joined, one_pipeline, joined_by, and_or_turn, an_and_or, separator_of, separator_by, a_separator, an_entry, is_paren, is_word, a_word_command, ends_item, falls_through, is_long, is_number_token, is_strip, redirect_operator_of, a_number, an_operator, operator_by, a_target, a_document, document_by, takes_here}
+use Rattle.shgrammar.specs.Commands.{next_token, is_newline_token, is_semicolon, a_semicolon, is_pipe, is_bang, begins_simple, begins_word, begins_redirect, begins_pipeline, opener_of, compound_by, and_or_operator_of, Items, so_many, breaks, after_word, one_redirect, after_redirect, redirect_turn, with_redirect_list, an_item, item_by, item_turn, a_simple, comment_by, a_comment, a_newline, with_comment, JoinSo, join_turn, a_join, a_command, a_bang, Piped, piped, one_command, pipe_turn, a_pipeline, Joined, one_pipeline, joined_by, and_or_turn, an_and_or, separator_of, separator_by, a_separator, an_entry, is_paren, is_word, a_word_command, ends_item, falls_through, is_long, is_number_token, is_strip, redirect_operator_of, a_number, an_operator, operator_by, a_target, a_document, document_by, takes_here}
 use Rattle.shgrammar.specs.Comments.{comment_at, past_comment}
 use Rattle.shgrammar.specs.Compounds.{Branched, branched, Closed, is_closing, is_open_paren, is_close_paren, past_opener, reserved_or_paren, closing, a_branch, elif_turn, an_else, an_if, a_loop, a_group, a_for_name, a_linebreak, a_sequential_sep, begins_words, Headed, word_turn, for_words, a_for_head, a_for, a_form, a_compound, a_function, a_case_word, begins_pattern, Patterned, a_pattern, one_pattern, pattern_turn, a_pattern_list, an_open_bracket, a_body, ItemEnd, an_ender, an_item_end, CasesSo, cases_so, one_case, case_turn, a_case_head, a_case}
-use Rattle.shgrammar.specs.Form.{Form, Spelled, Telling, give, see, move, push, both, change, many, step_if, token}
+use Rattle.shgrammar.specs.Form.{Form, Spelled, Telling, move, both, change, many, step_if, token}
 use Rattle.shgrammar.specs.HereDocuments.{ADelimiter, bodies_from, bodies_here, changed, state_by, waits, with_waiting}
 use Rattle.shgrammar.specs.Levels.{level}
 use Rattle.shgrammar.specs.Lists.{ListSo, list_so, none_listed, one_entry, entry_turn, remark_by, a_remark, on_line, list_turn, a_list}
 use Rattle.shgrammar.specs.Shows.{IsRead, Shows}
-use Rattle.shgrammar.specs.Sights.{Given, Move, Sight, State, Waiting, a_comment_on, is_a_name, one_byte, seen, the_digits, to}
+use Rattle.shgrammar.specs.Sights.{Given, Move, State, Waiting, a_comment_on, is_a_name, one_byte, seen, the_digits, to}
 use Rattle.shgrammar.specs.Standing.{raw_stands}
 use Rattle.shgrammar.specs.Tokens.{is_end, past_digits, past_reserved}
 use Rattle.shgrammar.specs.Words.{Inner, a_word}
 use Rattle.shgrammar.proofs.Delimiters.{bodies_go}
-use Rattle.shgrammar.proofs.Holds.{Tells, Turned, tells_after, tells_change, tells_give, tells_many, tells_pushed, tells_seen, tells_then, tells_token, tells_with_bytes}
+use Rattle.shgrammar.proofs.Holds.{Tells, Turned, after, gives, picked_by, pushed_on, sees, stops, tells_change, tells_many, tells_then, tells_token, tells_with_bytes}
 use Rattle.shgrammar.proofs.Places.{after_high, blanks_high, next_newline_high, past_high}
 use Rattle.shgrammar.proofs.Shown.{shown_in}
 use Rattle.shgrammar.proofs.WordsWithin.{contents_end, stays_in}
@@ -71,31 +71,6 @@ module _ (g : Given) where
   -- what was read, and this token handed on after it
   abbrev pub HandsOn : {X : Type 0} → X × Next → State → Type 0
   HandsOn x t = Handed x.1 t
-
-  -- one more element, and then the rest
-  pushed_on : {A Y : Type 0} {Q : Y → State → Type 0} {xs : Row A} {x : A} {q : Row A → Form Y} {s : State}
-      → N (q (xs ++ x ∷ [])) Q s → N (both (push xs x) q) Q s
-  pushed_on rest = tells_pushed g rest
-
-  -- one form, where a test holds, or another
-  pub picked : {X : Type 0} {P : X → State → Type 0} (b : Bool) {r q : Form X} {s : State}
-      → (b ≡ true → N r P s) → N q P s → N (pick b r q) P s
-  picked true one two = one refl
-  picked false one two = two
-
-  -- where a row stops, nothing is said
-  pub stops : {X : Type 0} {P : X → State → Type 0} (inner : Inner) (n : Next) {s : State}
-      → N (unexpected {X = X} inner n) P s
-  stops inner n = tells_after Whole g (λ w t. record { told = tt })
-
-  -- what is given, where the reading stands
-  gives : {X : Type 0} {x : X} {P : X → State → Type 0} {s : State} → P x s → N (give x) P s
-  gives so = tells_give Whole g so
-
-  -- what is seen, and then the rest
-  sees : {X Y : Type 0} {Q : Y → State → Type 0} {f : Sight X} {q : X → Form Y} {s : State}
-      → N (q (seen f g s)) Q s → N (both (see f) q) Q s
-  sees rest = tells_seen Whole g rest
 
   -- one form and then another
   infixl 10 ◌▹◌
@@ -177,7 +152,7 @@ module _ (g : Given) where
   newline_in : (n : Next) (s : State) → Handed n s → N (a_newline n) HandsOn s
   unfolding a_newline
   newline_in n s so =
-      picked (is_newline_token n.token)
+      picked_by (is_newline_token n.token)
       (λ e. moved_on one_byte (read_on n s so is_newline_token refl e) ▹ λ x t le. bodies_in t le ▹ λ y u low.
       onward Command low ▹ λ m v good. gives good)
       (gives so)
@@ -185,7 +160,7 @@ module _ (g : Given) where
   semicolon_in : (n : Next) (s : State) → Handed n s → N (a_semicolon n) HandsOn s
   unfolding a_semicolon
   semicolon_in n s so =
-      picked (is_semicolon n.token)
+      picked_by (is_semicolon n.token)
       (λ e. moved_on one_byte (read_on n s so is_semicolon refl e) ▹ λ x t le.
       onward Command le ▹ λ m u good. gives good)
       (gives so)
@@ -246,7 +221,7 @@ module _ (g : Given) where
   number_in : (n : Next) (s : State) → Handed n s → N (a_number n) HandsOn s
   unfolding a_number
   number_in n s so =
-      picked (is_number_token n.token)
+      picked_by (is_number_token n.token)
       (λ e. token_on (moved_on the_digits (digits_high s.at so.within)) ▹ λ x t le.
       onward Suffix le ▹ λ m u good. gives good)
       (gives so)
@@ -283,7 +258,7 @@ module _ (g : Given) where
   document_in : (o : RedirectOperator) (b p : ℕ) (bytes : Spelled) (s : State) → s.at ≤ length T
       → N (a_document o b p bytes) InText s
   unfolding a_document
-  document_in o b p bytes s le = picked (takes_here o) (λ e. sees (by_delimiter _)) (gives le)
+  document_in o b p bytes s le = picked_by (takes_here o) (λ e. sees (by_delimiter _)) (gives le)
     where
       by_delimiter : (d : Option ADelimiter) → N (document_by b p (is_strip o) d) InText s
       by_delimiter (Some d) = waits_in _ s le ▹ λ x t low. gives low
@@ -307,7 +282,7 @@ module _ (g : Given) where
     unfolding a_target
     target_in s le =
         onward Suffix le ▹ λ n t so.
-        picked (is_word n.token)
+        picked_by (is_word n.token)
         (λ e. tells_with_bytes Whole g (stays.words t so.within) (λ a u low. low))
         (stops inner n)
 
@@ -329,7 +304,7 @@ module _ (g : Given) where
         → N (item_by inner i o) (Turned Whole g ItemsHanded) s
     item_by_in i (Some position) s so = an_item_in i position s so.within
     item_by_in i None s so =
-        picked (begins_redirect i.next.token)
+        picked_by (begins_redirect i.next.token)
         (λ e. redirect_in (breaks i) (after_redirect i.position) i.items i.next s so)
         (gives so)
 
@@ -347,7 +322,7 @@ module _ (g : Given) where
         → N (redirect_turn inner i) (Turned Whole g ItemsHanded) s
     unfolding redirect_turn
     redirect_turn_in i s so =
-        picked (begins_redirect i.next.token)
+        picked_by (begins_redirect i.next.token)
         (λ e. redirect_in i.next.broken Command i.items i.next s so)
         (gives so)
 
@@ -370,21 +345,21 @@ module _ (g : Given) where
     unfolding a_word_command
     word_command_in s le =
         sees (stays.words s le ▹ λ w u low. onward Suffix low ▹ λ n v so.
-        picked (is_paren n.token)
+        picked_by (is_paren n.token)
         (λ e. let byte = read n v so is_paren refl e in
-        picked (seen is_a_name g s) (λ f. stays.function (word_span w) v byte) (record { told = tt }))
+        picked_by (seen is_a_name g s) (λ f. stays.function (word_span w) v byte) (record { told = tt }))
         (pushed_on (simple_in (so_many _ Suffix n) v so)))
 
     command_in : (n : Next) (s : State) → Handed n s → N (a_command inner n) HandsOn s
     unfolding a_command
     command_in n s so =
-        picked (is_word n.token) (λ e. word_command_in s so.within)
-        (picked (begins_simple n.token) (λ e. simple_in (so_many [] Command n) s so) (compound_in n s so))
+        picked_by (is_word n.token) (λ e. word_command_in s so.within)
+        (picked_by (begins_simple n.token) (λ e. simple_in (so_many [] Command n) s so) (compound_in n s so))
 
     bang_in : (n : Next) (s : State) → Handed n s → N (a_bang n) HandsOn s
     unfolding a_bang
     bang_in n s so =
-        picked (is_bang n.token)
+        picked_by (is_bang n.token)
         (λ e. token_on (moved_on one_byte (read_on n s so is_bang refl e)) ▹ λ x t le.
         onward Command le ▹ λ m u good. gives good)
         (gives so)
@@ -396,7 +371,7 @@ module _ (g : Given) where
         → N (pipe_turn inner p) (Turned Whole g PipedHanded) s
     unfolding pipe_turn one_command
     pipe_turn_in p s so =
-        picked (is_pipe p.next.token)
+        picked_by (is_pipe p.next.token)
         (λ e. token_on (moved_on one_byte (read_on p.next s so is_pipe refl e)) ▹ λ x t le.
         join_in p.next.broken t le ▹ λ j u one. command_in j.1 u one ▹ λ c v good. pushed_on (gives good))
         (gives so)
@@ -454,7 +429,7 @@ module _ (g : Given) where
         → N (entry_turn inner l) (Turned Whole g ListHanded) s
     unfolding entry_turn one_entry
     entry_turn_in l s so =
-        picked (begins_pipeline l.next.token)
+        picked_by (begins_pipeline l.next.token)
         (λ e. entry_in _ l.next s so ▹ λ e t good.
         pushed_on (gives (list_step (is_some e.parted) _ t good)))
         (gives so)
@@ -484,7 +459,7 @@ module _ (g : Given) where
     list_in : (n : Next) (s : State) → Handed n s → N (a_list inner n) HandsOn s
     unfolding a_list
     list_in n s so =
-        lines_in n s so ▹ λ l t good. picked l.list.commands (λ e. gives good) (stops inner l.next)
+        lines_in n s so ▹ λ l t good. picked_by l.list.commands (λ e. gives good) (stops inner l.next)
 
     -- ---- compound commands
 
@@ -513,7 +488,7 @@ module _ (g : Given) where
     closing_in : (c : Closing) (n : Next) (s : State) → Handed n s → N (closing inner c n) HandsOn s
     unfolding closing
     closing_in c n s so =
-        picked (is_closing c n.token)
+        picked_by (is_closing c n.token)
         (λ e. reserved_or_paren_in _ (is_close_paren c) _ s (closes c n s so e))
         (stops inner n)
 
@@ -530,7 +505,7 @@ module _ (g : Given) where
         → N (elif_turn inner b) (Turned Whole g BranchedHanded) s
     unfolding elif_turn
     elif_in b s so =
-        picked (is_closing closings.Elif b.next.token)
+        picked_by (is_closing closings.Elif b.next.token)
         (λ e. reserved_or_paren_in _ false _ s (closes closings.Elif b.next s so e) ▹ λ k t one.
         branch_in k.1 t one ▹ λ x u good. pushed_on (gives good))
         (gives so)
@@ -538,7 +513,7 @@ module _ (g : Given) where
     else_in : (n : Next) (s : State) → Handed n s → N (an_else inner n) HandsOn s
     unfolding an_else
     else_in n s so =
-        picked (is_closing closings.Else n.token)
+        picked_by (is_closing closings.Else n.token)
         (λ e. reserved_or_paren_in _ false _ s (closes closings.Else n s so e) ▹ λ k t one.
         list_in k.1 t one ▹ λ l u good. gives good)
         (gives so)
@@ -566,9 +541,9 @@ module _ (g : Given) where
     for_name_in : (n : Next) (s : State) → Handed n s → N (a_for_name inner n) HandsOn s
     unfolding a_for_name
     for_name_in n s so =
-        picked (begins_word n.token)
+        picked_by (begins_word n.token)
         (λ e. sees (sees (stays.words s so.within ▹ λ w v le.
-        picked (seen is_a_name g s)
+        picked_by (seen is_a_name g s)
         (λ f. onward Command le ▹ λ m z good. gives good)
         (record { told = tt }))))
         (stops inner n)
@@ -578,7 +553,7 @@ module _ (g : Given) where
     unfolding a_sequential_sep
     sep_in cs n s so =
         semicolon_in n s so ▹ λ x t one. linebreak_in cs x.1 t one ▹ λ l u good.
-        picked (x.0 || l.join.broken) (λ e. gives good) (stops inner l.next)
+        picked_by (x.0 || l.join.broken) (λ e. gives good) (stops inner l.next)
 
     abbrev HeadHanded : Headed → State → Type 0
     HeadHanded h t = Handed h.next t
@@ -586,7 +561,7 @@ module _ (g : Given) where
     word_turn_in : (i : Items) (s : State) → Handed i.next s
         → N (word_turn inner i) (Turned Whole g ItemsHanded) s
     unfolding word_turn
-    word_turn_in i s so = picked (is_word i.next.token) (λ e. an_item_in i Suffix s so.within) (gives so)
+    word_turn_in i s so = picked_by (is_word i.next.token) (λ e. an_item_in i Suffix s so.within) (gives so)
 
     for_words_in : (cs : Row Span) (s : State) → IsRead T s.at → N (for_words inner cs) HeadHanded s
     unfolding for_words
@@ -599,7 +574,7 @@ module _ (g : Given) where
     unfolding a_for_head
     for_head_in n s so =
         semicolon_in n s so ▹ λ x t one. linebreak_in [] x.1 t one ▹ λ l u two.
-        picked (begins_words x.0 l.next.token)
+        picked_by (begins_words x.0 l.next.token)
         (λ e. for_words_in l.join.comments u (closes closings.In l.next u two (and_parts _ _ e).1))
         (gives two)
 
@@ -613,7 +588,7 @@ module _ (g : Given) where
     case_word_in : (n : Next) (s : State) → Handed n s → N (a_case_word inner n) HandsOn s
     unfolding a_case_word
     case_word_in n s so =
-        picked (begins_word n.token)
+        picked_by (begins_word n.token)
         (λ e. stays.words s so.within ▹ λ w t le. onward Command le ▹ λ m u good. gives good)
         (stops inner n)
 
@@ -629,10 +604,10 @@ module _ (g : Given) where
         → N (pattern_turn inner p) (Turned Whole g PatternedHanded) s
     unfolding pattern_turn one_pattern
     pattern_turn_in p s so =
-        picked (is_pipe p.next.token)
+        picked_by (is_pipe p.next.token)
         (λ e. token_on (moved_on one_byte (read_on p.next s so is_pipe refl e)) ▹ λ x t le.
         onward Suffix le ▹ λ n u one.
-        picked (begins_word n.token)
+        picked_by (begins_word n.token)
         (λ f. pattern_in p.patterns u one.within ▹ λ q v good. gives good)
         (stops inner n))
         (gives so)
@@ -640,7 +615,7 @@ module _ (g : Given) where
     pattern_list_in : (n : Next) (s : State) → Handed n s → N (a_pattern_list inner n) PatternedHanded s
     unfolding a_pattern_list
     pattern_list_in n s so =
-        picked (begins_pattern n.token)
+        picked_by (begins_pattern n.token)
         (λ e. pattern_in [] s so.within ▹ λ p t one.
         tells_many Whole g (pattern_turn inner) PatternedHanded pattern_turn_in p t one)
         (stops inner n)
@@ -648,7 +623,7 @@ module _ (g : Given) where
     open_bracket_in : (n : Next) (s : State) → Handed n s → N (an_open_bracket n) Handed s
     unfolding an_open_bracket
     open_bracket_in n s so =
-        picked (is_paren n.token)
+        picked_by (is_paren n.token)
         (λ e. moved_on one_byte (read_on n s so is_paren refl e) ▹ λ x t le. next_here Command t le)
         (gives so)
 
@@ -665,8 +640,8 @@ module _ (g : Given) where
         → N (an_item_end inner there n) EndHanded s
     unfolding an_item_end
     item_end_in there n s so =
-        picked (ends_item n.token) (λ e. ender_in (falls_through n.token) s (so.shows.8 e))
-        (picked (is_closing closings.Esac n.token) (λ e. gives so) (stops inner n))
+        picked_by (ends_item n.token) (λ e. ender_in (falls_through n.token) s (so.shows.8 e))
+        (picked_by (is_closing closings.Esac n.token) (λ e. gives so) (stops inner n))
 
     abbrev CasesHanded : CasesSo → State → Type 0
     CasesHanded c t = Handed c.next t
@@ -683,7 +658,7 @@ module _ (g : Given) where
         → N (case_turn inner c) (Turned Whole g CasesHanded) s
     unfolding case_turn
     case_turn_in c s so =
-        picked (is_closing closings.Esac c.next.token) (λ e. gives so) (one_case_in c s so)
+        picked_by (is_closing closings.Esac c.next.token) (λ e. gives so) (one_case_in c s so)
 
     case_head_in : (n : Next) (s : State) → Handed n s → N (a_case_head inner n) (λ h t. Handed h.2 t) s
     unfolding a_case_head
@@ -735,7 +710,7 @@ module _ (g : Given) where
   unfolding level
   stays_at zero = record {
     words = λ s le. words_in zero s le;
-    compound = λ o s is. tells_after Whole g (λ p t. record { told = tt });
+    compound = λ o s is. after (λ p t. record { told = tt });
     function = λ name s is. record { told = tt };
   }
   stays_at (suc room) = record {

@@ -23,14 +23,14 @@ use Rattle.shgrammar.specs.Tokens.{is_end}
 use Rattle.shgrammar.specs.Words.{Inner}
 use Rattle.shgrammar.specs.Scripts.{line_of_text}
 use Rattle.shgrammar.proofs.BodiesThere.{ends_line}
-use Rattle.shgrammar.proofs.Holds.{Holds, Tells, tells_change, tells_give, tells_level, tells_moved, tells_then}
+use Rattle.shgrammar.proofs.Holds.{Holds, Tells, picked_by, stops, tells_change, tells_give, tells_level, tells_moved, tells_then}
 use Rattle.shgrammar.proofs.OneOutcome.{computed_is_only}
 use Rattle.shgrammar.proofs.Places.{end_high}
 use Rattle.shgrammar.proofs.Scripts.{line_is}
 use Rattle.shwindow.specs.Lines.{IsRow, last_line, more_lines}
 use Rattle.shwindow.specs.declared.line.HeldLine.{HeldLine}
 use Rattle.shheld.specs.TopLines.{IsTopLine}
-use Rattle.shheld.proofs.InText.{Handed, Stays, bodies_high, next_here, on_line_in, picked, read_on, stays_at, stops}
+use Rattle.shheld.proofs.InText.{Handed, Stays, bodies_high, next_here, on_line_in, read_on, stays_at}
 use Rattle.shheld.proofs.TopLines.{held, top_lines}
 
 -- ---- where a line ends
@@ -78,7 +78,7 @@ module _ (g : Given) where
       → Tells Whole g (end_of_line inner n) Rest s
   unfolding end_of_line past_byte
   end_rest inner n s so =
-      picked g (is_newline_token n.token)
+      picked_by (is_newline_token n.token)
       (λ e. let here = so.shows.6 in
       let at : s.at ≡ past_byte T s.at - 1 = omega (arith, here) in
       let newline = subst (λ p. raw_stands T p newline_char ≡ true) at (so.shows.2 (newline_is n.token e)) in
@@ -86,11 +86,11 @@ module _ (g : Given) where
       (tells_then Whole g
       (bodies_rest (record s { at = past_byte T s.at }) (read_on g n s so is_newline_token refl e) newline)
       (λ x t rest. tells_give Whole g rest)))
-      (picked g (is_end n.token)
+      (picked_by (is_end n.token)
       (λ e. let within = so.within in
       let high = end_high T s.at (so.shows.3 (end_is n.token e)) in
       tells_then Whole g (waits_rest s (omega arith)) (λ x t at. tells_give Whole g (λ not_ended. at)))
-      (stops g inner n))
+      (stops inner n))
 
   abbrev LineRest : Row AnEntry × Bool → State → Type 0
   LineRest l t = Rest l.1 t

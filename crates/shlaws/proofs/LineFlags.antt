@@ -6,7 +6,7 @@ use Rattle.std.proofs.Math.Bool.{and-false, and-true, or-false}
 use Rattle.shast.specs.Normal.{is_blank_entry}
 use Rattle.shast.specs.Tree.{AnEntry}
 use Rattle.shast.specs.declared.tree.Span.{Span}
-use Rattle.shgrammar.specs.Commands.{an_entry, begins_pipeline, is_empty, pick}
+use Rattle.shgrammar.specs.Commands.{an_entry, begins_pipeline, is_empty}
 use Rattle.shgrammar.specs.Form.{Form, Spelled, Step, again, done, may, step_if}
 use Rattle.shgrammar.specs.Levels.{level}
 use Rattle.shgrammar.specs.Lists.{ListSo, Listed, a_remark, entry_turn, is_blank_next, list_so, list_turn, next_line, on_line, one_entry, remark_by, with_command}
@@ -14,7 +14,7 @@ use Rattle.shgrammar.specs.States.{Given, State}
 use Rattle.shgrammar.specs.Words.{Inner}
 use Rattle.shgrammar.specs.declared.keep.Keep.TheVariants.{Whole}
 use Rattle.shgrammar.specs.declared.token.Next.{Next}
-use Rattle.shgrammar.proofs.Holds.{Holds, Tells, Turned, tells_after, tells_give, tells_many, tells_pushed, tells_then}
+use Rattle.shgrammar.proofs.Holds.{Holds, Tells, Turned, after, gives, picked, pushed_on, tells_many, tells_then}
 use Rattle.shgrammar.proofs.OneOutcome.{computed_is_only}
 use Rattle.shlaws.specs.Blank.{AreBlankAtFirst, HasMore}
 use Rattle.shlaws.proofs.BlankLines.{not_empty}
@@ -71,8 +71,8 @@ module _ (inner : Inner) (g : Given) (before : Listed) where
       → T (an_entry inner blank n) (λ e t. is_blank_entry e.entry ≡ blank) s
   unfolding an_entry
   told_flag blank n s =
-      tells_after Whole g
-      (λ a t. tells_after Whole g (λ z u. tells_after Whole g (λ c v. tells_give Whole g refl)))
+      after
+      (λ a t. after (λ z u. after (λ c v. gives refl)))
 
   step_so : (goes : Bool) (l : ListSo) (t : State) → HasMore before l.list
       → Turned Whole g So (step_if goes l) t
@@ -83,30 +83,25 @@ module _ (inner : Inner) (g : Given) (before : Listed) where
   unfolding one_entry
   entry_so l s so =
       tells_then Whole g (told_flag (is_blank_next l.list) l.next s)
-      (λ e t flag. tells_pushed g (tells_give Whole g (step_so (is_some e.parted) _ t
+      (λ e t flag. pushed_on (gives (step_so (is_some e.parted) _ t
       (one_more before l.list
       (with_command l.list (l.list.entries ++ e.entry ∷ []) e.parted) e.entry so flag refl refl refl))))
 
-  either : {X : Type 0} {P : X → State → Type 0} {r q : Form X} {s : State} (b : Bool) → T r P s → T q P s
-      → T (pick b r q) P s
-  either true one two = one
-  either false one two = two
-
   turn_so : (l : ListSo) (s : State) → HasMore before l.list → T (entry_turn inner l) (Turned Whole g So) s
   unfolding entry_turn
-  turn_so l s so = either (begins_pipeline l.next.token) (entry_so l s so) (tells_give Whole g so)
+  turn_so l s so = picked (begins_pipeline l.next.token) (entry_so l s so) (gives so)
 
   remark_so : (l : ListSo) (x : Option Span × Next) (s : State) → HasMore before l.list
       → T (remark_by l x) So s
   remark_so l (Some c, n) s so =
-      tells_pushed g (tells_give Whole g (one_more before l.list _ _ so refl refl refl refl))
-  remark_so l (None, n) s so = tells_give Whole g so
+      pushed_on (gives (one_more before l.list _ _ so refl refl refl refl))
+  remark_so l (None, n) s so = gives so
 
   line_so : (l : ListSo) (s : State) → HasMore before l.list → T (on_line inner l) So s
   unfolding on_line a_remark
   line_so l s so =
       tells_then Whole g (tells_many Whole g (entry_turn inner) So turn_so l s so)
-      (λ m t good. tells_after Whole g (λ x u. remark_so m x u good))
+      (λ m t good. after (λ x u. remark_so m x u good))
 
   abbrev Parted : Step ListSo → State → Type 0
   Parted (again m) t = (line : Listed) × HasMore before line × (m.list ≡ next_line line)
@@ -121,7 +116,7 @@ module _ (inner : Inner) (g : Given) (before : Listed) where
   unfolding list_turn
   newline_so l s so =
       tells_then Whole g (line_so l s so)
-      (λ m t good. tells_after Whole g (λ x u. tells_give Whole g (parted x.0 m.list x.1 u good)))
+      (λ m t good. after (λ x u. gives (parted x.0 m.list x.1 u good)))
 
 pub line_flags : (room : ℕ) (l m : ListSo) (g : Given) (s t : State) (told : Row Spelled)
     → may (on_line (level room) l) g s (Ok (m, t)) told → HasMore l.list m.list
