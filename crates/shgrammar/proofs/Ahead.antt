@@ -13,7 +13,7 @@ use Rattle.shgrammar.specs.declared.token.Token.TheVariants as tokens
 use Rattle.shgrammar.specs.Tokens.{Spelling, is_word_at, first_of_words, reserved_words, reserved_at, begins_assignment, greater_at, is_name_at, is_number, less_at, word_by, token_of, token_at, next_at}
 use Rattle.shgrammar.proofs.Stretches.{place_low, past_more, past_none, stands_in_low, joined_none, joined_more, raw_more, raw_none}
 use Rattle.shgrammar.proofs.Places.{must_fail, after_low, past_low}
-use Rattle.shgrammar.proofs.SameBytes.{Kept, WordEnds, goes_on, Safe, at_limit, halts, one_byte, two_bytes, Place, inside, outside, Here, no_backslash, on_no_backslash, continued, safe_high, safe_low, safe_place, safe_after, none_same, pair_same, place, raw_same, here_byte, here_after}
+use Rattle.shgrammar.proofs.SameBytes.{Kept, WordEnds, goes_on, Safe, at_limit, halts, one_byte, two_bytes, Place, inside, outside, Here, no_backslash, on_no_backslash, continued, safe_high, safe_low, safe_place, safe_after, none_same, pair_same, place, raw_same, here_byte, here_after, on_no_backslash_by}
 use Rattle.shgrammar.specs.declared.edition.Edition.{Edition}
 
 -- the place after a byte is one past the continuations before it
@@ -101,11 +101,6 @@ goes_one c x f g = record { on = λ b h. let is : b ≡ x = grind (arith, nat_te
 passes_goes : {c : ℕ} {test : ℕ → Bool} → Goes c test → (x : Option ℕ) → passes test x ≡ true → passes goes_on x ≡ true
 passes_goes g None e = absurd cc
 passes_goes g (Some b) e = g.on b e
-
--- a byte over which it goes on is no backslash
-clear_goes : (x : Option ℕ) → passes goes_on x ≡ true → is_byte x backslash ≡ false
-clear_goes None e = refl
-clear_goes (Some b) e = must_fail (b == backslash) (λ f. both_ways (goes_on b) (rw f refl) e)
 
 -- a byte that stands passes the test for itself
 pub stands_passes : (x : Option ℕ) (c : ℕ) → is_byte x c ≡ true → passes (λ b. b == c) x ≡ true
@@ -285,7 +280,7 @@ module _ {edition : Edition} {T T2 : List ℕ} {a L : ℕ} {to : ℕ → ℕ} {c
 
     raw_clear : (p : ℕ) → stands_in test T p ≡ true → raw_stands T (past_continuations T p) backslash ≡ false
     unfolding stands_in raw_stands
-    raw_clear p e = clear_goes (byte_at T p) (passes_goes g (byte_at T p) e)
+    raw_clear p e = on_no_backslash_by (byte_at T p) (passes_goes g (byte_at T p) e)
 
     back_below : (n p : ℕ) → length T - p < n → a ≤ p → Safe T a L (past test T p) → Safe T a L p
     back_below zero p few low s = absurd (omega arith)

@@ -70,7 +70,7 @@ join_steps l m is broken pale same cs ds =
     (ap (λ b. b || l.0) same, refl))
 
 -- a join is broken where its operator's token is, or what follows it
-both_broken : (broken pale : Bool) (n m : Next) → broken ≡ pale → n ≡ m → (broken || n.broken) ≡ (pale || m.broken)
+pub both_broken : (broken pale : Bool) (n m : Next) → broken ≡ pale → n ≡ m → (broken || n.broken) ≡ (pale || m.broken)
 both_broken broken pale n m one two = rw (one, two) refl
 
 -- ---- single quotes, backquotes and dollar-single quotes

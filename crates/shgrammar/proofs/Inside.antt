@@ -25,7 +25,6 @@ use Rattle.shgrammar.proofs.Alike.{SameStep}
 use Rattle.shgrammar.proofs.SameBytes.{Kept, Here, here, here_after, here_stands, here_stands_in, raw_same, raw_there}
 use Rattle.shgrammar.proofs.Ahead.{past_byte_is}
 use Rattle.shgrammar.proofs.NoFurther.{less_same}
-use Rattle.shgrammar.proofs.OneOutcome.{computed_is_only}
 use Rattle.shgrammar.specs.declared.edition.Edition.{Edition}
 
 taken_one : (T : List ℕ) (q : ℕ) → raw_stands T q backslash ≡ false → past_taken T q ≡ q + 1

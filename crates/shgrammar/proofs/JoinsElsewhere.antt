@@ -25,6 +25,7 @@ use Rattle.shgrammar.proofs.Alike.{SameStep}
 use Rattle.shgrammar.proofs.Ahead.{ListEnds, same_next}
 use Rattle.shgrammar.proofs.Asked.{Good, high, comment_end, same_raw_stands}
 use Rattle.shgrammar.proofs.GoingOn.{go_bodies, over, Back, good, Found, Goes, go_give, go_push, go_see, go_move, go_then, go_so, go_stopped, go_pick, go_at, go_token, go_many, same_texts}
+use Rattle.shgrammar.proofs.AlikeCommands.{both_broken}
 use Rattle.shgrammar.specs.declared.edition.Edition.{Edition}
 use Rattle.shgrammar.specs.Tokens.{next_in}
 
@@ -100,9 +101,6 @@ module _ (B B2 : List ℕ) where
 abbrev pub SameSeparator : Option ASeparator × Next → Option ASeparator × Next → Type 0
 SameSeparator x y = (is_background x.0 ≡ is_background y.0)
     × ((is_some (past_separator x.0) ≡ is_some (past_separator y.0)) × (x.1 ≡ y.1))
-
-both_broken : (broken pale : Bool) (n m : Next) → broken ≡ pale → n ≡ m → (broken || n.broken) ≡ (pale || m.broken)
-both_broken broken pale n m one two = rw (one, two) refl
 
 -- ---- the laws of forms
 

@@ -26,7 +26,6 @@ use Rattle.shgrammar.proofs.Alike.{SameStep, SameHeld}
 use Rattle.shgrammar.proofs.SameBytes.{Kept, Here, here, here_byte, here_after, here_stands, byte_other}
 use Rattle.shgrammar.proofs.Ahead.{past_byte_is}
 use Rattle.shgrammar.proofs.Inside.{there_at, clear, before, high, taken_two, same_taken, same_end, parameter_in, rest_in, there, at, Ends, quote_in, backquotes_in, Turned, Looped, Goal, looped, dollar_single_in}
-use Rattle.shgrammar.proofs.OneOutcome.{computed_is_only}
 use Rattle.shgrammar.specs.declared.edition.Edition.{Edition}
 use Rattle.shgrammar.specs.Tokens.{is_later}
 

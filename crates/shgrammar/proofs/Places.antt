@@ -76,7 +76,7 @@ unfolding stands
 stands_low T p c e = byte_low T (past_continuations T p) c (byte_at T p) refl e
 
 -- what is not the end is a byte
-some_low : (T : List ℕ) (p : ℕ) (b : Option ℕ) → slice_get T p ≡ b → is_none b ≡ false → p < length T
+pub some_low : (T : List ℕ) (p : ℕ) (b : Option ℕ) → slice_get T p ≡ b → is_none b ≡ false → p < length T
 some_low T p None is e = absurd cc
 some_low T p (Some b) is e = slice_get_within T p b is
 

@@ -18,7 +18,6 @@ use Rattle.std.proofs.lemmas.Bool.Decides.{nat_tests}
 use Rattle.std.proofs.lemmas.Bool.{not-true, or_parts}
 use Rattle.shgrammar.specs.declared.keep.Keep.{Keep}
 use Rattle.shgrammar.proofs.Turns.{many_again, many_done}
-use Rattle.shgrammar.proofs.Places.{word_longer}
 use Rattle.shgrammar.proofs.Stretches.{place_low}
 use Rattle.shgrammar.proofs.Unbroken.{stays}
 use Rattle.shgrammar.proofs.Levels.{level_below}
@@ -93,10 +92,6 @@ closer_at T p n (Some b) end = closer_by T p n b end
 word_closes : (T : List ℕ) (q : ℕ) → ends_word T q ≡ true → piece_at T Plain 0 q ≡ pieces.Closer
 unfolding piece_at ends_word
 word_closes T q end = closer_at T q 0 (byte_at T q) end
-
--- where a word begins and another place ends it, some bytes stand between
-pub some_plain : (T : List ℕ) (p q : ℕ) → p ≤ q → ends_word T p ≡ false → ends_word T q ≡ true → p < q
-some_plain T p q low here there = word_longer T p q low here there
 
 -- ---- the pieces of a construct that opened at b
 

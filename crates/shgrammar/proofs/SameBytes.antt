@@ -50,7 +50,7 @@ unfolding continues
 no_backslash T p e = and_left _ _ e
 
 -- a byte over which it goes on is no backslash
-on_no_backslash_by : (b : Option ℕ) → passes goes_on b ≡ true → is_byte b backslash ≡ false
+pub on_no_backslash_by : (b : Option ℕ) → passes goes_on b ≡ true → is_byte b backslash ≡ false
 on_no_backslash_by None e = refl
 on_no_backslash_by (Some b) e = must_fail (b == backslash) (λ f. both_ways (goes_on b) (rw f refl) e)
 

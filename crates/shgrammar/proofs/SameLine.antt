@@ -25,11 +25,11 @@ use Rattle.shgrammar.proofs.OneOutcome.{computed_is_only}
 use Rattle.shgrammar.proofs.Holds.{Holds, Tells, change_low}
 use Rattle.shgrammar.proofs.Lined.{line_ended_low}
 use Rattle.shgrammar.proofs.SameBytes.{at_limit, byte_other, goes_on, halts, no_backslash}
-use Rattle.shgrammar.proofs.Ahead.{ListEnds, newline_ends, same_after}
+use Rattle.shgrammar.proofs.Ahead.{ListEnds, newline_ends, past_byte_is, same_after}
 use Rattle.shgrammar.proofs.BodiesThere.{read_to_limit}
 use Rattle.shgrammar.proofs.TokensShown.{Begins, Fine, newline_here, shown_level, shown_next, shown_on_line}
 use Rattle.shgrammar.proofs.Asked.{Good}
-use Rattle.shgrammar.proofs.NoFurther.{reads_the_same, read_at_or_after as onward, there, elsewhere}
+use Rattle.shgrammar.proofs.NoFurther.{reads_the_same, read_at_or_after, there, elsewhere}
 use Rattle.shgrammar.specs.declared.edition.Edition.{Edition}
 
 module _ {edition : Edition} {T U : List ℕ} {a M : ℕ} {to : ℕ → ℕ} (E : ListEnds edition T U a M to 10) (o o2 : ℕ)
@@ -56,7 +56,7 @@ module _ {edition : Edition} {T U : List ℕ} {a M : ℕ} {to : ℕ → ℕ} (E 
       (y : Read (Row AnEntry × Bool)) (k : Row Spelled) → Then (may r g) (λ x. may (q x) g) s y k →
       Again (both r q) s y
   both_again r q s from rest y k (and_then {x = x} {t = t} {k = k1} {l = l} one two) closed =
-      let b = rest x t (omega (arith, from, onward r g s (Ok (x, t)) k1 one)) (k1, one) y l two closed in
+      let b = rest x t (omega (arith, from, read_at_or_after r g s (Ok (x, t)) k1 one)) (k1, one) y l two closed in
       let c = reads_the_same E o o2 off r s from (Ok (x, t)) k1 one b.0 in
       (c.0, (k1 ++ b.1.0, and_then c.1 b.1.1))
   both_again r q s from rest y k (or_stops one) closed = absurd closed
@@ -64,10 +64,6 @@ module _ {edition : Edition} {T U : List ℕ} {a M : ℕ} {to : ℕ → ℕ} (E 
   -- the end of a line
   abbrev ending : Inner → Row AnEntry → Bool → Bool → Next → Form (Row AnEntry × Bool)
   ending inner es newline end n = both (line_end_by inner newline end n) (λ newline. give (es, newline))
-
-  behind_is : (p : ℕ) → past_byte T p ≡ past_continuations T p + 1
-  unfolding past_byte
-  behind_is p = refl
 
   -- after the newline here
   abbrev past : State → State
@@ -102,9 +98,9 @@ module _ {edition : Edition} {T U : List ℕ} {a M : ℕ} {to : ℕ → ℕ} (E 
   newline_again inner es end n s from newline still (Ok t) is y y_is closed =
       let at_newline : t.at ≡ M + 1 = (subst Closed y_is closed).1 in
       let onward : past_byte T s.at ≤ t.at = change_low bodies_here g (past s) t is in
-      let low : a ≤ past_byte T s.at = omega (arith, from, behind_is s.at, still) in
+      let low : a ≤ past_byte T s.at = omega (arith, from, past_byte_is T s.at, still) in
       let good : Good T a M s.at =
-      newline_good s from newline still (omega (arith, at_newline, onward, behind_is s.at, still)) in
+      newline_good s from newline still (omega (arith, at_newline, onward, past_byte_is T s.at, still)) in
       let there_is : changed bodies_here h (there E o o2 off (past s)) ≡ Ok (there E o o2 off t) =
       read_to_limit E o o2 off (past s) t low at_newline refl is in
       let one = (computed_is_only (ending inner es true end n) h (there E o o2 off s)).some in

@@ -1,10 +1,9 @@
 -- What a token says of the bytes from its first one on.
-use Rattle.std.proofs.Common.{◌≡◌, ℕ, ◌<◌, ◌==◌, Bool, true, false, List, length, Option, Some, None, slice_get, refl, sym, ap, ◌∙◌, cond}
+use Rattle.std.proofs.Common.{◌≡◌, ℕ, ◌==◌, Bool, true, false, List, Option, Some, None, slice_get, refl, sym, ap, ◌∙◌, cond}
 use mathlib.Core.Bool.{Bool-set}
 use native.Mathlib.Bridge.{le_prop}
 use native.Mathlib.Nat.{ℕ_set}
 use Rattle.std.proofs.lemmas.Bool.{eqb-true, or_from, cond_both}
-use Rattle.std.proofs.lemmas.Option.{slice_get_within}
 use Rattle.shgrammar.specs.declared.token.Position.{Position}
 use Rattle.shgrammar.specs.declared.token.Position.TheVariants.{Command, Prefix, Suffix}
 use Rattle.shgrammar.specs.declared.token.Reserved.{Reserved}
@@ -20,23 +19,7 @@ use Rattle.shgrammar.specs.Commands.{is_long, is_strip, redirect_operator_of, ta
 use Rattle.shgrammar.specs.declared.edition.Edition.{Edition}
 use Rattle.shgrammar.specs.Tokens.{first_word, greater_at, is_comment, is_end, is_later, is_number, less_at, token_in, token_at, token_of, word_by, word_of}
 use Rattle.shgrammar.specs.Shows.{IsRead, Shows}
-use Rattle.shgrammar.proofs.Places.{blanks_stop, place_same}
-
--- ---- a byte that is read lies in the text
-
--- By what is known of it: that it is this byte, or that there is one.
-
-byte_read : (T : List ℕ) (q c : ℕ) (b : Option ℕ) → slice_get T q ≡ b → is_byte b c ≡ true → q < length T
-byte_read T q c None is e = absurd cc
-byte_read T q c (Some b) is e = slice_get_within T q b is
-
-stands_read : (T : List ℕ) (q c : ℕ) → stands T q c ≡ true → IsRead T q
-unfolding stands
-stands_read T q c e = byte_read T (past_continuations T q) c _ refl e
-
-some_read : (T : List ℕ) (q : ℕ) (b : Option ℕ) → slice_get T q ≡ b → is_none b ≡ false → q < length T
-some_read T q None is e = absurd cc
-some_read T q (Some b) is e = slice_get_within T q b is
+use Rattle.shgrammar.proofs.Places.{blanks_stop, place_same, some_low, stands_low}
 
 -- ---- what the bytes are, by the token
 
@@ -87,11 +70,11 @@ module _ (T : List ℕ) (p : ℕ) where
   less_long =
       cond_both (stands T (past_byte T p) less_than_sign) _ _ Long
       (λ e. cond_both (stands T (past_byte T (past_byte T p)) hyphen) _ _ Long
-      (λ f l. stands_read T (past_byte T p) less_than_sign e)
-      (λ f l. stands_read T (past_byte T p) less_than_sign e))
-      (λ e. cond_both (stands T (past_byte T p) ampersand) _ _ Long (λ f l. stands_read T (past_byte T p) ampersand f)
+      (λ f l. stands_low T (past_byte T p) less_than_sign e)
+      (λ f l. stands_low T (past_byte T p) less_than_sign e))
+      (λ e. cond_both (stands T (past_byte T p) ampersand) _ _ Long (λ f l. stands_low T (past_byte T p) ampersand f)
       (λ f. cond_both (stands T (past_byte T p) greater_than_sign) _ _ Long
-      (λ g l. stands_read T (past_byte T p) greater_than_sign g)
+      (λ g l. stands_low T (past_byte T p) greater_than_sign g)
       (λ g l. absurd cc)))
 
   -- `<<-` has a third one
@@ -103,7 +86,7 @@ module _ (T : List ℕ) (p : ℕ) where
   less_strip =
       cond_both (stands T (past_byte T p) less_than_sign) _ _ Strip
       (λ e. cond_both (stands T (past_byte T (past_byte T p)) hyphen) _ _ Strip
-      (λ f l. stands_read T (past_byte T (past_byte T p)) hyphen f) (λ f l. absurd cc))
+      (λ f l. stands_low T (past_byte T (past_byte T p)) hyphen f) (λ f l. absurd cc))
       (λ e. cond_both (stands T (past_byte T p) ampersand) _ _ Strip (λ f l. absurd cc)
       (λ f. cond_both (stands T (past_byte T p) greater_than_sign) _ _ Strip (λ g l. absurd cc) (λ g l. absurd cc)))
 
@@ -118,10 +101,10 @@ module _ (T : List ℕ) (p : ℕ) where
   unfolding greater_at
   greater_long =
       cond_both (stands T (past_byte T p) greater_than_sign) _ _ Long
-      (λ e l. stands_read T (past_byte T p) greater_than_sign e)
-      (λ e. cond_both (stands T (past_byte T p) ampersand) _ _ Long (λ f l. stands_read T (past_byte T p) ampersand f)
+      (λ e l. stands_low T (past_byte T p) greater_than_sign e)
+      (λ e. cond_both (stands T (past_byte T p) ampersand) _ _ Long (λ f l. stands_low T (past_byte T p) ampersand f)
       (λ f. cond_both (stands T (past_byte T p) vertical_line) _ _ Long
-      (λ g l. stands_read T (past_byte T p) vertical_line g)
+      (λ g l. stands_low T (past_byte T p) vertical_line g)
       (λ g l. absurd cc)))
 
   -- and none that begins with `>` takes a here-document
@@ -140,15 +123,15 @@ module _ (T : List ℕ) (p : ℕ) where
       let P = Byte T p (Some b) in
       cond_both (is_newline b) _ _ P (λ e. e)
       (λ n. cond_both (b == semicolon) _ _ P
-      (λ e. cond_both (stands T (past_byte T p) semicolon) _ _ P (λ f. stands_read T (past_byte T p) semicolon f)
-      (λ f. cond_both (stands T (past_byte T p) ampersand) _ _ P (λ g. stands_read T (past_byte T p) ampersand g)
+      (λ e. cond_both (stands T (past_byte T p) semicolon) _ _ P (λ f. stands_low T (past_byte T p) semicolon f)
+      (λ f. cond_both (stands T (past_byte T p) ampersand) _ _ P (λ g. stands_low T (past_byte T p) ampersand g)
       (λ g. tt)))
       (λ e. cond_both (b == ampersand) _ _ P
-      (λ f. cond_both (stands T (past_byte T p) ampersand) _ _ P (λ g. stands_read T (past_byte T p) ampersand g)
+      (λ f. cond_both (stands T (past_byte T p) ampersand) _ _ P (λ g. stands_low T (past_byte T p) ampersand g)
       (λ g. tt))
       (λ f. cond_both (b == vertical_line) _ _ P
       (λ g. cond_both (stands T (past_byte T p) vertical_line) _ _ P
-      (λ h. stands_read T (past_byte T p) vertical_line h) (λ h. tt))
+      (λ h. stands_low T (past_byte T p) vertical_line h) (λ h. tt))
       (λ i. cond_both (b == left_parenthesis) _ _ P (λ g. tt)
       (λ j. cond_both (b == right_parenthesis) _ _ P (λ g. tt)
       (λ k. cond_both (b == less_than_sign) _ _ P (λ g. (less_long, less_strip, λ h. g))
@@ -452,7 +435,7 @@ pub shown : (position : Position) (T : List ℕ) (p : ℕ) →
 unfolding token_at stands_in raw_stands
 shown position T p =
     let q = past_blanks T p in
-    shows_by T q _ (blanks_still T p) (λ e. some_read T _ _ refl (some_byte T q position (byte_at T q) e))
+    shows_by T q _ (blanks_still T p) (λ e. some_low T _ _ refl (some_byte T q position (byte_at T q) e))
     (token_byte T q position (byte_at T q) (blanks_stop T p))
     (λ e. ap (λ r. is_byte (slice_get T r) number_sign) (sym (blanks_still T p)) ∙ no_hash T q position
     (byte_at T q) _ refl e)

@@ -1,45 +1,17 @@
 -- What holds of whatever is read with its tree, unless the reading ends above a limit:
--- the laws of forms for it; and where comments end.
-use Rattle.std.proofs.Common.{◌≡◌, refl, subst, ℕ, ◌+◌, ◌≤◌, Bool, true, false, cond, Ok, Err, List, List as Row, ◌∷◌, ◌++◌, [], Some, None, arith}
+-- the laws of forms for it.
+use Rattle.std.proofs.Common.{◌≡◌, refl, ℕ, ◌+◌, ◌≤◌, Bool, true, false, List as Row, ◌∷◌, ◌++◌, [], arith}
 use Rattle.std.specs.Prelude.{All}
 use Rattle.std.proofs.lemmas.List.Elements.{All-nil, All-push}
 use Rattle.shgrammar.specs.declared.keep.Keep.TheVariants.{Whole}
 use Rattle.shgrammar.specs.declared.fault.FaultKind.{FaultKind}
-use Rattle.shast.specs.declared.tree.Span.{Span}
 use Rattle.shast.specs.Nodes.{IsSpanWithin}
-use Rattle.shgrammar.specs.Standing.{raw_stands, next_newline, before_blanks}
-use Rattle.shgrammar.specs.Comments.{span, comment_at, past_comment}
 use Rattle.shgrammar.specs.Sights.{Given, Move, Sight, State, here, seen}
 use Rattle.shgrammar.specs.HereDocuments.{own_level}
-use Rattle.shgrammar.specs.Form.{Form, Read, Telling, a_level, both, does, ends_as, give, many, move, moved_on, push, see, stop, token, with_bytes, Step, again, done, step_if, in_substitution}
+use Rattle.shgrammar.specs.Form.{Form, Telling, a_level, both, does, ends_as, give, many, move, moved_on, push, see, stop, token, with_bytes, Step, again, done, step_if, in_substitution}
 use Rattle.shgrammar.specs.Commands.{pick}
-use Rattle.shgrammar.proofs.Places.{next_newline_low}
-use Rattle.shgrammar.proofs.Holds.{Holds, Tells, Turned, no_form_goes_back, tells_ending, tells_level, tells_so, tells_then, tells_token, tells_until, tells_with_bytes, tells_inside}
-use Rattle.shgrammar.proofs.Within.{before_blanks_low}
+use Rattle.shgrammar.proofs.Holds.{Tells, Turned, no_form_goes_back, tells_ending, tells_level, tells_so, tells_then, tells_token, tells_until, tells_with_bytes, tells_inside, holds_and}
 use Rattle.shgrammar.proofs.BodiesHeld.{HoldsWithin, held, unless_above}
-
--- ---- comments
-
-comment_by_test : (test : Bool) (o p last next : ℕ) (c : Span) → p ≤ next → last ≤ next →
-    cond test (Some (span o p last)) None ≡ Some c
-    → IsSpanWithin (o + cond test next p) c
-comment_by_test true o p last next c one two is = let spans : span o p last ≡ c = cc in
-    subst (λ (d : Span). IsSpanWithin (o + next) d) spans (omega (arith, one), omega (arith, two))
-comment_by_test false o p last next c one two is = absurd cc
-
--- a comment ends before the place after it
-pub comment_ends : (T : List ℕ) (o p : ℕ) (c : Span) → comment_at T o p ≡ Some c → IsSpanWithin (o + past_comment T p) c
-unfolding comment_at past_comment
-comment_ends T o p c is =
-    comment_by_test (raw_stands T p 35) o p (before_blanks T (next_newline T p)) (next_newline T p) c
-    (next_newline_low T p) (before_blanks_low T (next_newline T p)) is
-
--- ---- forms
-
-holds_and : {X : Type 0} (P Q : X → State → Type 0) (x : Read X) → Holds P x → Holds Q x →
-    Holds (λ a t. P a t × Q a t) x
-holds_and P Q (Ok (a, t)) one two = (one, two)
-holds_and P Q (Err f) one two = tt
 
 -- P holds of what r reads from s on, with its tree, unless that ends above the limit
 pub record UpTo (g : Given) (limit : ℕ) {X : Type 0} (r : Form X) (P : X → Type 0) (s : State) : Type 0 where

@@ -1,5 +1,5 @@
 -- No node of what was read names an offset past the place where the reading stands then.
-use Rattle.std.proofs.Common.{◌≡◌, refl, sym, subst, ℕ, zero, suc, ◌+◌, ◌≤◌, Bool, true, false, cond, Ok, Err, List, List as Row, [], ◌∷◌, ◌++◌, Option, Some, None, is_some, arith, ⊎_elim}
+use Rattle.std.proofs.Common.{◌≡◌, refl, sym, subst, ℕ, zero, suc, ◌+◌, ◌≤◌, Bool, true, false, cond, Ok, List, List as Row, [], ◌∷◌, ◌++◌, Option, Some, None, is_some, arith, ⊎_elim}
 use Rattle.std.specs.Prelude.{All, MatchOption, unwrap_or}
 use Rattle.std.proofs.lemmas.Bool.{cases_lt, cond_both}
 use Rattle.std.proofs.lemmas.List.Elements.{All-head, All-nil, All-push, All-tail}
@@ -31,7 +31,7 @@ use Rattle.shgrammar.specs.Comments.{span, comment_at, past_comment}
 use Rattle.shgrammar.specs.Classes.{is_blank}
 use Rattle.shgrammar.specs.Sights.{Given, given, State, standing, here, one_byte, the_digits}
 use Rattle.shgrammar.specs.HereDocuments.{own_level}
-use Rattle.shgrammar.specs.Form.{with_bytes, a_level, Spelled, Telling, Read, Form, give, move, push, both, many, token, ends_as, does, Step, again, done, step_if, pushed, see, grows, inside}
+use Rattle.shgrammar.specs.Form.{with_bytes, a_level, Spelled, Telling, Form, give, move, push, both, many, token, ends_as, does, Step, again, done, pushed, see, grows, inside}
 use Rattle.shgrammar.specs.Words.{Inner, WordSoFar, having, opened, piece_row, a_piece, contents, a_word}
 use Rattle.shgrammar.specs.Commands.{pick, is_pipe, is_bang, begins_simple, begins_word, begins_redirect, begins_pipeline, opener_of, compound_by, and_or_operator_of, breaks, Items, so_many, after_word, is_number_token, redirect_operator_of, is_strip, a_number, an_operator, operator_by, a_target, one_redirect, after_redirect, redirect_turn, with_redirect_list, as_item, an_item, item_by, item_turn, a_simple, a_bang, a_comment, comment_by, unexpected, with_comment, JoinSo, join_turn, a_join, a_command, Piped, piped, one_command, pipe_turn, a_pipeline, Joined, joined_so, one_pipeline, joined_by, and_or_turn, an_and_or, is_background, an_entry, a_word_command, is_word, is_paren, separator_of, separator_by, a_separator, past_separator, ends_item, falls_through}
 use Rattle.shgrammar.specs.Lists.{ListSo, list_so, none_listed, is_blank_next, one_entry, entry_turn, remark_by, a_remark, on_line, list_turn, a_list, Listed}
@@ -43,7 +43,8 @@ use Rattle.shgrammar.specs.Scripts.{SoFar, the_line, with_line}
 use Rattle.shgrammar.proofs.OneOutcome.{computed_is_only}
 use Rattle.shgrammar.proofs.Ahead.{past_byte_is}
 use Rattle.shgrammar.proofs.Places.{after_low, next_newline_low}
-use Rattle.shgrammar.proofs.Holds.{Holds, Tells, Turned, tells_with_bytes, tells_level, tells_give, tells_then, tells_token, tells_many, tells_so, tells_ending, tells_seen, tells_moved, no_form_goes_back, tells_inside}
+use Rattle.shgrammar.proofs.Holds.{Holds, Tells, Turned, tells_with_bytes, tells_level, tells_give, tells_then, tells_token, tells_many, tells_so, tells_ending, tells_seen, tells_moved, no_form_goes_back, tells_inside, holds_and}
+use Rattle.shgrammar.proofs.UpToLimit.{Stepped, stepped}
 use Rattle.shgrammar.specs.declared.keep.Keep.TheVariants.{Whole}
 use Rattle.shgrammar.specs.declared.edition.Edition.{Edition}
 
@@ -65,19 +66,13 @@ comment_by_test true o p last next c one two is = let spans : span o p last ≡ 
 comment_by_test false o p last next c one two is = absurd cc
 
 -- a comment ends before the place after it
-comment_low : (T : List ℕ) (o p : ℕ) (c : Span) → comment_at T o p ≡ Some c → IsSpanWithin (o + past_comment T p) c
+pub comment_ends : (T : List ℕ) (o p : ℕ) (c : Span) → comment_at T o p ≡ Some c → IsSpanWithin (o + past_comment T p) c
 unfolding comment_at past_comment
-comment_low T o p c is =
+comment_ends T o p c is =
     comment_by_test (raw_stands T p 35) o p (before_blanks T (next_newline T p)) (next_newline T p) c
     (next_newline_low T p) (before_blanks_low T (next_newline T p)) is
 
 -- ---- forms
-
--- of what was read two facts hold at once
-holds_and : {X : Type 0} (P Q : X → State → Type 0) (x : Read X) → Holds P x → Holds Q x →
-    Holds (λ a t. P a t × Q a t) x
-holds_and P Q (Ok (a, t)) one two = (one, two)
-holds_and P Q (Err f) one two = tt
 
 module _ (keep : Keep) (g : Given) (limit : ℕ) where
   -- the reading does not stand above the limit
@@ -130,21 +125,11 @@ module _ (keep : Keep) (g : Given) (limit : ℕ) where
       })
       (λ a t so. λ b. (so.0 b, (omega (arith, so.1, b), b)))
 
-  -- what a turn gives
-  abbrev Stepped : {A : Type 0} → (A → Type 0) → Step A → Type 0
-  Stepped P (again a) = P a
-  Stepped P (done a) = P a
-
   -- what holds of a turn's step holds of where it goes on, or ends
   turned : {A : Type 0} (P : A → Type 0) (c : Step A) (t : State) → (Before t → Stepped P c) →
       Turned keep g (λ a u. Before u → P a) c t
   turned P (again a) t so = so
   turned P (done a) t so = so
-
-  -- a step that goes on or ends by a test
-  stepped : {A : Type 0} (P : A → Type 0) (b : Bool) (a : A) → P a → Stepped P (step_if b a)
-  stepped P true a so = so
-  stepped P false a so = so
 
   -- a repetition
   repeats : {A : Type 0} (P : A → Type 0) (turn : A → Form (Step A)) →
@@ -323,7 +308,7 @@ module _ (keep : Keep) (g : Given) (limit : ℕ) where
         tells_then keep g {P = λ x t. t.at ≡ past_comment g.text s.at} (record { told = refl })
         (λ x t there. unless (λ b. after
         (λ m u. gives (span_fits_more _ limit (subst (λ p. g.offset + p ≤ limit) there b) c
-        (comment_low g.text g.offset s.at c is)))))
+        (comment_ends g.text g.offset s.at c is)))))
 
     comment_fits : (n : Next) (s : State) → R (a_comment n) OwnComment s
     unfolding a_comment

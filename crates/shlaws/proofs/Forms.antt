@@ -1,7 +1,6 @@
 -- What is read where each turn leads on: the laws of forms for it.
-use Rattle.std.proofs.Common.{◌≡◌, ℕ, ◌≤◌, ◌<◌, Bool, true, false, Result, Ok, Err, List as Row, [], ◌∷◌, ◌++◌, refl, sym, subst, arith}
+use Rattle.std.proofs.Common.{◌≡◌, ℕ, ◌≤◌, ◌<◌, Bool, true, false, Result, Ok, Err, List as Row, [], ◌∷◌, ◌++◌, refl, arith}
 use Rattle.std.proofs.lemmas.Bool.{both_ways, lt-ltb, ltb-true}
-use Rattle.shgrammar.specs.declared.keep.Keep.TheVariants.{Whole}
 use Rattle.shgrammar.specs.declared.fault.Fault.{Fault}
 use Rattle.shgrammar.specs.declared.fault.FaultKind.{FaultKind}
 use Rattle.shast.specs.declared.tree.Span.{Span}
@@ -10,8 +9,8 @@ use Rattle.shgrammar.specs.Form.{Changed, Either, Ending, Form, Halts, Just, One
 use Rattle.shgrammar.specs.HereDocuments.{Change, changed, own_level}
 use Rattle.shgrammar.specs.Shows.{IsRead}
 use Rattle.shgrammar.specs.Sights.{Given, Move, Sight, State, seen}
-use Rattle.shgrammar.proofs.Holds.{AtOrAfter, Holds, no_form_goes_back}
-use Rattle.shgrammar.proofs.OneOutcome.{computed_is_only}
+use Rattle.shgrammar.proofs.Holds.{AtOrAfter, Holds, holds_and}
+use Rattle.shgrammar.proofs.NoFurther.{read_at_or_after}
 use Rattle.shgrammar.proofs.Stretches.{place_low}
 use Rattle.shlaws.specs.Onward.{TurnsOn, last as last_on, more as more_on, halts as halts_on, may_onward}
 
@@ -188,21 +187,14 @@ module _ (g : Given) where
       → ((x : X) (t : State) → P x t → Q x t) → Goes r Q s
   follows one so = record { on = λ y k part. let a = one.on y k part in (a.0, so_by so y a.1) }
 
-  also_by : {X : Type 0} (P Q : X → State → Type 0) (y : Read X) → Holds P y → Holds Q y
-      → Holds (λ x t. P x t × Q x t) y
-  also_by P Q (Ok (x, t)) one two = (one, two)
-  also_by P Q (Err f) one two = tt
-
   -- no form goes back
   pub ahead : {X : Type 0} {P : X → State → Type 0} {r : Form X} {s : State} → Goes r P s
       → Goes r (λ x t. P x t × (s.at ≤ t.at)) s
   ahead {P = P} {r = r} {s = s} one =
       record {
-        on = λ y k part. let a = one.on y k part in (a.0, also_by P (AtOrAfter s) y a.1 (back y k part));
+        on = λ y k part. let a = one.on y k part in
+            (a.0, holds_and P (AtOrAfter s) y a.1 (read_at_or_after r g s y k part));
       }
-    where
-      back : (y : Read _) (k : Row Spelled) → may r g s y k → Holds (AtOrAfter s) y
-      back y k part = subst (Holds (AtOrAfter s)) (sym ((is r g s).only y k part)) (no_form_goes_back r Whole g s).told
 
   -- ---- repetitions
 

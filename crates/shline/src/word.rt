@@ -230,7 +230,7 @@ impl<'a, S: Source, const TREE: u8> Cursor<'a, S, TREE> {
     /// Passes the word that begins here, and tells its substitutions. Most words are plain bytes alone.
     #[cycle(commands)]
     #[inline(always)]
-    #[tactic(auto, using(shgrammar::proofs::PlainBytes::plain_word, shgrammar::proofs::PlainBytes::word_rest, crate::proofs::Stops::word_stops, shgrammar::proofs::PlainBytes::some_plain))]
+    #[tactic(auto, using(shgrammar::proofs::PlainBytes::plain_word, shgrammar::proofs::PlainBytes::word_rest, crate::proofs::Stops::word_stops, shgrammar::proofs::Places::word_longer))]
     pub(crate) fn pass_word(&mut self, substs: &mut Vec<Subst>, room: usize) -> Result<(), Stop>
         requires word { ends_word (text_of self.old) (start_of self.old) ≡ false }
         requires none { substs.old.items ≡ [] }
