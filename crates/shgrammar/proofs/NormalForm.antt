@@ -77,6 +77,7 @@ or_more : (a b c : Bool) → (b ≡ true → c ≡ true) → (a || b) ≡ true �
 or_more true b c more e = refl
 or_more false b c more e = more e
 
+-- a list holds a command, where its last entry is one, or where one stood before that
 command_last : (es : Row AnEntry) (e : AnEntry) → is_command e ≡ true → holds_command (entries_of (es ++ e ∷ [])) ≡ true
 command_last [] e one = rw one refl
 command_last (x ∷ es) e one = rw (command_last es e one) (or-true (is_command x))
@@ -98,6 +99,7 @@ pub record NormalList (blank : Bool) (l : Listed) : Type 0 where
 pub no_entries : (blank : Bool) → NormalList blank (none_listed blank)
 no_entries blank = record { first = λ e. refl; none = λ e f. e; all = refl; command = λ e. absurd cc }
 
+-- the first entry, with one more at the end
 first_entry : (es : Row AnEntry) (e : AnEntry) (blank begun : Bool) → first_not_blank (entries_of es) ≡ true →
     (is_empty es ≡ true → blank ≡ false)
     → is_blank_entry e ≡ (blank && begun) → first_not_blank (entries_of (es ++ e ∷ [])) ≡ true
@@ -142,6 +144,7 @@ newline_more blank l so = record {
 
 -- ---- joins
 
+-- a join with its comments is broken where it was before
 all_broken : (cs : Row Span) (broken : Bool) → broken ≡ true → broken_by cs broken ≡ true
 all_broken [] broken e = refl
 all_broken (c ∷ cs) broken e = e
@@ -215,6 +218,7 @@ script_more gap (e ∷ es) ls list first all = let parts = and_parts _ _ list in
 -- ---- what the rows read
 
 module _ (g : Given) where
+  -- P holds of what r reads with its tree, and of the state there
   abbrev N : {X : Type 0} → Form X → (X → State → Type 0) → State → Type 0
   N r P s = Tells Whole g r P s
 
@@ -225,6 +229,7 @@ module _ (g : Given) where
   abbrev Substs : WordSoFar → State → Type 0
   Substs h t = are_normal_substs (substs_of h.substs) ≡ true
 
+  -- what may be opened is in normal form
   pub record Fine (inner : Inner) : Type 0 where
     pub construct : (mode : Mode) (b : ℕ) (ss : Row ASubst) (s : State) → are_normal_substs (substs_of ss) ≡ true
         → N (inner.construct mode b ss) (λ zs t. are_normal_substs (substs_of zs) ≡ true) s
@@ -282,6 +287,8 @@ module _ (g : Given) where
         (λ ss u good. good)) (λ w u good. gives good))
 
     -- ---- commands
+
+    -- Each row of a command: where what it has so far is in normal form, so is what it gives.
 
     abbrev ItemsSo : Items → State → Type 0
     ItemsSo i t = NormalRow i.items
@@ -468,6 +475,8 @@ module _ (g : Given) where
 
     -- ---- lists
 
+    -- Each row of a list: where its entries so far are in normal form, so are those with what it adds.
+
     module _ (blank : Bool) where
       abbrev ListHolds : ListSo → State → Type 0
       ListHolds l t = NormalList blank l.list
@@ -543,6 +552,8 @@ module _ (g : Given) where
         (λ e. gives (and_from _ _ (so.command e) (so.first refl), so.all)) (stops inner l.next))
 
     -- ---- compound commands
+
+    -- Each row of a compound command gives what is in normal form.
 
     normal_branch : (n : Next) (s : State) → N (a_branch inner n) (λ x t. is_normal_branch x.0 ≡ true) s
     unfolding a_branch

@@ -43,6 +43,7 @@ module _ (g : Given) where
   Begins n t = (position : Position)
       × ((n.token ≡ token_in g.edition (token_at position g.text t.at)) × (past_continuations g.text t.at ≡ t.at))
 
+  -- what was read, and this token handed on after it
   abbrev pub HandsOn : {X : Type 0} → X × Next → State → Type 0
   HandsOn x t = Begins x.1 t
 

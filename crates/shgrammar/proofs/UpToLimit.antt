@@ -22,6 +22,7 @@ abbrev pub Stepped : {A : Type 0} → (A → Type 0) → Step A → Type 0
 Stepped P (again a) = P a
 Stepped P (done a) = P a
 
+-- a step that goes on or ends by a test
 pub stepped : {A : Type 0} (P : A → Type 0) (b : Bool) (a : A) → P a → Stepped P (step_if b a)
 stepped P true a so = so
 stepped P false a so = so

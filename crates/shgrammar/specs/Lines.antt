@@ -90,7 +90,7 @@ abbrev pub EntryNodesWithin : ℕ → AKind → Type 0
 EntryNodesWithin limit (entries_line es) = NodesWithin limit es
 EntryNodesWithin limit _ = Unit {0}
 
--- the same of the entries of a line, where it has some
+-- no span of a line's entries names an offset above this one, and each simple command has an item
 abbrev pub EntrySpansWithin : ℕ → AKind → Type 0
 EntrySpansWithin limit (entries_line es) = SpansWithin limit es × HaveItems es
 EntrySpansWithin limit _ = Unit {0}

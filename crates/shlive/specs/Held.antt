@@ -9,7 +9,7 @@ pub record SessionOptions : Type 0 where
   pub layout : Layout
 
 -- The bytes of its script, how it reads and prints them, and how many bytes it read so far. The tree that it
--- keeps is no part of this: what a session answers is said of the bytes and the manner alone.
+-- keeps is no part of this: what a session answers is said of the bytes, and how it reads and prints, alone.
 pub record Held : Type 0 where
   pub bytes : List ℕ
   pub how : SessionOptions

@@ -54,6 +54,7 @@ first_line (b ∷ bs) = if is_newline b then Some ([], bs) else with_text_before
 
 -- ---- how bytes are understood
 
+-- what takes the next request from the bytes that are to come, or says how they end
 abbrev pub Parser : Type 0
 Parser = List ℕ → NextRequest
 

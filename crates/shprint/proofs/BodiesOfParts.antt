@@ -22,6 +22,7 @@ module _ (B : List ℕ) where
   row_back bs es x is texts = ap (shape_of B) (row_filled bs es) ∙ shape_filled B bs (entries_of es)
       ∙ rw (is, texts) (filled_back [] x)
 
+  -- a row of one entry stays one with its bodies
   one_filled : (bs : Row Span) (v : AnEntry) → (w : AnEntry) × (filled_row bs (v ∷ []) ≡ w ∷ [])
   unfolding filled_row fill_row
   one_filled [] v = (v, refl)
@@ -42,6 +43,7 @@ module _ (B : List ℕ) where
 
 -- ---- the words of a `for`
 
+-- the words of a `for` hold no document: they are open as they are, and add no body
 pub for_words_open : {edition : Edition} {room : ℕ} {position last : Position} {is : Shape ItemsOf} →
     GoodItems edition room of_for position is last → open_items [] is ≡ is
 unfolding open_items open_item open_item_content

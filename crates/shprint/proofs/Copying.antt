@@ -15,6 +15,7 @@ use Rattle.shprint.specs.Printed.{would_lengthen}
 -- ---- by stretches
 
 module _ (B : List ℕ) (at : ℕ) (run : List ℕ) (is : IsRun B at run) where
+  -- so much of the text is left
   within : length run ≤ length (drop at B)
   within = grind (arith, is.short, is.none, length-drop)
 
@@ -39,6 +40,7 @@ module _ (B : List ℕ) (at : ℕ) (run : List ℕ) (is : IsRun B at run) where
 
 -- ---- by the byte
 
+-- of no bytes none are taken
 none_taken : (n : ℕ) → take {A = ℕ} n [] ≡ []
 none_taken zero = refl
 none_taken (suc n) = refl
@@ -51,6 +53,7 @@ drop_some (c ∷ B) (suc at) b e =
     let next : suc at + 1 ≡ suc (at + 1) = omega arith in
     rw next (drop_some B at b e)
 
+-- where no byte stands the text has ended
 pub drop_none : (B : List ℕ) (at : ℕ) → slice_get B at ≡ None → drop at B ≡ []
 drop_none [] zero e = refl
 drop_none [] (suc at) e = refl
@@ -65,9 +68,11 @@ bare_pair : (X : List ℕ) → bare (backslash ∷ newline_char ∷ X) ≡ bare 
 unfolding bare
 bare_pair X = refl
 
+-- two bytes that are no continuation
 unlike : (b c : ℕ) → (b ≡ backslash → c ≡ newline_char → ⊥) → (b == backslash && c == newline_char) ≡ false
 unlike b c unjoined = grind (arith, nat_tests)
 
+-- the first of them is in the bare text
 bare_two : (b c : ℕ) (X : List ℕ) → (b ≡ backslash → c ≡ newline_char → ⊥) → bare (b ∷ c ∷ X) ≡ b ∷ bare (c ∷ X)
 unfolding bare
 bare_two b c X unjoined = rw (unlike b c unjoined) refl
@@ -80,12 +85,14 @@ bare_first b zero X unjoined = refl
 bare_first b (suc n) [] unjoined = refl
 bare_first b (suc n) (c ∷ X) unjoined = bare_two b c (take n X) (λ e f. unjoined e (ap Some f) (omega arith))
 
+-- the first byte from a place on
 get_drop : (B : List ℕ) (at : ℕ) → slice_get (drop at B) 0 ≡ slice_get B at
 get_drop B zero = refl
 get_drop [] (suc at) = refl
 get_drop (b ∷ B) (suc at) = get_drop B at
 
 module _ (B : List ℕ) (at «end» b : ℕ) (here : slice_get B at ≡ Some b) (before : at < «end») where
+  -- a stretch by its first byte
   pub taken : take («end» - at) (drop at B) ≡ b ∷ take («end» - (at + 1)) (drop (at + 1) B)
   taken =
       let n : «end» - at ≡ suc («end» - (at + 1)) = omega (arith, before) in
@@ -111,6 +118,7 @@ bare_joined B at «end» one two lt =
 -- ---- a word after `<<`
 
 module _ (B : List ℕ) (s : Span) (some : s.start < s.«end») where
+  -- by the byte that stands there, or none
   strip_by : (o : Option ℕ) → slice_get B s.start ≡ o →
       would_lengthen redirects.Here (text_at B s) ≡ option_eq ◌==◌ o (Some hyphen)
   strip_by None e = rw (drop_none B s.start e, none_taken (s.«end» - s.start)) refl

@@ -30,6 +30,7 @@ use Rattle.shprint.proofs.Good.{GoodNumber, all_digits}
 abbrev Counts : Bool → Token → Type 0
 Counts here t = is_number_token t ≡ true → here ≡ true
 
+-- a word is no number, by its position
 word_counts : (here assigns : Bool) → Counts here (word_of assigns)
 word_counts here true e = absurd cc
 word_counts here false e = absurd cc
@@ -47,6 +48,7 @@ word_by_counts here Suffix T p e = absurd cc
 neither : (here c : Bool) (x y : Token) → Counts here x → Counts here y → Counts here (cond c x y)
 neither here c x y one two = cond_both c x y (Counts here) (λ e. one) (λ e. two)
 
+-- whatever byte begins it, a token is a number where one stands
 token_counts : (position : Position) (T : List ℕ) (p : ℕ) (b : Option ℕ) →
     Counts (is_number_at T p) (token_of position T p b)
 token_counts position T p None = λ e. absurd cc
@@ -67,6 +69,7 @@ token_counts position T p (Some b) =
     (cond_both here tokens.Number (word_by position T p) (Counts here) (λ e f. e)
     (λ e. word_by_counts here position T p))))))))))
 
+-- so where the token is a number one stands
 pub number_here : (position : Position) (T : List ℕ) (p : ℕ) (t : Token) → token_at position T p ≡ t →
     is_number_token t ≡ true → is_number_at T p ≡ true
 unfolding token_at
@@ -85,6 +88,7 @@ raw_front T p q c at lt =
     let many : q - p ≡ suc (q - (p + 1)) = omega (arith, lt) in
     ap (take (q - p)) (one_front T p c at ∙ ap (λ r. c ∷ drop r T) next) ∙ ap (λ n. take n (c ∷ drop (p + 1) T)) many
 
+-- nothing stands between a place and itself
 raw_nothing : (T : List ℕ) (p : ℕ) → raw T p p ≡ []
 raw_nothing T p = let none : p - p ≡ 0 = omega arith in ap (λ n. take n (drop p T)) none
 
@@ -111,6 +115,7 @@ bare_of_digits [] all = refl
 bare_of_digits (c ∷ cs) all = let parts = and_parts _ _ all in
     bare_digit c cs parts.0 ∙ ap (λ z. c ∷ z) (bare_of_digits cs parts.1)
 
+-- one digit more
 digits_more : (c : ℕ) (t : Text) → is_digit c ≡ true → all_digits t ≡ true → all_digits (c ∷ t) ≡ true
 digits_more c t one others = and_from _ _ one others
 
@@ -145,9 +150,11 @@ pair_front T p q pair le =
     (raw_front T (p + 1) q newline_char (that_byte (slice_get T (p + 1)) newline_char parts.1) (omega (arith, le))
     ∙ ap (λ r. newline_char ∷ raw T r q) next)
 
+-- a digit and then digits
 abbrev Digits : Text → Type 0
 Digits t = (c : ℕ) × (cs : Text) × (t ≡ c ∷ cs) × (all_digits (c ∷ cs) ≡ true)
 
+-- by a test
 by_case : {P : Type 0} (b : Bool) → (b ≡ true → P) → (b ≡ false → P) → P
 by_case true one two = one refl
 by_case false one two = two refl
@@ -160,6 +167,7 @@ DigitsAt T p = Digits (bare (raw T p (past is_digit T p)))
 abbrev Further : ℕ → List ℕ → Type 0
 Further n T = (q : ℕ) → length T - q ≤ n → stands_in is_digit T q ≡ true → DigitsAt T q
 
+-- it holds before a continuation, and before a digit
 after_pair : (n : ℕ) (T : List ℕ) (p : ℕ) → Further n T → length T - p ≤ suc n → stands_in is_digit T p ≡ true →
     continues T p ≡ true → DigitsAt T p
 after_pair n T p further few digit pair =
@@ -192,16 +200,19 @@ one_digit n T p further few digit no_pair =
     ∙ ap bare (raw_nothing T (p + 1)) ∙ bare_nothing in
     (b.0, bare (raw T (p + 1) q), same, digits_more b.0 (bare (raw T (p + 1) q)) b.2 (ap all_digits nothing)))
 
+-- so it does from each place at which a digit is read, by how much of the text is left
 digits_from : (n : ℕ) (T : List ℕ) (p : ℕ) → length T - p ≤ n → stands_in is_digit T p ≡ true → DigitsAt T p
 digits_from zero T p few digit = absurd (omega (arith, few, stands_in_low is_digit T p digit, place_low T p))
 digits_from (suc n) T p few digit =
     let further : Further n T = λ q low is. digits_from n T q low is in
     by_case (continues T p) (after_pair n T p further few digit) (one_digit n T p further few digit)
 
+-- such digits are a good number
 number_of : (t : Text) → Digits t → GoodNumber (Some t)
 number_of [] (c, cs, is, all) = absurd cc
 number_of (d ∷ ds) (c, cs, is, all) = ap all_digits is ∙ all
 
+-- the number of a redirection that was read is good
 pub digits_good : (B : List ℕ) (g : Given) → g.text ≡ drop g.offset B → (p : ℕ) → is_number_at g.text p ≡ true →
     GoodNumber (Some (bare_at B (span g.offset p (past_digits g.text p))))
 unfolding is_number_at past_digits

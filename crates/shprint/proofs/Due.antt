@@ -23,9 +23,11 @@ pub record Due : Type 0 where
   pub strip : Bool
   pub d : ADelimiter
 
+-- by its parts
 abbrev pub due_at : ℕ → Bool → ADelimiter → Due
 due_at b strip d = record { b = b; strip = strip; d = d }
 
+-- as it waits in the state
 abbrev pub as_waiting : Due → Waiting
 as_waiting x = document x.b x.strip x.d
 
@@ -45,6 +47,7 @@ module _ (g : Given) where
   Feeds (x ∷ xs) [] us = ⊥
   Feeds (x ∷ xs) (t ∷ ts) us = BodyOf x t × Feeds xs ts us
 
+  -- the last document has the last body
   feeds_last : (xs : Row Due) (x : Due) (ts us : Row Span) → Feeds (xs ++ x ∷ []) ts us → (t : Span) × BodyOf x t
       × Feeds xs ts (t ∷ us)
   feeds_last [] x [] us feeds = absurd feeds
@@ -52,6 +55,7 @@ module _ (g : Given) where
   feeds_last (y ∷ xs) x [] us feeds = absurd feeds
   feeds_last (y ∷ xs) x (t ∷ ts) us feeds = let r = feeds_last xs x ts us feeds.1 in (r.0, r.1, (feeds.0, r.2))
 
+  -- one document and its body more
   feeds_more : (xs : Row Due) (x : Due) (ts : Row Span) (t : Span) → Feeds xs ts [] → BodyOf x t →
       Feeds (xs ++ x ∷ []) (ts ++ t ∷ []) []
   feeds_more [] x [] t feeds body = (body, refl)
@@ -69,9 +73,11 @@ module _ (g : Given) where
     pub read : Feeds done bodies []
     pub wait : waiting ≡ map as_waiting due
 
+  -- so it is in a state
   abbrev pub DocsAt : Row Due → State → Type 0
   DocsAt D s = Docs D s.waiting s.bodies
 
+  -- before the first document
   pub no_docs : Docs [] [] []
   no_docs = record { done = []; due = []; all = refl; read = refl; wait = refl }
 
@@ -94,6 +100,7 @@ module _ (g : Given) where
       by_due [] all wait = subst (λ xs. Feeds xs bs []) (sym (all ∙ append-nil docs.done)) docs.read
       by_due (x ∷ due) all wait = absurd cc
 
+  -- and then no more is due
   pub done_docs : {D : Row Due} {bs : Row Span} → Feeds D bs [] → Docs D [] bs
   done_docs {D = D} feeds = record { done = D; due = []; all = sym (append-nil D); read = feeds; wait = refl }
 
@@ -101,6 +108,7 @@ module _ (g : Given) where
   inside : (w : Waiting) (p q : ℕ) → delimiter_from g.text w p ≡ Some q → p ≤ length g.text
   inside w p q found = let r = between g.text w false p q found in omega (arith, r.0, r.1)
 
+  -- the bodies that a newline token reads are those of the documents that wait
   bodies_good : (done due : Row Due) (bs cs : Row Span) (p q : ℕ) → Feeds done bs [] →
       bodies_from g (map as_waiting due) bs p ≡ Ok (cs, q) → Feeds (done ++ due) cs []
   unfolding bodies_from
@@ -188,6 +196,7 @@ module _ (g : Given) where
         (a.0, a.1, rw (is a.0, a.3) (so _ _ a.2 b.2), rw (is a.0, a.3) b.3);
   }
 
+  -- bodies into two parts, and two parts that take them
   abbrev pub fill_both : {X Y : Type 0} → (X → Row Span → X × Row Span) → (Y → Row Span → Y × Row Span) → X × Y →
       Row Span → (X × Y) × Row Span
   fill_both f h z ts =
@@ -210,14 +219,17 @@ module _ (g : Given) where
 
   -- ---- rows of parts
 
+  -- bodies into each part of a row
   abbrev pub fill_all : {A : Type 0} → (A → Row Span → A × Row Span) → Row A → Row Span → Row A × Row Span
   fill_all f xs ts = going f xs 0 ts
 
+  -- a row without parts
   pub opens_none : {A : Type 0} (f : A → Row Span → A × Row Span) {G : Row A → Type 0} {D : Row Due} → G [] →
       Opens (fill_all f) G D [] D
   unfolding going
   opens_none f good = opens_nothing [] (λ ts. refl) good
 
+  -- a row with one part more takes its bodies last
   going_last : {A : Type 0} (f : A → Row Span → A × Row Span) (xs : Row A) (x : A) (ts : Row Span)
       → going f (xs ++ x ∷ []) 0 ts
       ≡ ((going f xs 0 ts).0 ++ (f x (going f xs 0 ts).1).0 ∷ [], (f x (going f xs 0 ts).1).1)
@@ -232,10 +244,12 @@ module _ (g : Given) where
       Opens (fill_all f) K C (xs ++ x ∷ []) E
   opens_last {f = f} xs x so all one = opens_two (xs ++ x ∷ []) (λ ys y. ys ++ y ∷ []) (going_last f xs x) so all one
 
+  -- the row has a part
   abbrev pub SomeOf : {A : Type 0} → Row A → Type 0
   SomeOf [] = ⊥
   SomeOf (x ∷ xs) = Unit {0}
 
+  -- so it does with one more, and with its bodies
   pub some_last : {A : Type 0} (xs : Row A) (x : A) → SomeOf (xs ++ x ∷ [])
   some_last [] x = tt
   some_last (y ∷ xs) x = tt

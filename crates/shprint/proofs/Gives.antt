@@ -8,6 +8,7 @@ use Rattle.shgrammar.specs.Commands.{pick}
 use Rattle.shgrammar.proofs.Holds.{Holds, AtOrAfter, no_form_goes_back}
 use Rattle.shgrammar.proofs.OneOutcome.{computed_is_only}
 
+-- a row reads x in the state s, and goes on in the state t
 pub record Gives (g : Given) {X : Type 0} (r : Form X) (s : State) (x : X) (t : State) : Type 0 where
   pub passes : Row Spelled
   pub reads : may r g s (Ok (x, t)) passes
@@ -17,10 +18,12 @@ pub gives : {g : Given} {X : Type 0} {r : Form X} {s t : State} {x : X} (k : Row
 gives k part = record { passes = k; reads = part }
 
 infixr 6 ◌⟫◌
+-- a row and then the next
 pub ◌⟫◌ : {g : Given} {X Y : Type 0} {r : Form X} {q : X → Form Y} {s t u : State} {x : X} {y : Y} → Gives g r s x t →
     Gives g (q x) t y u → Gives g (both r q) s y u
 one ⟫ two = record { passes = one.passes ++ two.passes; reads = and_then one.reads two.reads }
 
+-- what a form of one step gives
 pub given_here : {g : Given} {X : Type 0} {x : X} {s : State} → Gives g (give x) s x s
 given_here = gives _ just
 

@@ -20,10 +20,12 @@ use Rattle.shast.specs.declared.tree.RedirectOperator.{RedirectOperator}
 use Rattle.shast.specs.Shape.{Text, Shape}
 use Rattle.shast.specs.Tree.{AHereOf, ForWordsOf, no_in, in_words, AWordOf, EntriesOf, no_entry, more_entries, AnEntryOf, entry, AContentOf, command, remark, AnAndOrOf, and_or, AndOrPartsOf, no_and_or, more_and_or, APipelineOf, pipeline, PipelinePartsOf, no_pipe, more_pipes, ACommandOf, simple, compound, function, ACompoundOf, formed, AFormOf, brace, subshell, if_then, while_do, until_do, for_in, case_in, ABranchOf, branch, BranchesOf, no_branch, more_branches, OtherwiseOf, no_else, otherwise, ItemsOf, no_item, more_items, AnItemOf, item, AnItemContentOf, assign, argument, redirect, word, SubstsOf, CaseItemsOf, no_case, more_cases, ACaseItemOf, case_item, PatternsOf, no_pattern, more_patterns}
 
+-- comments, of which each is one before any newline
 abbrev pub GoodComments : Row Text → Type 0
 GoodComments [] = Unit {0}
 GoodComments (c ∷ cs) = CommentAnywhere c × GoodComments cs
 
+-- the comment of an entry, or none
 abbrev pub GoodOwnComment : Option Text → Type 0
 GoodOwnComment None = Unit {0}
 GoodOwnComment (Some c) = CommentAnywhere c
@@ -33,6 +35,7 @@ abbrev pub as_shape : Position → Shape AWordOf → Shape AnItemContentOf
 as_shape Prefix w = assign w
 as_shape _ w = argument w
 
+-- the item that a word is there
 abbrev pub an_item_of : Bool → Position → Shape AWordOf → Shape AnItemOf
 an_item_of broken position w = item broken (as_shape position w)
 
@@ -41,6 +44,7 @@ abbrev pub all_digits : Text → Bool
 all_digits [] = true
 all_digits (b ∷ bs) = is_digit b && all_digits bs
 
+-- a number has a digit, or there is none
 abbrev pub GoodNumber : Option Text → Type 0
 GoodNumber None = Unit {0}
 GoodNumber (Some []) = ⊥
@@ -56,6 +60,7 @@ pub record GoodDocument (edition : Edition) (o : RedirectOperator) (t : Text) (h
   pub strip : h.strip ≡ is_strip o
   pub reads : DocumentAnywhere (is_strip o) d h.body
 
+-- the document of an operator that takes one, or none
 abbrev pub GoodHere : Edition → RedirectOperator → Text → Option (AHereOf Text) → Type 0
 GoodHere edition o t None = takes_here o ≡ false
 GoodHere edition o t (Some h) = GoodDocument edition o t h
@@ -67,6 +72,7 @@ pub record GoodRedirect (edition : Edition) (room : ℕ) (number : Option Text) 
   pub document : GoodHere edition o t h
   pub reads : ItemAnywhere edition room Suffix tokens.Word t ss
 
+-- a redirection as an item
 abbrev pub a_redirect_of : Bool → Option Text → RedirectOperator → Text → Shape SubstsOf → Option (AHereOf Text) →
     Shape AnItemOf
 a_redirect_of broken number o t ss h = item broken (redirect number o tt (word t ss) h)
@@ -98,6 +104,7 @@ pub data GoodItems (edition : Edition) (room : ℕ) (kind : Kind) : Position →
       GoodItem edition room kind position i next → GoodItems edition room kind next is last →
       GoodItems edition room kind position (more_items i is) last
 
+-- there is an item
 abbrev pub SomeItem : Shape ItemsOf → Type 0
 SomeItem no_item = ⊥
 SomeItem (more_items i is) = Unit {0}
@@ -118,6 +125,7 @@ pub record GoodRedirects (edition : Edition) (room : ℕ) (is : Shape ItemsOf) :
   pub last : Position
   pub items : GoodItems edition room of_compound Command is last
 
+-- the words of a `for`, or no `in`
 abbrev pub GoodForWords : Edition → ℕ → Shape ForWordsOf → Type 0
 GoodForWords edition room no_in = Unit {0}
 GoodForWords edition room (in_words items) = GoodWords edition room items
@@ -139,6 +147,7 @@ GoodMorePatterns edition room no_pattern = Unit {0}
 GoodMorePatterns edition room (more_patterns w ws) = GoodWord edition room Suffix begins_word w
     × GoodMorePatterns edition room ws
 
+-- all patterns, of which the first stands in another position
 abbrev pub GoodPatterns : Edition → ℕ → Shape PatternsOf → Type 0
 GoodPatterns edition room no_pattern = ⊥
 GoodPatterns edition room (more_patterns w ws) = GoodWord edition room Command begins_pattern w
@@ -154,6 +163,7 @@ pub record GoodName (edition : Edition) (room : ℕ) (name : Shape AWordOf) : Ty
   pub reads : ItemAnywhere edition room Suffix token t ss
   pub names : NameAnywhere t
 
+-- lists and all that holds them, where so many constructs may be opened
 abbrev mutual
   pub GoodEntries : Edition → ℕ → Shape EntriesOf → Type 0
   GoodEntries edition room no_entry = Unit {0}
@@ -240,6 +250,7 @@ pub record GoodFunction (edition : Edition) (room : ℕ) (name : Text) (comments
   pub own : GoodComments comments
   pub inside : GoodBody edition room body
 
+-- a function that is good has good parts
 pub parts_of_function : (edition : Edition) (room : ℕ) (name : Text) (comments : Row Text) (body : Shape ACompoundOf) →
     GoodCommand edition room (function name comments body) → GoodFunction edition room name comments body
 parts_of_function edition zero name comments body good = absurd good

@@ -16,6 +16,7 @@ abbrev pub with_last : Shape ItemsOf → Shape AnItemOf → Shape ItemsOf
 with_last no_item i = more_items i no_item
 with_last (more_items j is) i = more_items j (with_last is i)
 
+-- one item more
 pub items_more : {edition : Edition} {room : ℕ} {kind : Kind} {first position next : Position} {i : Shape AnItemOf}
     {is : Shape ItemsOf} → GoodItems edition room kind first is position → GoodItem edition room kind position i next
     → GoodItems edition room kind first (with_last is i) next
@@ -23,11 +24,13 @@ items_more none_more one = one_more one none_more
 items_more (one_more other rest) one = one_more other (items_more rest one)
 
 module _ (B : List ℕ) where
+  -- the shape of items with one more
   pub items_last : (is : Row AnItem) (i : AnItem) →
       shape_of_items B (items_of (is ++ i ∷ [])) ≡ with_last (shape_of_items B (items_of is)) (shape_of_item B i)
   items_last [] i = refl
   items_last (j ∷ is) i = ap (more_items (shape_of_item B j)) (items_last is i)
 
+  -- one part more after good ones, of each kind of row
   pub comments_more : (cs : Row Span) (c : Span) → GoodComments (shape_of_comments B cs) →
       CommentAnywhere (text_at B c) → GoodComments (shape_of_comments B (cs ++ c ∷ []))
   comments_more [] c all one = (one, tt)
@@ -76,6 +79,7 @@ module _ (B : List ℕ) where
     cases_more [] c all one = (one, tt)
     cases_more (d ∷ cs) c all one = (all.0, cases_more cs c all.1 one)
 
+    -- entries after others
     pub entries_join : (es ls : Row AnEntry) → GoodEntries edition room (shape_of B (entries_of es)) →
         GoodEntries edition room (shape_of B (entries_of ls)) →
         GoodEntries edition room (shape_of B (entries_of (es ++ ls)))

@@ -27,6 +27,7 @@ pub record Document : Type 0 where
   pub bytes : Text
   pub good : DocumentAnywhere strip d bytes
 
+-- as it waits in the state
 abbrev pub as_waiting : Document → Waiting
 as_waiting x = waiting_document x.b x.strip x.d
 
@@ -42,6 +43,7 @@ pub no_bytes : held_bytes [] ≡ []
 unfolding held_bytes
 no_bytes = refl
 
+-- the bytes of documents after others
 pub bytes_append : (xs ys : Row Document) → held_bytes (xs ++ ys) ≡ held_bytes xs ++ held_bytes ys
 unfolding held_bytes
 bytes_append [] ys = refl
@@ -60,15 +62,18 @@ pub record Held : Type 0 where
   pub waiting : Row Document
   pub bodies : Row Span
 
+-- documents that wait, and the bodies that were read
 abbrev pub held_so : Row Document → Row Span → Held
 held_so xs bodies = record { waiting = xs; bodies = bodies }
 
 abbrev pub nothing_held : Held
 nothing_held = held_so [] []
 
+-- one document more
 abbrev pub with_document : Held → Document → Held
 with_document h x = held_so (h.waiting ++ x ∷ []) h.bodies
 
+-- where a reading stands, with what waits
 abbrev pub state : Held → ℕ → State
 state h p = record { at = p; waiting = map as_waiting h.waiting; bodies = h.bodies }
 
@@ -96,6 +101,7 @@ pub record StandsIn (edition : Edition) (B T : List ℕ) (o : ℕ) : Type 0 wher
   pub here : drop o B ≡ T
 
 module _ {edition : Edition} {B T : List ℕ} {o : ℕ} (S : StandsIn edition B T o) where
+  -- what is given of the text
   abbrev pub g : Given
   g = given edition T o
 
@@ -121,10 +127,12 @@ module _ {edition : Edition} {B T : List ℕ} {o : ℕ} (S : StandsIn edition B 
         ≡ Ok (bodies ++ spans, p + length (held_bytes xs))
     pub texts : map (text_at B) spans ≡ map (λ (x : Document). x.bytes) xs
 
+  -- past a text that stands here the text has not ended
   within_by : (p n : ℕ) (w zs : List ℕ) → p ≤ length T → drop p T ≡ w ++ zs → n ≡ length w → p + n ≤ length T
   within_by p n w zs within at is = let size : length T - p ≡ length w + length zs = sym (length-drop p T)
       ∙ ap length at ∙ length-append w zs in omega (arith, size, within, is)
 
+  -- the bodies of all that waits are read, one after the other
   pub all_bodies : (xs : Row Document) (bodies : Row Span) (p : ℕ) (zs : Text) → p ≤ length T →
       drop p T ≡ held_bytes xs ++ zs → BodiesRead xs bodies p
   unfolding held_bytes bodies_from
@@ -171,6 +179,7 @@ module _ {edition : Edition} {B T : List ℕ} {o : ℕ} (S : StandsIn edition B 
     pub none : later.waiting ≡ []
     pub texts : texts_of later ≡ texts_of h
 
+  -- a newline token reads them
   pub emptied : (h : Held) (p : ℕ) (ms : Marks) → At h p (line_end ∷ ms) → Emptied h p ms
   unfolding laid_after held_bytes
   emptied h p ms at =

@@ -18,6 +18,7 @@ use Rattle.shprint.specs.Printed.{case_margin, is_brace, is_one_line, operand_ma
 use Rattle.shprint.specs.Written.{Prints, Sheet, is_bare, sheet, written}
 use Rattle.shprint.proofs.Writing.{written_append, written_cons}
 
+-- a list is seen by its entries
 pub list_seen : (l : the_list.List) → view_list l ≡ entries_of (map view_entry (out-List l).entries.items)
 list_seen l = search (rules, fold_out-List)
 
@@ -36,6 +37,7 @@ written_item : (t : Sheet) (m closer : Text) (comments patterns body tail : Mark
     ≡ written t (comments ++ (text m ∷ patterns ++ (text closer ∷ body ++ tail)))
 written_item t m closer comments patterns body tail = grind (arith, written_append, written_cons)
 
+-- an item of a `case`, part by part
 pub written_case : (t : Sheet) (m closer ender : Text) (comments patterns body : Marks)
     → written (written (written (written (written (written (written t comments) (text m ∷ [])) patterns)
     (text closer ∷ [])) body) (text ender ∷ [])) (line_end ∷ [])
@@ -64,6 +66,7 @@ written_esac t a b m e ws cases tail =
 
 -- ---- margins that are cut to what they were
 
+-- the margin of operands, and that of items, begin with the one before
 pub operand_cut : (y : Layout) (m : Text) (broken : Bool) → take (length m) (operand_margin y m broken) ≡ m
 operand_cut y m true = take-append_seam m _
 operand_cut y m false = take-length m
@@ -73,6 +76,7 @@ case_cut y m = operand_cut y m y.case_indent
 
 -- ---- conditions
 
+-- one entry stands on the line where it is a command with nothing beside it
 pub one_alone : (e : Shape AnEntryOf) → is_one_line (more_entries e no_entry) ≡ is_bare e
 one_alone (entry (command a) false blank None) = refl
 one_alone (entry (command a) false blank (Some c)) = refl
@@ -81,6 +85,7 @@ one_alone (entry (remark r) false blank None) = refl
 one_alone (entry (remark r) false blank (Some c)) = refl
 one_alone (entry (remark r) true blank c) = refl
 
+-- two or more entries never do
 pub one_of_two : (e f : Shape AnEntryOf) (es : Shape EntriesOf) →
     is_one_line (more_entries e (more_entries f es)) ≡ false
 one_of_two (entry (command a) false blank None) f es = refl
@@ -95,12 +100,14 @@ one_of_many B (e ∷ []) lt = absurd (omega (arith, lt))
 one_of_many B (e ∷ f ∷ es) lt = one_of_two _ _ _
 
 module _ (B : List ℕ) (y : Layout) (m : Text) where
+  -- of no entry nothing is printed
   pub only_none : (es : Row Entry) → length es ≡ 0 → print_only y m (shape_of B (entries_of (map view_entry es))) ≡ []
   only_none [] e = refl
   only_none (x ∷ es) e = absurd (omega (arith, e))
 
   -- ---- the body of an item of a `case`
 
+  -- without entries a space, and with some their lines
   pub body_none : (es : Row Entry) → length es ≡ 0 →
       print_body y m (shape_of B (entries_of (map view_entry es))) ≡ one (codes " ")
   body_none [] e = refl
@@ -113,6 +120,7 @@ module _ (B : List ℕ) (y : Layout) (m : Text) where
 
   -- ---- before the body of a function
 
+  -- without comments, and with some
   pub gap_none : (body : Shape ACompoundOf) (cs : Row Comment) → length cs ≡ 0 →
       print_function_gap y m (shape_of_comments B (map view_comment cs)) body
       ≡ (if y.func_next_line && is_brace body then line_end ∷ text m ∷ [] else one (codes " "))
@@ -134,6 +142,7 @@ prints_then before mid after ms ns first second =
     (second.0 ∙ ap (λ s. written s ns) first.0 ∙ written_append (sheet before) ms ns, second.1 ∙ first.1)
 
 module _ (B : Text) (y : Layout) (f : Function) where
+  -- the body that was read
   abbrev function_body : Shape ACompoundOf
   function_body = shape_of_compound B (view_compound (out-Function f).body)
 
@@ -142,6 +151,7 @@ module _ (B : Text) (y : Layout) (f : Function) where
   function_head m = one (text_at B (out-Function f).name) ++ one (codes "()")
       ++ print_function_gap y m (shape_of_comments B (map view_comment (out-Function f).comments.items)) function_body
 
+  -- at the right margins these are the marks of the function
   function_is : (m at_gap at_body : Text) → at_gap ≡ m → at_body ≡ m
       → function_head at_gap ++ print_compound y at_body function_body
       ≡ print_command y m (shape_of_command B (view_function f))

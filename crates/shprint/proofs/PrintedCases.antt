@@ -50,6 +50,7 @@ more_marks no_pattern ms = text (codes ")") ∷ ms
 more_marks (more_patterns w ws) ms = text (codes " ") ∷ text (codes "|") ∷ text (codes " ")
     ∷ (print_word w ++ more_marks ws ms)
 
+-- so the definitions print it
 more_are : (ws : Shape PatternsOf) (ms : Marks) →
     Alike (print_patterns ws ++ (text (codes ")") ∷ ms)) (more_marks ws ms)
 unfolding laid_after
@@ -59,6 +60,7 @@ more_are (more_patterns w ws) ms held =
     (text (codes ")") ∷ ms)) ∙ ap (λ z. codes " | " ++ z)
     (laid_same (print_word w) _ _ (more_are ws ms) held)
 
+-- that may follow a word
 more_follows : (ws : Shape PatternsOf) (ms : Marks) → Followed (more_marks ws ms)
 unfolding laid_after
 more_follows no_pattern ms held = refl
@@ -73,6 +75,7 @@ record FirstPattern (t : Token) : Type 0 where
   newline : is_newline_token t ≡ false
   comment : is_comment t ≡ false
 
+-- such a token is neither `(` nor `esac`, a newline or a comment
 first_pattern : (t : Token) → begins_pattern t ≡ true → FirstPattern t
 first_pattern tokens.End e = absurd cc
 first_pattern tokens.Newline e = absurd cc
@@ -114,10 +117,12 @@ first_pattern tokens.Word e = record { bracket = refl; esac = refl; newline = re
 
 -- ---- the tokens that end an item
 
+-- `;&` where the item falls through, or `;;`
 abbrev ender_token : Bool → Token
 ender_token true = tokens.SemicolonAmpersand
 ender_token false = tokens.DoubleSemicolon
 
+-- either ends the item, tells whether it falls through, and begins no line of a list
 ender_ends : (falls : Bool) → ends_item (ender_token falls) ≡ true
 ender_ends true = refl
 ender_ends false = refl
@@ -144,6 +149,7 @@ module _ (y : Layout) where
   items_margin m no_case = m
   items_margin m (more_cases c items) = case_margin y m
 
+  -- from after the margin: the comments, the pattern and what stands after it, or `esac`
   abbrev items_marks : Text → Shape CaseItemsOf → Row Text → Marks → Marks
   items_marks m no_case tail rest = text (codes "esac") ∷ rest
   items_marks m (more_cases (case_item cs no_pattern body mark) items) tail rest = []
@@ -158,6 +164,7 @@ module _ (y : Layout) where
   next_marks m items tail rest = print_comment_lines (case_margin y m) (first_comments items tail)
       ++ (text (items_margin m items) ∷ items_marks m items tail rest)
 
+  -- the margins of items are of blanks
   margin_blank : (m : Text) → all_blank m ≡ true → all_blank (case_margin y m) ≡ true
   margin_blank m blank = cond_both y.case_indent (deeper y m) m (λ t. all_blank t ≡ true)
       (λ e. deeper_blank y m blank) (λ e. blank)
@@ -171,6 +178,7 @@ module _ (y : Layout) where
   abbrev pub case_marks : Text → Shape CaseItemsOf → Row Text → Marks → Marks
   case_marks m items tail rest = text (codes " ") ∷ text (codes "in") ∷ line_end ∷ next_marks m items tail rest
 
+  -- what stands after the word of a `case` may follow it
   case_follows : (m : Text) (items : Shape CaseItemsOf) (tail : Row Text) (rest : Marks) →
       Followed (case_marks m items tail rest)
   unfolding laid_after
@@ -180,10 +188,12 @@ module _ {edition : Edition} {B T : List ℕ} {o : ℕ} {S : StandsIn edition B 
     (fine : Fine S room y) where
   -- ---- `case`
 
+  -- `esac` as it is printed
   esac_key : (ms : Marks) → Ends ms → Key S (codes "esac") reserved.Esac ms
   esac_key ms e = key_by S (codes "esac") reserved.Esac ms e
       (λ p x xs clear stops at. esac_here T p x xs clear stops at)
 
+  -- a reserved word ends the lines before it
   key_operand : (h : Held) (w : Text) (r : Reserved) (ms : Marks) → Key S w r ms → (p : ℕ) → At S h p (text w ∷ ms) →
       Operand S p
   key_operand h w r ms key p at =
@@ -206,6 +216,7 @@ module _ {edition : Edition} {B T : List ℕ} {o : ℕ} {S : StandsIn edition B 
     within : past_blanks T f < length T
     shape : shape_of_word B value ≡ w
 
+  -- a word is read after its margin
   word_at : (h : Held) (position : Position) (begins : Token → Bool) (m : Text) (w : Shape AWordOf) (f : ℕ)
       (ms : Marks) → all_blank m ≡ true → GoodWord edition room position begins w → Followed ms
       → At S h f (text m ∷ (print_word w ++ ms)) → WordAt h position begins f w ms
@@ -248,6 +259,7 @@ module _ {edition : Edition} {B T : List ℕ} {o : ℕ} {S : StandsIn edition B 
         gap.blanks,
       )
 
+  -- what is read of the patterns after others
   record PatternsRead (h : Held) (acc : Row AWord) (f : ℕ) (ws : Shape PatternsOf) (ms : Marks) : Type 0 where
     value : Row AWord
     e : ℕ
@@ -257,11 +269,13 @@ module _ {edition : Edition} {B T : List ℕ} {o : ℕ} {S : StandsIn edition B 
         (patterned (acc ++ value) (asked S Suffix e)) (state h (past_blanks T e))
     shape : shape_of_patterns B (patterns_of value) ≡ ws
 
+  -- the shape of patterns by that of the first and those of the others
   patterns_shape : (v : AWord) (vs : Row AWord) (w : Shape AWordOf) (ws : Shape PatternsOf) →
       shape_of_word B v ≡ w → shape_of_patterns B (patterns_of vs) ≡ ws
       → shape_of_patterns B (patterns_of (v ∷ vs)) ≡ more_patterns w ws
   patterns_shape v vs w ws e f = rw (e, f) refl
 
+  -- all further patterns are read
   patterns_read : (h : Held) (ws : Shape PatternsOf) (acc : Row AWord) (f : ℕ) (ms : Marks) →
       GoodMorePatterns edition room ws → At S h f (more_marks ws ms) → PatternsRead h acc f ws ms
   unfolding pattern_turn one_pattern a_pattern
@@ -317,6 +331,7 @@ module _ {edition : Edition} {B T : List ℕ} {o : ℕ} {S : StandsIn edition B 
         shape = patterns_shape v.value others.value w ws v.shape others.shape;
       }
 
+  -- a pattern ends the lines before it
   pattern_operand : (h : Held) (w : Shape AWordOf) (ms : Marks) → GoodWord edition room Command begins_pattern w →
       Followed ms → (p : ℕ) → At S h p (print_word w ++ ms) → Operand S p
   pattern_operand h w ms good follow p at =
@@ -345,6 +360,7 @@ module _ {edition : Edition} {B T : List ℕ} {o : ℕ} {S : StandsIn edition B 
 
   module _ (d m : Text) (blank_d : all_blank d ≡ true) (blank_m : all_blank m ≡ true) (ms : Marks)
       (operand : (h : Held) (p : ℕ) → At S h p ms → Operand S p) where
+    -- the comments before an item are read, each on a line of its own
     lines_read : (h : Held) (cs : Row Text) (acc : Row Span) (e : ℕ) → GoodComments cs →
         At S h e (print_comment_lines d cs ++ (text m ∷ ms)) →
         LinesRead h true acc (asked S Command e) (past_blanks T e) cs m ms
@@ -407,6 +423,7 @@ module _ {edition : Edition} {B T : List ℕ} {o : ℕ} {S : StandsIn edition B 
 
   -- ---- `;;` and `;&`
 
+  -- what is told and passed of what ends an item
   record EnderRead (h : Held) (e : ℕ) (falls : Bool) (ms : Marks) : Type 0 where
     token_is : told S Command (past_blanks T e) ≡ ender_token falls
     not_comment : raw_stands T (past_blanks T e) number_sign ≡ false
@@ -436,6 +453,7 @@ module _ {edition : Edition} {B T : List ℕ} {o : ℕ} {S : StandsIn edition B 
         on = byte_moved S h q semicolon (d ∷ lay h ms) refl at_q ⟫ byte_moved S h (q + 1) d (lay h ms) clear at_after;
       }
 
+  -- `;&` or `;;` after its margin
   ender_read : (h : Held) (m : Text) (e : ℕ) (falls : Bool) (ms : Marks) → all_blank m ≡ true →
       (falls ≡ true → is_later edition ≡ true) → At S h e (text m ∷ text (ender falls) ∷ ms) →
       EnderRead h e falls ms
@@ -446,6 +464,7 @@ module _ {edition : Edition} {B T : List ℕ} {o : ℕ} {S : StandsIn edition B 
       ender_by h m e semicolon false ms blank refl
       (λ q xs there. tell S (double_semicolon_token Command T q xs there)) at
 
+  -- no line of a list begins there
   ender_closes : (m : Text) (falls : Bool) (ms : Marks) → all_blank m ≡ true →
       (falls ≡ true → is_later edition ≡ true) → (h : Held) (e : ℕ) → At S h e (text m ∷ text (ender falls) ∷ ms) →
       Closes S e
@@ -460,6 +479,7 @@ module _ {edition : Edition} {B T : List ℕ} {o : ℕ} {S : StandsIn edition B 
 
   -- ---- bodies
 
+  -- what is read of the list of an item, and of what ends it
   record BodyRead (h : Held) (f : ℕ) (body : Shape EntriesOf) (falls : Bool) (ms : Marks) : Type 0 where
     list : Listed
     e : ℕ
@@ -471,6 +491,7 @@ module _ {edition : Edition} {B T : List ℕ} {o : ℕ} {S : StandsIn edition B 
     shape : shape_of B (entries_of list.entries) ≡ opened [] body
     texts : Adds S h later (entries_bodies body)
 
+  -- the list is read, or none, up to that
   item_body_read : (h : Held) (m : Text) (body : Shape EntriesOf) (falls : Bool) (f : ℕ) (ms : Marks) →
       all_blank m ≡ true → (falls ≡ true → is_later edition ≡ true) → GoodEntries edition room body →
       first_not_blank body ≡ true → are_normal body ≡ true
@@ -508,6 +529,7 @@ module _ {edition : Edition} {B T : List ℕ} {o : ℕ} {S : StandsIn edition B 
 
   -- ---- items
 
+  -- what is printed of all items, by the first one
   pub items_are : (m : Text) (items : Shape CaseItemsOf) (tail : Row Text) (rest : Marks) →
       GoodCases edition room items
       → Alike (print_cases y (case_margin y m) items
@@ -540,6 +562,7 @@ module _ {edition : Edition} {B T : List ℕ} {o : ℕ} {S : StandsIn edition B 
       ap (laid_after held) parts
       ∙ laid_same C _ _ (λ held. ap (λ z. P ++ z) (laid_same (print_word w) _ _ after_patterns held)) held
 
+  -- an item, or `esac`, ends the lines before it
   items_operand : (h : Held) (m : Text) (items : Shape CaseItemsOf) (tail : Row Text) (rest : Marks) →
       GoodCases edition room items → Ends rest → (p : ℕ) → At S h p (items_marks y m items tail rest) → Operand S p
   items_operand h m no_case tail rest good stop p at =
@@ -552,6 +575,7 @@ module _ {edition : Edition} {B T : List ℕ} {o : ℕ} {S : StandsIn edition B 
       ++ (text (ender mark.falls) ∷ line_end ∷ next_marks y m items tail rest))) good.0.1.0
       (more_follows ws _) p at
 
+  -- the comments before it are good
   first_good : (items : Shape CaseItemsOf) (tail : Row Text) → GoodCases edition room items → GoodComments tail →
       GoodComments (first_comments items tail)
   first_good no_case tail good comments = comments
@@ -572,6 +596,7 @@ module _ {edition : Edition} {B T : List ℕ} {o : ℕ} {S : StandsIn edition B 
     texts : Adds S h later (cases_bodies items)
     tail_shape : shape_of_comments B comments ≡ tail
 
+  -- the shape of an item by those of its parts
   item_shape_of : (cs : Row Span) (v : AWord) (vs : Row AWord) (es : Row AnEntry) (s : ACaseMark)
       (comments : Row Text) (w : Shape AWordOf) (ws : Shape PatternsOf) (body : Shape EntriesOf)
       (mark : ACaseMarkOf (Unit {0}))
@@ -582,12 +607,14 @@ module _ {edition : Edition} {B T : List ℕ} {o : ℕ} {S : StandsIn edition B 
   unfolding open_case
   item_shape_of cs v vs es s comments w ws body mark falls e f i k = rw (e, f, i, k, falls) refl
 
+  -- the shape of items by that of the first and those of the others
   cases_shape : (v : ACaseItem) (vs : Row ACaseItem) (c : Shape ACaseItemOf) (cs : Shape CaseItemsOf) →
       shape_of_case B v ≡ open_case [] c → shape_of_cases B (cases_of vs) ≡ open_cases [] cs
       → shape_of_cases B (cases_of (v ∷ vs)) ≡ open_cases [] (more_cases c cs)
   unfolding open_cases
   cases_shape v vs c cs e f = rw (e, f) refl
 
+  -- all items are read, up to `esac`
   cases_read : (h : Held) (m : Text) (items : Shape CaseItemsOf) (tail : Row Text) (acc : Row ACaseItem)
       (before : Row Span) (e : ℕ) (rest : Marks) → all_blank m ≡ true → GoodCases edition room items →
       GoodComments tail
@@ -696,6 +723,7 @@ module _ {edition : Edition} {B T : List ℕ} {o : ℕ} {S : StandsIn edition B 
         tail_shape = others.tail_shape;
       }
 
+  -- the shape of a `case` by those of its parts
   case_shape : (v : AWord) (vs : Row ACaseItem) (cs : Row Span) (w : Shape AWordOf) (items : Shape CaseItemsOf)
       (tail : Row Text) → shape_of_word B v ≡ w → shape_of_cases B (cases_of vs) ≡ open_cases [] items
       → shape_of_comments B cs ≡ tail →
@@ -703,6 +731,7 @@ module _ {edition : Edition} {B T : List ℕ} {o : ℕ} {S : StandsIn edition B 
   unfolding open_form
   case_shape v vs cs w items tail e f i = rw (e, f, i) refl
 
+  -- a `case` from just after its opener, up to `esac`
   pub case_read : (h : Held) (m : Text) (w : Shape AWordOf) (items : Shape CaseItemsOf) (tail : Row Text) (f : ℕ)
       (rest : Marks) → all_blank m ≡ true → GoodForm edition room (case_in w items tail)
       → is_normal_form (case_in w items tail) ≡ true → Ends rest →

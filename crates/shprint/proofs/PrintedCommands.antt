@@ -44,14 +44,17 @@ use Rattle.shprint.proofs.PrintedItems.{items_follow, printed_word, ItemThere, i
 abbrev pub bare_compound : Shape ACompoundOf → Shape ACompoundOf
 bare_compound (formed form mark redirects) = formed form mark no_item
 
+-- the redirections after it
 abbrev redirects_of : Shape ACompoundOf → Shape ItemsOf
 redirects_of (formed form mark redirects) = redirects
 
+-- the bodies of both, one after the other
 bodies_parted : (c : Shape ACompoundOf) (ts : Row Text) →
     compound_bodies (bare_compound c) (items_bodies (redirects_of c) ts) ≡ compound_bodies c ts
 unfolding compound_bodies items_bodies
 bodies_parted (formed form mark redirects) ts = refl
 
+-- what begins a simple command begins a command, and so does an opener
 begins_by : (t : Token) → begins_simple t ≡ true → begins_command t ≡ true
 begins_by t e = rw e refl
 
@@ -59,6 +62,7 @@ pub opens_by : (t : Token) (o : Opener) → opener_of t ≡ Some o → begins_co
 opens_by t o e = rw e (or-true (begins_simple t))
 
 module _ (y : Layout) where
+  -- what is printed of a compound command, by these two
   compound_printed : (m : Text) (c : Shape ACompoundOf) (rest : Marks)
       → print_compound y m c ++ rest ≡ print_compound y m (bare_compound c)
       ++ (print_items y m (redirects_of c) ++ rest)
@@ -70,6 +74,7 @@ module _ (y : Layout) where
   abbrev pub function_rest : Text → Row Text → Shape ACompoundOf → Marks → Marks
   function_rest m cs body rest = print_function_gap y m cs body ++ (print_compound y m body ++ rest)
 
+  -- what is printed of a function, by its name
   function_is : (m name : Text) (cs : Row Text) (body : Shape ACompoundOf) (rest : Marks)
       → print_command y m (function name cs body) ++ rest ≡ text name ∷ text (codes "()")
       ∷ function_rest m cs body rest
@@ -98,6 +103,7 @@ module _ {edition : Edition} {B T : List ℕ} {o : ℕ} {S : StandsIn edition B 
     (fine : Fine S room y) where
   -- ---- a command
 
+  -- the redirections of a good command are good
   good_redirects : (c : Shape ACompoundOf) → GoodCompound edition room c → GoodRedirects edition room (redirects_of c)
   good_redirects c good = by_room room c good
     where
@@ -106,6 +112,7 @@ module _ {edition : Edition} {B T : List ℕ} {o : ℕ} {S : StandsIn edition B 
       by_room zero (formed form mark redirects) good = absurd good
       by_room (suc room) (formed form mark redirects) good = good.1
 
+  -- the shape of a compound command with its redirections
   with_shape : (v : ACommand) (is : Row AnItem) (c : Shape ACompoundOf) →
       shape_of_command B v ≡ open_command [] (compound (bare_compound c)) →
       shape_of_items B (items_of is) ≡ open_items [] (redirects_of c)
@@ -116,6 +123,7 @@ module _ {edition : Edition} {B T : List ℕ} {o : ℕ} {S : StandsIn edition B 
       let same : shape_of_form B own ≡ open_form [] form = cc in rw (same, f) refl
   with_shape (function name ds body) is (formed form mark redirects) e f = absurd cc
 
+  -- a simple command begins with an item
   simple_begins : (h : Held) (m : Text) {last : Position} {is : Shape ItemsOf} (p : ℕ) (rest : Marks) →
       GoodItems edition room of_command Command is last → SomeItem is → Followed rest
       → At S h p (print_simple y m is ++ rest) → ItemThere S room Command p
@@ -124,6 +132,7 @@ module _ {edition : Edition} {B T : List ℕ} {o : ℕ} {S : StandsIn edition B 
       item_there S room h y good p (print_items y m is ++ rest) (items_follow y m is rest follow)
       (at ∙ ap (lay h) (append_assoc (print_item y i) (print_items y m is) rest))
 
+  -- a function begins with its name
   name_there : (h : Held) (m name : Text) (cs : Row Text) (body : Shape ACompoundOf) (p : ℕ) (rest : Marks) →
       At S h p (print_command y m (function name cs body) ++ rest)
       → drop p T ≡ name ++ left_parenthesis ∷ right_parenthesis ∷ lay h (function_rest y m cs body rest)
@@ -132,6 +141,7 @@ module _ {edition : Edition} {B T : List ℕ} {o : ℕ} {S : StandsIn edition B 
       ∙ laid_text h name (text (codes "()") ∷ function_rest y m cs body rest)
       ∙ ap (λ z. name ++ z) (laid_text h (codes "()") (function_rest y m cs body rest))
 
+  -- each command begins where it is printed
   pub command_begins : (h : Held) (m : Text) (c : Shape ACommandOf) (p : ℕ) (rest : Marks) →
       GoodCommand edition room c → Followed rest → At S h p (print_command y m c ++ rest) → Begins S p
   command_begins h m (simple is) p rest good follow at =
@@ -148,6 +158,7 @@ module _ {edition : Edition} {B T : List ℕ} {o : ℕ} {S : StandsIn edition B 
         command = begins_by (told S Command p) (ap begins_simple (tell S found.token_is));
       }
 
+  -- a function is read by its name, the brackets and what stands after them
   function_command : (h : Held) (m name : Text) (cs : Row Text) (body : Shape ACompoundOf) (n : Next) (p : ℕ)
       (rest : Marks) (t : Token) → all_blank m ≡ true → GoodFunction edition room name cs body →
       is_normal_compound body ≡ true
@@ -222,6 +233,7 @@ module _ {edition : Edition} {B T : List ℕ} {o : ℕ} {S : StandsIn edition B 
         is = with_shape r.value is.more_items_read c r.is is.shape;
       }
 
+  -- each command is read where it is printed
   pub command_read : (h : Held) (m : Text) (c : Shape ACommandOf) (n : Next) (p : ℕ) (rest : Marks) (t : Token) →
       all_blank m ≡ true → GoodCommand edition room c → is_normal_command c ≡ true
       → Follower S rest t → begins_simple t ≡ false → n.token ≡ told S Command p →
@@ -252,6 +264,7 @@ module _ {edition : Edition} {B T : List ℕ} {o : ℕ} {S : StandsIn edition B 
 
   -- ---- pipelines
 
+  -- what is printed of further commands, by the first one
   pipe_marks : (m : Text) (b : Bool) (j : AJoinOf Text) (c : Shape ACommandOf) (cs : Shape PipelinePartsOf)
       (rest : Marks)
       → print_pipes y m b (more_pipes j c cs) ++ rest
@@ -270,6 +283,7 @@ module _ {edition : Edition} {B T : List ℕ} {o : ℕ} {S : StandsIn edition B 
     follower : Follower S ms token
     no_item : begins_simple token ≡ false
 
+  -- a `|` follows it, or what stands after the pipeline
   pipes_follow : (m : Text) (b : Bool) (cs : Shape PipelinePartsOf) (rest : Marks) (t : Token) → Follower S rest t →
       begins_simple t ≡ false → PipesFollow (print_pipes y m b cs ++ rest)
   pipes_follow m b no_pipe rest t f none = record { token = t; follower = f; no_item = none }
@@ -283,6 +297,7 @@ module _ {edition : Edition} {B T : List ℕ} {o : ℕ} {S : StandsIn edition B 
         no_item = refl;
       }
 
+  -- what is read of the commands after others
   record PipesRead (h : Held) (acc : Row APipelinePart) (n : Next) (p : ℕ) (cs : Shape PipelinePartsOf)
       (rest : Marks) : Type 0 where
     parts : Row APipelinePart
@@ -294,6 +309,7 @@ module _ {edition : Edition} {B T : List ℕ} {o : ℕ} {S : StandsIn edition B 
     shape : shape_of_pipes B (pipeline_parts_of parts) ≡ open_pipes [] cs
     texts : Adds S h later (pipes_bodies cs)
 
+  -- the shape of further commands by that of the first and those of the others
   pipes_shape : (q : APipelinePart) (qs : Row APipelinePart) (j : AJoinOf Text) (c : Shape ACommandOf)
       (cs : Shape PipelinePartsOf) → shape_of_join B q.join ≡ j → shape_of_command B q.command ≡ open_command [] c
       → shape_of_pipes B (pipeline_parts_of qs) ≡ open_pipes [] cs →
@@ -301,6 +317,7 @@ module _ {edition : Edition} {B T : List ℕ} {o : ℕ} {S : StandsIn edition B 
   unfolding open_pipes
   pipes_shape q qs j c cs e f i = rw (e, f, i) refl
 
+  -- one command before others
   pipes_more : (h k later : Held) (acc : Row APipelinePart) (n : Next) (p : ℕ) (q : APipelinePart) (next : Next)
       (r : ℕ) (qs : Row APipelinePart) (z : Next) (e : ℕ)
       → Gives (g S) (pipe_turn (level room) (piped acc n)) (state h p) (again (piped (acc ++ q ∷ []) next)) (state k r)
@@ -327,6 +344,7 @@ module _ {edition : Edition} {B T : List ℕ} {o : ℕ} {S : StandsIn edition B 
     command_is : shape_of_command B part.command ≡ open_command [] c
     texts : Adds S h later (command_bodies c)
 
+  -- a `|` is read with its join and its command
   one_pipe : (h : Held) (m : Text) (d : Text) (j : AJoinOf Text) (c : Shape ACommandOf) (acc : Row APipelinePart)
       (n : Next) (q : ℕ) (ms : Marks) (t : Token) → all_blank m ≡ true → all_blank d ≡ true
       → is_normal_join j ≡ true → GoodComments j.comments → GoodCommand edition room c →
@@ -364,6 +382,7 @@ module _ {edition : Edition} {B T : List ℕ} {o : ℕ} {S : StandsIn edition B 
         texts = λ ts. command_got.texts ts ∙ join_got.texts (command_bodies c ts);
       }
 
+  -- all further commands are read
   pipes_read : (h : Held) (m : Text) (b : Bool) (cs : Shape PipelinePartsOf) (acc : Row APipelinePart) (e : ℕ)
       (rest : Marks) (t : Token) → all_blank m ≡ true → GoodPipes edition room cs → are_normal_pipes cs ≡ true
       → Follower S rest t → begins_simple t ≡ false → is_pipe t ≡ false → At S h e (print_pipes y m b cs ++ rest) →
@@ -416,6 +435,7 @@ module _ {edition : Edition} {B T : List ℕ} {o : ℕ} {S : StandsIn edition B 
   or_between true b c e = refl
   or_between false b c e = rw e (or-true b)
 
+  -- a command begins a pipeline, and so does `!`
   command_pipeline : (p : ℕ) → Begins S p → PipelineBegins S p
   command_pipeline p b =
       let t = told S Command p in
@@ -439,6 +459,7 @@ module _ {edition : Edition} {B T : List ℕ} {o : ℕ} {S : StandsIn edition B 
         ap is_bang (tell S k.token),
       )
 
+  -- what is printed of a pipeline, by its parts
   pipeline_marks : (m : Text) (bang : Option (Unit {0})) (c : Shape ACommandOf) (cs : Shape PipelinePartsOf)
       (rest : Marks)
       → print_pipeline y m (pipeline bang c cs) ++ rest ≡ print_bang bang
@@ -448,6 +469,7 @@ module _ {edition : Edition} {B T : List ℕ} {o : ℕ} {S : StandsIn edition B 
       let P = print_pipes y m false cs in
       append_assoc (print_bang bang ++ C) P rest ∙ append_assoc (print_bang bang) C (P ++ rest)
 
+  -- a pipeline begins where it is printed
   pub pipeline_begins : (h : Held) (m : Text) (x : Shape APipelineOf) (p : ℕ) (rest : Marks) (t : Token) →
       GoodPipeline edition room x → Follower S rest t → begins_simple t ≡ false
       → At S h p (print_pipeline y m x ++ rest) → PipelineBegins S p
@@ -469,6 +491,7 @@ module _ {edition : Edition} {B T : List ℕ} {o : ℕ} {S : StandsIn edition B 
     token_is : next.token ≡ told S Command q
     shape : shape_of_bang value ≡ bang
 
+  -- `!` is read, or none
   bang_read : (h : Held) (n : Next) (p : ℕ) (bang : Option (Unit {0})) (ms : Marks) →
       ((q : ℕ) → At S h q ms → Begins S q) → n.token ≡ told S Command p → At S h p (print_bang bang ++ ms) →
       BangRead h n p bang ms
@@ -503,6 +526,7 @@ module _ {edition : Edition} {B T : List ℕ} {o : ℕ} {S : StandsIn edition B 
         shape = refl;
       }
 
+  -- the shape of a pipeline by those of its parts
   pipeline_shape : (b : Option Span) (c : ACommand) (ps : Row APipelinePart) (bang : Option (Unit {0}))
       (d : Shape ACommandOf) (cs : Shape PipelinePartsOf)
       → shape_of_bang b ≡ bang → shape_of_command B c ≡ open_command [] d →
@@ -511,6 +535,7 @@ module _ {edition : Edition} {B T : List ℕ} {o : ℕ} {S : StandsIn edition B 
   unfolding open_pipeline
   pipeline_shape b c ps bang d cs e f i = rw (e, f, i) refl
 
+  -- a pipeline is read where it is printed
   pub pipeline_read : (h : Held) (m : Text) (x : Shape APipelineOf) (n : Next) (p : ℕ) (rest : Marks) (t : Token)
       → all_blank m ≡ true → GoodPipeline edition room x → is_normal_pipeline x ≡ true
       → Follower S rest t → begins_simple t ≡ false → is_pipe t ≡ false → n.token ≡ told S Command p →
@@ -541,6 +566,7 @@ module _ {edition : Edition} {B T : List ℕ} {o : ℕ} {S : StandsIn edition B 
 
   -- ---- and-or lists
 
+  -- what is printed of further pipelines, by the first one
   part_marks : (m : Text) (b : Bool) (k : AndOrOperator) (j : AJoinOf Text) (x : Shape APipelineOf)
       (xs : Shape AndOrPartsOf) (rest : Marks)
       → print_and_or_parts y m b (more_and_or k j x xs) ++ rest
@@ -553,6 +579,7 @@ module _ {edition : Edition} {B T : List ℕ} {o : ℕ} {S : StandsIn edition B 
       let P = print_and_or_parts y m (b || breaks_line j) xs in
       append_assoc (J ++ X) P rest ∙ append_assoc J X (P ++ rest)
 
+  -- an operator between pipelines begins no item
   operator_no_item : (k : AndOrOperator) → (begins_simple (operator_token k) ≡ false)
       × (is_pipe (operator_token k) ≡ false) × (and_or_operator_of (operator_token k) ≡ Some k)
   operator_no_item And = (refl, refl, refl)
@@ -565,6 +592,7 @@ module _ {edition : Edition} {B T : List ℕ} {o : ℕ} {S : StandsIn edition B 
     no_item : begins_simple token ≡ false
     not_pipe : is_pipe token ≡ false
 
+  -- an operator follows it, or what stands after the and-or list
   parts_follow : (m : Text) (b : Bool) (xs : Shape AndOrPartsOf) (rest : Marks) (t : Token) → Follower S rest t →
       begins_simple t ≡ false → is_pipe t ≡ false → PartsFollow (print_and_or_parts y m b xs ++ rest)
   parts_follow m b no_and_or rest t f none not_pipe =
@@ -593,6 +621,7 @@ module _ {edition : Edition} {B T : List ℕ} {o : ℕ} {S : StandsIn edition B 
       (moved_here one_byte) in
       first_move ⟫ second_move
 
+  -- no further pipeline is read where no operator stands
   no_part : (h : Held) (acc : Row AnAndOrPart) (n : Next) (p : ℕ) → and_or_operator_of n.token ≡ None →
       Gives (g S) (and_or_turn (level room) (joined_so acc n)) (state h p) (done (joined_so acc n)) (state h p)
   unfolding and_or_turn
@@ -612,6 +641,7 @@ module _ {edition : Edition} {B T : List ℕ} {o : ℕ} {S : StandsIn edition B 
       let two_is = byte_here T (q + 1) vertical_line (lay h ms) refl one_is.rest in
       two_moves h q one_is.place_after two_is.place_after
 
+  -- what is read of an operator, with its join and its pipeline
   record PartRead (h : Held) (acc : Row AnAndOrPart) (n : Next) (p : ℕ) (k : AndOrOperator) (j : AJoinOf Text)
       (x : Shape APipelineOf) (ms : Marks) : Type 0 where
     part : AnAndOrPart
@@ -626,15 +656,18 @@ module _ {edition : Edition} {B T : List ℕ} {o : ℕ} {S : StandsIn edition B 
     pipeline_is : shape_of_pipeline B part.pipeline ≡ open_pipeline [] x
     texts : Adds S h later (pipeline_bodies x)
 
+  -- each of the two operators has two bytes
   operator_length : (k : AndOrOperator) → length (and_or_text k) ≡ 2
   operator_length And = refl
   operator_length Or = refl
 
+  -- one stands in the text
   operator_here : (h : Held) (k : AndOrOperator) (q : ℕ) (ms : Marks) → At S h q (text (and_or_text k) ∷ ms) →
       q < length T
   operator_here h And q ms at = some_here S q ampersand (ampersand ∷ lay h ms) (at ∙ laid_text h (codes "&&") ms)
   operator_here h Or q ms at = some_here S q vertical_line (vertical_line ∷ lay h ms) (at ∙ laid_text h (codes "||") ms)
 
+  -- an operator is read with its join and its pipeline
   one_part : (h : Held) (m : Text) (d : Text) (k : AndOrOperator) (j : AJoinOf Text) (x : Shape APipelineOf)
       (acc : Row AnAndOrPart) (n : Next) (q : ℕ) (ms : Marks) (t : Token)
       → all_blank m ≡ true → all_blank d ≡ true → is_normal_join j ≡ true → GoodComments j.comments →
@@ -674,6 +707,7 @@ module _ {edition : Edition} {B T : List ℕ} {o : ℕ} {S : StandsIn edition B 
         texts = λ ts. pipeline_got.texts ts ∙ join_got.texts (pipeline_bodies x ts);
       }
 
+  -- what is read of the pipelines after others
   record PartsRead (h : Held) (acc : Row AnAndOrPart) (n : Next) (p : ℕ) (xs : Shape AndOrPartsOf)
       (rest : Marks) : Type 0 where
     parts : Row AnAndOrPart
@@ -685,6 +719,7 @@ module _ {edition : Edition} {B T : List ℕ} {o : ℕ} {S : StandsIn edition B 
     shape : shape_of_and_or_parts B (and_or_parts_of parts) ≡ open_and_or_parts [] xs
     texts : Adds S h later (and_or_parts_bodies xs)
 
+  -- one pipeline before others
   parts_more : (h k later : Held) (acc : Row AnAndOrPart) (n : Next) (p : ℕ) (q : AnAndOrPart) (next : Next)
       (r : ℕ) (qs : Row AnAndOrPart) (z : Next) (e : ℕ)
       → Gives (g S) (and_or_turn (level room) (joined_so acc n)) (state h p) (again (joined_so (acc ++ q ∷ []) next))
@@ -697,6 +732,7 @@ module _ {edition : Edition} {B T : List ℕ} {o : ℕ} {S : StandsIn edition B 
       subst (λ all. Gives (g S) (many (and_or_turn (level room)) (joined_so acc n)) (state h p) (joined_so all z)
       (state later e)) (append_assoc acc (q ∷ []) qs) (one_turn (and_or_turn (level room)) one on rest)
 
+  -- the shape of further pipelines by that of the first and those of the others
   parts_shape : (q : AnAndOrPart) (qs : Row AnAndOrPart) (k : AndOrOperator) (j : AJoinOf Text)
       (x : Shape APipelineOf) (xs : Shape AndOrPartsOf) → q.operator ≡ k → shape_of_join B q.join ≡ j
       → shape_of_pipeline B q.pipeline ≡ open_pipeline [] x →
@@ -711,6 +747,7 @@ module _ {edition : Edition} {B T : List ℕ} {o : ℕ} {S : StandsIn edition B 
   operator_gap h And e ms at = space_then S h e ampersand (ampersand ∷ []) ms refl refl at
   operator_gap h Or e ms at = space_then S h e vertical_line (vertical_line ∷ []) ms refl refl at
 
+  -- all further pipelines are read
   parts_read : (h : Held) (m : Text) (b : Bool) (xs : Shape AndOrPartsOf) (acc : Row AnAndOrPart) (e : ℕ)
       (rest : Marks) (t : Token) → all_blank m ≡ true → GoodParts edition room xs → are_normal_and_ors xs ≡ true
       → Follower S rest t → begins_simple t ≡ false → is_pipe t ≡ false → and_or_operator_of t ≡ None →
@@ -762,10 +799,12 @@ module _ {edition : Edition} {B T : List ℕ} {o : ℕ} {S : StandsIn edition B 
         texts = λ ts. others.texts ts ∙ one.texts (and_or_parts_bodies xs ts);
       }
 
+  -- what is printed of an and-or list, by its parts
   and_or_marks : (m : Text) (x : Shape APipelineOf) (xs : Shape AndOrPartsOf) (rest : Marks) →
       print_and_or y m (and_or x xs) ++ rest ≡ print_pipeline y m x ++ (print_and_or_parts y m false xs ++ rest)
   and_or_marks m x xs rest = append_assoc (print_pipeline y m x) (print_and_or_parts y m false xs) rest
 
+  -- an and-or list begins where it is printed
   pub and_or_begins : (h : Held) (m : Text) (a : Shape AnAndOrOf) (p : ℕ) (rest : Marks) (t : Token) →
       GoodAndOr edition room a → Follower S rest t → begins_simple t ≡ false → is_pipe t ≡ false
       → At S h p (print_and_or y m a ++ rest) → PipelineBegins S p
@@ -774,6 +813,7 @@ module _ {edition : Edition} {B T : List ℕ} {o : ℕ} {S : StandsIn edition B 
       pipeline_begins h m x p (print_and_or_parts y m false xs ++ rest) follow.token good.0 follow.follower
       follow.no_item (at ∙ ap (lay h) (and_or_marks m x xs rest))
 
+  -- the shape of an and-or list by those of its parts
   and_or_shape : (p : APipeline) (ps : Row AnAndOrPart) (x : Shape APipelineOf) (xs : Shape AndOrPartsOf) →
       shape_of_pipeline B p ≡ open_pipeline [] x →
       shape_of_and_or_parts B (and_or_parts_of ps) ≡ open_and_or_parts [] xs
@@ -781,6 +821,7 @@ module _ {edition : Edition} {B T : List ℕ} {o : ℕ} {S : StandsIn edition B 
   unfolding open_and_or
   and_or_shape p ps x xs e f = rw (e, f) refl
 
+  -- an and-or list is read where it is printed
   pub and_or_read : (h : Held) (m : Text) (a : Shape AnAndOrOf) (n : Next) (p : ℕ) (rest : Marks) (t : Token) →
       all_blank m ≡ true → GoodAndOr edition room a → is_normal_and_or a ≡ true
       → Follower S rest t → begins_simple t ≡ false → is_pipe t ≡ false → and_or_operator_of t ≡ None →

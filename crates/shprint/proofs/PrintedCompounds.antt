@@ -54,6 +54,7 @@ pub record WordEnd (zs : Text) : Type 0 where
   pub clear : (x == backslash) ≡ false
   pub stops : ends (Some x) ≡ true
 
+-- what may follow an item ends a word
 pub follows_end : (zs : Text) → follows zs ≡ true → WordEnd zs
 follows_end [] e = absurd cc
 follows_end (x ∷ xs) e = record {
@@ -68,6 +69,7 @@ follows_end (x ∷ xs) e = record {
 abbrev pub Ends : Marks → Type 0
 Ends ms = (h : Held) → WordEnd (lay h ms)
 
+-- the end of a line does so, and a space
 pub line_end_end : (ms : Marks) → Ends (line_end ∷ ms)
 unfolding laid_after
 line_end_end ms h = record { x = newline_char; xs = after_line h ms; is = refl; clear = refl; stops = refl }
@@ -184,6 +186,7 @@ module _ {edition : Edition} {B T : List ℕ} {o : ℕ} (S : StandsIn edition B 
         Gives (g S) (reserved_or_paren label false position) (state h (past_blanks T e)) (s, asked S position f)
         (state h (past_blanks T f))
 
+  -- the reserved word in hand is passed, and the next token read
   pub reserved_or_paren_by : (h : Held) (label : Spelled) (position : Position) (q f : ℕ) → past_reserved T q ≡ f →
       Gives (g S) (reserved_or_paren label false position) (state h q) (span o q f, asked S position f)
       (state h (past_blanks T f))
@@ -193,6 +196,7 @@ module _ {edition : Edition} {B T : List ℕ} {o : ℕ} (S : StandsIn edition B 
       subst (λ p. Gives (g S) (move the_reserved) (state h q) tt (state h p)) is (moved_here the_reserved) in
       told_here (by label) moved ⟫ next_read S h position f ⟫ given_here
 
+  -- so is a bracket, where the next byte is read as it stands
   pub paren_alone : (h : Held) (label : Spelled) (q : ℕ) → past_byte T q ≡ q + 1 →
       Gives (g S) (reserved_or_paren label true Command) (state h q) (span o q (q + 1), asked S Command (q + 1))
       (state h (past_blanks T (q + 1)))
@@ -202,6 +206,7 @@ module _ {edition : Edition} {B T : List ℕ} {o : ℕ} (S : StandsIn edition B 
       subst (λ p. Gives (g S) (move one_byte) (state h q) tt (state h p)) is (moved_here one_byte) in
       told_here (by label) moved ⟫ next_read S h Command (q + 1) ⟫ given_here
 
+  -- after a margin the word is told, and read as any row asks for it
   pub reserved_read : (h : Held) (m w : Text) (r : Reserved) (e : ℕ) (ms : Marks) → all_blank m ≡ true → Key w r ms →
       At S h e (text m ∷ text w ∷ ms) → ReservedRead h e r ms
   reserved_read h m w r e ms blank key at =
@@ -237,6 +242,7 @@ module _ {edition : Edition} {B T : List ℕ} {o : ℕ} (S : StandsIn edition B 
         not_comment = k.not_comment;
       }
 
+  -- before marks that end a word, by the lemma of this word in `Tokens`
   pub key_by : (w : Text) (r : Reserved) (ms : Marks) → Ends ms →
       ((p x : ℕ) (xs : List ℕ) → (x == backslash) ≡ false → ends (Some x) ≡ true → drop p T ≡ w ++ x ∷ xs →
       ReservedWord T p w r) → Key w r ms
@@ -337,6 +343,7 @@ module _ {edition : Edition} {B T : List ℕ} {o : ℕ} {S : StandsIn edition B 
     shape : shape_of_entry B value ≡ open_entry [] (entry (command a) false false None)
     texts : Adds S h later (and_or_bodies a)
 
+  -- the command of a condition is read with the `;` after it
   short_read : (h : Held) (m : Text) (a : Shape AnAndOrOf) (n : Next) (p : ℕ) (ms : Marks) → all_blank m ≡ true →
       GoodAndOr edition room a → is_normal_and_or a ≡ true → n.token ≡ told S Command p
       → ((h : Held) (f : ℕ) → At S h f (text (codes " ") ∷ ms) → Closes S f) →
@@ -369,6 +376,7 @@ module _ {edition : Edition} {B T : List ℕ} {o : ℕ} {S : StandsIn edition B 
         texts = and_or_got.texts;
       }
 
+  -- so is the whole condition, up to the word after that
   short_line : (h : Held) (m : Text) (a : Shape AnAndOrOf) (f : ℕ) (w : Text) (r : Reserved) (ms : Marks) →
       all_blank m ≡ true → GoodAndOr edition room a → is_normal_and_or a ≡ true → Key S w r ms
       → begins_pipeline (tokens.Reserved r) ≡ false →
@@ -489,6 +497,7 @@ module _ {edition : Edition} {B T : List ℕ} {o : ℕ} {S : StandsIn edition B 
     key : Key S w r others
     none : begins_pipeline (tokens.Reserved r) ≡ false
 
+  -- after the branches stands `else` or `fi`
   else_first : (m : Text) (other : Shape OtherwiseOf) (rest : Marks) → Ends rest →
       FirstWord (else_rest y m other rest)
   else_first m no_else rest e =
@@ -512,6 +521,7 @@ module _ {edition : Edition} {B T : List ℕ} {o : ℕ} {S : StandsIn edition B 
         none = refl;
       }
 
+  -- after a branch stands `elif`, `else` or `fi`
   if_first : (m : Text) (bs : Shape BranchesOf) (other : Shape OtherwiseOf) (rest : Marks) → Ends rest →
       FirstWord (if_rest y m bs other rest)
   if_first m no_branch other rest e = else_first m other rest e
@@ -528,6 +538,7 @@ module _ {edition : Edition} {B T : List ℕ} {o : ℕ} {S : StandsIn edition B 
         none = refl;
       }
 
+  -- such a word after a margin closes the list before it
   first_closes : (m : Text) (ms : Marks) → all_blank m ≡ true → FirstWord ms → (h : Held) (e : ℕ) →
       At S h e (text m ∷ ms) → Closes S e
   first_closes m ms blank f h e at =
@@ -545,11 +556,13 @@ module _ {edition : Edition} {B T : List ℕ} {o : ℕ} {S : StandsIn edition B 
     shape : shape_of_branch B value ≡ open_branch [] b
     texts : Adds S h later (branch_bodies b)
 
+  -- the shape of a branch by those of its lists
   branch_shape : (c b : Entries) (condition body : Shape EntriesOf) → shape_of B c ≡ opened [] condition →
       shape_of B b ≡ opened [] body → shape_of_branch B (branch c b) ≡ open_branch [] (branch condition body)
   unfolding open_branch
   branch_shape c b condition body e f = rw (e, f) refl
 
+  -- a branch is read, up to the margin before the word after it
   branch_read : (h : Held) (m : Text) (condition body : Shape EntriesOf) (f : ℕ) (ms : Marks) → all_blank m ≡ true
       → GoodBranch edition room (branch condition body) → is_normal_branch (branch condition body) ≡ true
       → FirstWord ms → At S h f (branch_marks y m (codes "then") condition body ms) →
@@ -582,6 +595,7 @@ module _ {edition : Edition} {B T : List ℕ} {o : ℕ} {S : StandsIn edition B 
 
   -- ---- loops
 
+  -- a loop from just after `while` or `until`
   pub loop_read : (h : Held) (m : Text) (condition body : Shape EntriesOf) (f : ℕ) (rest : Marks) → all_blank m ≡ true
       → GoodBranch edition room (branch condition body) → is_normal_branch (branch condition body) ≡ true
       → Ends rest → At S h f (branch_marks y m (codes "do") condition body (text (codes "done") ∷ rest))
@@ -612,6 +626,7 @@ module _ {edition : Edition} {B T : List ℕ} {o : ℕ} {S : StandsIn edition B 
 
   -- ---- `if`
 
+  -- what is read of `else`, and the `fi` after it
   record ElseRead (h : Held) (e : ℕ) (other : Shape OtherwiseOf) (rest : Marks) : Type 0 where
     value : Otherwise
     f : ℕ
@@ -623,6 +638,7 @@ module _ {edition : Edition} {B T : List ℕ} {o : ℕ} {S : StandsIn edition B 
     shape : shape_of_else B value ≡ open_else [] other
     texts : Adds S h later (else_bodies other)
 
+  -- an `else` with its list, or none
   else_read : (h : Held) (m : Text) (other : Shape OtherwiseOf) (e : ℕ) (rest : Marks) → all_blank m ≡ true →
       GoodElse edition room other → is_normal_else other ≡ true → Ends rest
       → At S h e (text m ∷ else_rest y m other rest) → ElseRead h e other rest
@@ -659,6 +675,9 @@ module _ {edition : Edition} {B T : List ℕ} {o : ℕ} {S : StandsIn edition B 
         texts = b.texts;
       }
 
+  -- ---- `elif`
+
+  -- what is read of the `elif` branches after others
   record BranchesRead (h : Held) (acc : Row ABranch) (e : ℕ) (bs : Shape BranchesOf) (ms : Marks) : Type 0 where
     value : Row ABranch
     f : ℕ
@@ -669,6 +688,7 @@ module _ {edition : Edition} {B T : List ℕ} {o : ℕ} {S : StandsIn edition B 
     shape : shape_of_branches B (branches_of value) ≡ open_branches [] bs
     texts : Adds S h later (branches_bodies bs)
 
+  -- one branch before others
   branches_turned : (h k later : Held) (acc : Row ABranch) (n : Next) (p : ℕ) (v : ABranch) (next : Next) (r : ℕ)
       (vs : Row ABranch) (z : Next) (f : ℕ)
       → Gives (g S) (elif_turn (level room) (branched acc n)) (state h p) (again (branched (acc ++ v ∷ []) next))
@@ -682,12 +702,14 @@ module _ {edition : Edition} {B T : List ℕ} {o : ℕ} {S : StandsIn edition B 
       subst (λ all. Gives (g S) (many (elif_turn (level room)) (branched acc n)) (state h p) (branched all z)
       (state later f)) (append_assoc acc (v ∷ []) vs) (one_turn (elif_turn (level room)) one on rest)
 
+  -- the shape of branches by that of the first and those of the others
   branches_shape : (v : ABranch) (vs : Row ABranch) (b : Shape ABranchOf) (bs : Shape BranchesOf) →
       shape_of_branch B v ≡ open_branch [] b → shape_of_branches B (branches_of vs) ≡ open_branches [] bs
       → shape_of_branches B (branches_of (v ∷ vs)) ≡ open_branches [] (more_branches b bs)
   unfolding open_branches
   branches_shape v vs b bs e f = rw (e, f) refl
 
+  -- what stands after all branches is no `elif`
   else_no_elif : (m : Text) (other : Shape OtherwiseOf) (rest : Marks) (stop : Ends rest) →
       is_closing closings.Elif (tokens.Reserved (else_first m other rest stop).r) ≡ false
   unfolding else_first
@@ -707,6 +729,7 @@ module _ {edition : Edition} {B T : List ℕ} {o : ℕ} {S : StandsIn edition B 
       let low = some_word S (e + length m) w (lay h ms) some (at_after ∙ laid_text h w ms) in
       let is = gap.blanks in omega (arith, low, is)
 
+  -- all `elif` branches are read, up to the margin before `else` or `fi`
   branches_read : (h : Held) (m : Text) (bs : Shape BranchesOf) (other : Shape OtherwiseOf) (acc : Row ABranch)
       (e : ℕ) (rest : Marks) → all_blank m ≡ true → GoodBranches edition room bs → are_normal_branches bs ≡ true
       → Ends rest → At S h e (text m ∷ if_rest y m bs other rest) →
@@ -760,6 +783,7 @@ module _ {edition : Edition} {B T : List ℕ} {o : ℕ} {S : StandsIn edition B 
 
   -- ---- compound commands from just after their openers
 
+  -- the shape of an `if` by those of its parts
   if_shape : (v : ABranch) (vs : Row ABranch) (w : Otherwise) (b : Shape ABranchOf) (bs : Shape BranchesOf)
       (other : Shape OtherwiseOf) → shape_of_branch B v ≡ open_branch [] b
       → shape_of_branches B (branches_of vs) ≡ open_branches [] bs → shape_of_else B w ≡ open_else [] other →
@@ -767,6 +791,7 @@ module _ {edition : Edition} {B T : List ℕ} {o : ℕ} {S : StandsIn edition B 
   unfolding open_form
   if_shape v vs w b bs other e f i = rw (e, f, i) refl
 
+  -- an `if` from just after its opener, up to `fi`
   pub if_read : (h : Held) (m : Text) (condition body : Shape EntriesOf) (bs : Shape BranchesOf)
       (other : Shape OtherwiseOf) (f : ℕ) (rest : Marks) → all_blank m ≡ true
       → GoodForm edition room (if_then (branch condition body) bs other) →
@@ -808,6 +833,7 @@ module _ {edition : Edition} {B T : List ℕ} {o : ℕ} {S : StandsIn edition B 
         (state h (past_blanks T e))
     shape : shape_of_word B value ≡ name
 
+  -- it is read after its space
   name_read : (h : Held) (name : Shape AWordOf) (f : ℕ) (ms : Marks) → GoodName edition room name → Followed ms →
       At S h f (text (codes " ") ∷ (print_word name ++ ms)) → NameRead h f name ms
   unfolding a_for_name
@@ -837,6 +863,9 @@ module _ {edition : Edition} {B T : List ℕ} {o : ℕ} {S : StandsIn edition B 
         shape = v.1.1 ∙ sym good.is;
       }
 
+  -- ---- the words
+
+  -- what is read between the name and `do`, and that
   record HeadRead (h : Held) (f : ℕ) (words : Shape ForWordsOf) (ms : Marks) : Type 0 where
     value : ForWords
     e : ℕ
@@ -873,6 +902,7 @@ module _ {edition : Edition} {B T : List ℕ} {o : ℕ} {S : StandsIn edition B 
             (ap is_newline_token k.token_is) ⟫ given_here,
       )
 
+  -- the words after `in`, up to `do`
   words_read : (h : Held) (m : Text) (items : Shape ItemsOf) (f : ℕ) (ms : Marks) → all_blank m ≡ true →
       GoodForWords edition room (in_words items) → are_normal_words (in_words items) ≡ true → Ends ms
       → At S h f (head_marks y m (in_words items) ms) → HeadRead h f (in_words items) ms
@@ -905,6 +935,7 @@ module _ {edition : Edition} {B T : List ℕ} {o : ℕ} {S : StandsIn edition B 
             (for_words_bodies good.items ts);
       }
 
+  -- words, or none
   head_read : (h : Held) (m : Text) (words : Shape ForWordsOf) (f : ℕ) (ms : Marks) → all_blank m ≡ true →
       GoodForWords edition room words → are_normal_words words ≡ true → Ends ms
       → At S h f (head_marks y m words ms) → HeadRead h f words ms
@@ -926,6 +957,9 @@ module _ {edition : Edition} {B T : List ℕ} {o : ℕ} {S : StandsIn edition B 
   head_read h m (in_words items) f ms blank good normal stop at =
       words_read h m items f ms blank good normal stop at
 
+  -- ---- the command
+
+  -- the shape of a `for` by those of its parts
   for_shape : (v : AWord) (ws : ForWords) (b : Entries) (name : Shape AWordOf) (words : Shape ForWordsOf)
       (body : Shape EntriesOf) → shape_of_word B v ≡ name → shape_of_for_words B ws ≡ words →
       shape_of B b ≡ opened [] body
@@ -933,6 +967,7 @@ module _ {edition : Edition} {B T : List ℕ} {o : ℕ} {S : StandsIn edition B 
   unfolding open_form
   for_shape v ws b name words body e f i = rw (e, f, i) refl
 
+  -- a `for` from just after its opener, up to `done`
   pub for_read : (h : Held) (m : Text) (name : Shape AWordOf) (words : Shape ForWordsOf) (body : Shape EntriesOf)
       (f : ℕ) (rest : Marks) → all_blank m ≡ true → GoodForm edition room (for_in name words body)
       → is_normal_form (for_in name words body) ≡ true → Ends rest →

@@ -182,6 +182,8 @@ module _ {edition : Edition} {B T : List ℕ} {o : ℕ} (S : StandsIn edition B 
       (p + 1 + 1) hyphen xs refl (byte_after S (p + 1) less_than_sign hyphen xs there))
   operator_moves h redirects.Clobber p xs at = two_bytes_move h p greater_than_sign vertical_line xs refl refl at
 
+  -- ---- the number before an operator
+
   -- the number before an operator, or none
   record NumberRead (h : Held) (number : Option Text) (k : RedirectOperator) (n : Next) (p : ℕ)
       (ms : Marks) : Type 0 where
@@ -196,6 +198,7 @@ module _ {edition : Edition} {B T : List ℕ} {o : ℕ} (S : StandsIn edition B 
 
   module _ (k : RedirectOperator) (ms : Marks) (is_whole : (h : Held) (q : ℕ) → At S h q ms → IsWhole k T q)
       (longer : (h : Held) (q : ℕ) → At S h q ms → NoLonger T q) where
+    -- it is told as that operator, where its word stands after it
     operator_there : (h : Held) (position : Position) (p : ℕ) → At S h p (text (redirect_text k) ∷ ms) →
         told S position p ≡ tokens.Redirect k
     operator_there h position p at =
@@ -213,12 +216,14 @@ module _ {edition : Edition} {B T : List ℕ} {o : ℕ} (S : StandsIn edition B 
         (at ∙ laid_text h (d ∷ ds) (text (redirect_text k) ∷ ms)
         ∙ ap (λ z. (d ∷ ds) ++ z) (laid_text h (redirect_text k) ms ∙ ap (λ z. z ++ lay h ms) a.2))
 
+    -- a token may begin there
     operator_start : (h : Held) (p : ℕ) → At S h p (text (redirect_text k) ∷ ms) → Start T p
     operator_start h p at =
         let a = angle_first k in
         start_here (byte_here T p a.0 (a.1 ++ lay h ms) (angle_clear a.0 a.3)
         (at ∙ laid_text h (redirect_text k) ms ∙ ap (λ z. z ++ lay h ms) a.2)) (angle_no_blank a.0 a.3)
 
+    -- the number is read, or none, up to the operator
     number_read : (h : Held) (position : Position) (number : Option Text) (n : Next) (p : ℕ) → GoodNumber number →
         n.token ≡ told S position p → At S h p (print_number number ++ (text (redirect_text k) ∷ ms)) →
         NumberRead h number k n p ms
@@ -277,6 +282,8 @@ module _ {edition : Edition} {B T : List ℕ} {o : ℕ} (S : StandsIn edition B 
           no_word = ap after_word (tell S number.token);
         }
 
+  -- ---- the word after an operator
+
   -- the word of a redirection, after its operator
   record TargetThere (h : Held) (k : RedirectOperator) (e : ℕ) (t : Text) (rest : Marks) : Type 0 where
     f : ℕ
@@ -297,6 +304,7 @@ module _ {edition : Edition} {B T : List ℕ} {o : ℕ} (S : StandsIn edition B 
   whole_by redirects.HereStripped e c cs r other = tt
   whole_by redirects.Clobber e c cs r other = tt
 
+  -- a word that begins so is kept apart by a space
   whole_word : (k : RedirectOperator) (e : ℕ) (t zs : Text) → drop e T ≡ t ++ zs → 0 < length t →
       past_continuations T e ≡ e → would_lengthen k t ≡ false → IsWhole k T e
   unfolding stands
@@ -312,6 +320,7 @@ module _ {edition : Edition} {B T : List ℕ} {o : ℕ} (S : StandsIn edition B 
   whole_word redirects.HereStripped e t zs at some place other = tt
   whole_word redirects.Clobber e t zs at some place other = tt
 
+  -- the word stands after its space, or at once where that makes no longer operator
   target_there : (h : Held) (k : RedirectOperator) (spaced : Bool) (e : ℕ) (t : Text) (ss : Shape SubstsOf)
       (rest : Marks) → (spaced ≡ false → would_lengthen k t ≡ false) → ItemAnywhere edition room Suffix tokens.Word t ss
       → Followed rest
@@ -351,6 +360,7 @@ module _ {edition : Edition} {B T : List ℕ} {o : ℕ} (S : StandsIn edition B 
     shape : option_map (shape_of_here B) value ≡ open_here [] doc
     texts : Adds S h later (here_bodies doc)
 
+  -- a document waits after its redirection
   document_read : (h : Held) (k : RedirectOperator) (b p : ℕ) (t : Text) (f : ℕ) (ss : Shape SubstsOf)
       (doc : Option (AHereOf Text)) (rest : Marks) → GoodHere edition k t doc →
       At S h f (print_here (word t ss) doc ++ rest)
@@ -407,6 +417,7 @@ module _ {edition : Edition} {B T : List ℕ} {o : ℕ} (S : StandsIn edition B 
   module _ (y : Layout) (number : Option Text) (k : RedirectOperator) (t : Text) (ss : Shape SubstsOf)
       (doc : Option (AHereOf Text)) (good : GoodRedirect edition room number k t ss doc) (rest : Marks)
       (follow : Followed rest) where
+    -- whether a space stands between operator and word
     abbrev spaced : Bool
     spaced = (y.space_redirects && not (duplicates k)) || would_lengthen k t
 
@@ -414,14 +425,17 @@ module _ {edition : Edition} {B T : List ℕ} {o : ℕ} (S : StandsIn edition B 
     abbrev after_word_marks : Marks
     after_word_marks = print_here (word t ss) doc ++ rest
 
+    -- what stands after the operator
     abbrev after_operator : Marks
     after_operator = (if spaced then one (codes " ") else []) ++ (text t ∷ after_word_marks)
 
+    -- what stands after the word may follow it
     document_follows : (doc : Option (AHereOf Text)) → Followed (print_here (word t ss) doc ++ rest)
     unfolding laid_after
     document_follows None held = follow held
     document_follows (Some d) held = follow (held ++ (d.body ++ delimiter_line (delimiter_of t)))
 
+    -- what is printed of a redirection, by its parts
     redirect_printed : (b : Bool) →
         print_item y (a_redirect_of b number k t ss doc) ++ rest ≡ print_number number
         ++ (text (redirect_text k) ∷ after_operator)
@@ -432,6 +446,7 @@ module _ {edition : Edition} {B T : List ℕ} {o : ℕ} (S : StandsIn edition B 
         ∙ append_assoc (print_number number ++ O) (one t) (D ++ rest)
         ∙ append_assoc (print_number number) O (text t ∷ (D ++ rest))
 
+    -- without a space the word makes no longer operator
     no_strip : spaced ≡ false → would_lengthen k t ≡ false
     no_strip e = by_or (y.space_redirects && not (duplicates k)) (would_lengthen k t) e
       where
@@ -439,6 +454,7 @@ module _ {edition : Edition} {B T : List ℕ} {o : ℕ} (S : StandsIn edition B 
         by_or true b e = absurd cc
         by_or false b e = e
 
+    -- what that says of the word, and of the operator before it
     target_at : (h : Held) (e : ℕ) → At S h e after_operator → TargetThere h k e t after_word_marks
     target_at h e at = target_there h k spaced e t ss after_word_marks no_strip good.reads (document_follows doc) at
 
@@ -454,6 +470,7 @@ module _ {edition : Edition} {B T : List ℕ} {o : ℕ} (S : StandsIn edition B 
         redirect_begins k after_operator whole_at no_longer_at h position number p good.digits
         (at ∙ ap (lay h) (redirect_printed b))
 
+    -- its shape by those of its parts
     redirect_shape : (broken : Bool) (d : Option Span) (s : Span) (w : AWord) (v : Option AHere) →
         option_map (bare_at B) d ≡ number → shape_of_word B w ≡ word t ss →
         option_map (shape_of_here B) v ≡ open_here [] doc
@@ -514,6 +531,7 @@ module _ {edition : Edition} {B T : List ℕ} {o : ℕ} (S : StandsIn edition B 
 
   -- ---- items of each kind
 
+  -- a word that is an item begins a simple command
   item_begins : (t : Token) (position : Position) → after_word t ≡ Some position → begins_simple t ≡ true
   item_begins t position e = rw e refl
 
@@ -522,6 +540,7 @@ module _ {edition : Edition} {B T : List ℕ} {o : ℕ} (S : StandsIn edition B 
     pub start : Start T p
     pub begins : begins_simple (told S position p) ≡ true
 
+  -- so does a word where it is printed
   word_there : (h : Held) (position next : Position) (token : Token) (w : Text) (ss : Shape SubstsOf) →
       after_word token ≡ Some next → ItemAnywhere edition room position token w ss → (p : ℕ) (rest : Marks) →
       Followed rest
@@ -534,6 +553,7 @@ module _ {edition : Edition} {B T : List ℕ} {o : ℕ} (S : StandsIn edition B 
             ∙ item_begins token next some;
       }
 
+  -- so does each item
   pub item_there : (h : Held) {kind : Kind} {position next : Position} {i : Shape AnItemOf} (y : Layout) →
       GoodItem edition room kind position i next → (p : ℕ) (rest : Marks) → Followed rest →
       At S h p (print_item y i ++ rest)
@@ -553,6 +573,7 @@ module _ {edition : Edition} {B T : List ℕ} {o : ℕ} (S : StandsIn edition B 
       let r = redirect_there y number k t ss doc good rest follow h Command b p at in
       record { start = r.start; begins = redirect_is_item (told S Command p) r.redirect }
 
+  -- each item is read where it is printed
   pub item_read : (h : Held) {kind : Kind} {position next : Position} {i : Shape AnItemOf} (y : Layout) →
       GoodItem edition room kind position i next → (acc : Row AnItem) (n : Next) (p : ℕ) (rest : Marks) →
       n.token ≡ told S position p
@@ -621,11 +642,13 @@ module _ {edition : Edition} {B T : List ℕ} {o : ℕ} (S : StandsIn edition B 
         texts = r.texts;
       }
 
+  -- the shape of items
   abbrev Shapes : Row AnItem → Shape ItemsOf
   Shapes is = shape_of_items B (items_of is)
 
   -- ---- items after others
 
+  -- what is read of them, with the token after the last one
   pub record ItemsRead (h : Held) (kind : Kind) (acc : Row AnItem) (position : Position) (n : Next) (p : ℕ)
       (last : Position) (is : Shape ItemsOf) (rest : Marks) : Type 0 where
     pub more_items_read : Row AnItem
@@ -675,6 +698,7 @@ module _ {edition : Edition} {B T : List ℕ} {o : ℕ} (S : StandsIn edition B 
   item_stops h of_for acc position n p none = second_of _ _ (no_item_token n.token none).word given_here
   item_stops h of_compound acc position n p none = second_of _ _ (no_item_token n.token none).redirect given_here
 
+  -- none is read where no item stands
   no_items_on : (h : Held) (kind : Kind) (acc : Row AnItem) (position : Position) (n : Next) (e : ℕ) (rest : Marks) →
       At S h e rest → asked S Command e ≡ n → begins_simple n.token ≡ false
       → ItemsRead h kind acc position n (past_blanks T e) position no_item rest
@@ -698,6 +722,7 @@ module _ {edition : Edition} {B T : List ℕ} {o : ℕ} (S : StandsIn edition B 
     pub at : At S h p ms
     pub gap : Start T p → Gap T e p broken
 
+  -- a space, or a continuation and a margin
   pub gap_read : (h : Held) (y : Layout) (m : Text) (broken : Bool) (e : ℕ) (ms : Marks) →
       all_blank (deeper y m) ≡ true → (c : ℕ) (cs : Text) → deeper y m ≡ c ∷ cs → At S h e (print_gap y m broken ++ ms)
       → GapRead h e broken ms
@@ -732,6 +757,7 @@ module _ {edition : Edition} {B T : List ℕ} {o : ℕ} (S : StandsIn edition B 
   breaks_by [] position n b none is = sym (not_true b (none refl))
   breaks_by (i ∷ is) position n b none same = same
 
+  -- a printed item is broken as the shape has it
   broken_is : (kind : Kind) (acc : Row AnItem) (position : Position) (n : Next) (i : Shape AnItemOf)
       (is : Shape ItemsOf) → Unbroken kind acc (more_items i is) → n.broken ≡ is_broken_item i
       → broken_by kind (so_many acc position n) ≡ is_broken_item i
@@ -739,11 +765,13 @@ module _ {edition : Edition} {B T : List ℕ} {o : ℕ} (S : StandsIn edition B 
   broken_is of_for acc position n (item b what) is first same = breaks_by acc position n b first same
   broken_is of_compound acc position n (item b what) is first same = same
 
+  -- after an item none is the first
   unbroken_on : (kind : Kind) (acc : Row AnItem) (i : AnItem) (is : Shape ItemsOf) → Unbroken kind (acc ++ i ∷ []) is
   unbroken_on of_command acc i is = λ e. absurd (both_ways (is_empty (acc ++ i ∷ [])) (pushed_some acc i) e)
   unbroken_on of_for acc i is = λ e. absurd (both_ways (is_empty (acc ++ i ∷ [])) (pushed_some acc i) e)
   unbroken_on of_compound acc i is = tt
 
+  -- the first one is not broken
   first_item : (b : Bool) (position : Position) (w : Shape AWordOf) (is : Shape ItemsOf) →
       first_not_broken (more_items (an_item_of b position w) is) ≡ true → b ≡ false
   first_item b Command w is first = not_true b first
@@ -759,6 +787,7 @@ module _ {edition : Edition} {B T : List ℕ} {o : ℕ} (S : StandsIn edition B 
       broken : (asked S position e).broken ≡ is_broken_item i
       begins : begins_simple (asked S position e).token ≡ true
 
+    -- it stands after its gap
     next_item : (h : Held) {kind : Kind} {position next : Position} {i : Shape AnItemOf} (is : Shape ItemsOf) (e : ℕ)
         → GoodItem edition room kind position i next → At S h e (print_items y m (more_items i is) ++ rest) →
         NextItem h position i is e
@@ -774,6 +803,7 @@ module _ {edition : Edition} {B T : List ℕ} {o : ℕ} (S : StandsIn edition B 
           begins = ap (λ (n : Next). begins_simple n.token) (asked_after S position passed) ∙ there.begins;
         }
 
+    -- they are read, up to what stands after them
     pub items_read : {kind : Kind} (h : Held) {position last : Position} {is : Shape ItemsOf} →
         GoodItems edition room kind position is last → (acc : Row AnItem) (e : ℕ) → Unbroken kind acc is
         → At S h e (print_items y m is ++ rest) →
@@ -790,10 +820,12 @@ module _ {edition : Edition} {B T : List ℕ} {o : ℕ} (S : StandsIn edition B 
         items_on h one (broken_is kind acc position n i is first it.broken)
         (items_read one.later others (acc ++ one.it ∷ []) one.«end» (unbroken_on kind acc one.it is) one.at)
 
+    -- what is printed of a simple command, by its first item
     simple_printed : (i : Shape AnItemOf) (is : Shape ItemsOf) →
         print_simple y m (more_items i is) ++ rest ≡ print_item y i ++ (print_items y m is ++ rest)
     simple_printed i is = append_assoc (print_item y i) (print_items y m is) rest
 
+    -- its first item is not broken
     first_unbroken : (n : Next) (i : Shape AnItemOf) (is : Shape ItemsOf) → first_not_broken (more_items i is) ≡ true
         → broken_by of_command (so_many [] Command n) ≡ is_broken_item i
     first_unbroken n (item b what) is first = sym (not_true b first)

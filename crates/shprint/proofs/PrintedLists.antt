@@ -47,6 +47,7 @@ abbrev pub entry_rest : Bool → Option Text → Marks → Marks
 entry_rest background comment rest = print_background background
     ++ (print_own_comment comment ++ (line_end ∷ rest))
 
+-- what stands after `&` makes no longer operator of it
 own_parted : (h : Held) (comment : Option Text) (rest : Marks) →
     Parted (lay h (print_own_comment comment ++ (line_end ∷ rest)))
 unfolding laid_after
@@ -61,6 +62,7 @@ own_parted h None rest = record {
 own_parted h (Some c) rest =
     record { c = space; cs = _; is = refl; no_backslash = refl; no_bar = refl; no_ampersand = refl }
 
+-- what is printed of entries, by the parts of the first one
 pub entry_marks : (y : Layout) (d : Text) (what : Shape AContentOf) (background blank : Bool) (comment : Option Text)
     (es : Shape EntriesOf) (rest : Marks)
     → print_entries y d (more_entries (entry what background blank comment) es) ++ rest
@@ -106,6 +108,7 @@ module _ {edition : Edition} {B T : List ℕ} {o : ℕ} (S : StandsIn edition B 
     not_pipe : is_pipe token ≡ false
     no_operator : and_or_operator_of token ≡ None
 
+  -- a newline is told there
   line_follower : (rest : Marks) → Follower S (line_end ∷ rest) tokens.Newline
   unfolding laid_after
   line_follower rest = record {
@@ -114,10 +117,12 @@ module _ {edition : Edition} {B T : List ℕ} {o : ℕ} (S : StandsIn edition B 
     seen_as = λ h e at position. (newline_next S h position e rest at).0;
   }
 
+  -- where a number sign is read a comment is told
   sharp_token : (position : Position) (q : ℕ) → byte_at T q ≡ Some number_sign → told S position q ≡ tokens.Comment
   unfolding token_at
   sharp_token position q e = tell S (ap (token_of position T q) e)
 
+  -- a comment is told after its space
   comment_follower : (c : Text) (rest : Marks) → CommentAnywhere c →
       Follower S (text (codes " ") ∷ text c ∷ line_end ∷ rest) tokens.Comment
   unfolding laid_after
@@ -134,6 +139,7 @@ module _ {edition : Edition} {B T : List ℕ} {o : ℕ} (S : StandsIn edition B 
         (sharp_token position (e + 1) found.4);
   }
 
+  -- `&` is told after its space
   background_follower : (ms : Marks) → ((h : Held) → Parted (lay h ms)) →
       Follower S (text (codes " &") ∷ ms) tokens.Ampersand
   unfolding laid_after
@@ -150,6 +156,7 @@ module _ {edition : Edition} {B T : List ℕ} {o : ℕ} (S : StandsIn edition B 
         (parted h).no_ampersand (amp ∙ ap (λ z. ampersand ∷ z) (parted h).is));
   }
 
+  -- one of the three follows the commands of an entry
   entry_follow : (background : Bool) (comment : Option Text) (rest : Marks) → GoodOwnComment comment →
       EntryFollow (entry_rest background comment rest)
   entry_follow true comment rest good = record {
@@ -187,11 +194,13 @@ module _ {edition : Edition} {B T : List ℕ} {o : ℕ} (S : StandsIn edition B 
     background_is : is_background separator ≡ background
     parted_is : is_some (past_separator separator) ≡ background
 
+  -- another token is no separator
   no_separator : (h : Held) (n : Next) (q : ℕ) → separator_of n.token ≡ None →
       Gives (g S) (a_separator n) (state h q) (None, n) (state h q)
   unfolding a_separator
   no_separator h n q e = rw e given_here
 
+  -- a separator of one byte is read
   pub some_separator : (h : Held) (n : Next) (q : ℕ) (k : Separator) → separator_of n.token ≡ Some k →
       past_byte T q ≡ q + 1
       → Gives (g S) (a_separator n) (state h q) (Some (k, o + (q + 1)), asked S Command (q + 1))
@@ -202,6 +211,7 @@ module _ {edition : Edition} {B T : List ℕ} {o : ℕ} (S : StandsIn edition B 
       subst (λ p. Gives (g S) (move one_byte) (state h q) tt (state h p)) after_is (moved_here one_byte) in
       rw e (told_here (told_separator k) moved ⟫ next_read S h Command (q + 1) ⟫ given_here)
 
+  -- `&` is read, or none
   separator_read : (h : Held) (background : Bool) (comment : Option Text) (rest : Marks) (e : ℕ) →
       GoodOwnComment comment → At S h e (entry_rest background comment rest)
       → SeparatorRead h e background (print_own_comment comment ++ (line_end ∷ rest))
@@ -252,6 +262,7 @@ module _ {edition : Edition} {B T : List ℕ} {o : ℕ} (S : StandsIn edition B 
         (state h (past_blanks T «end»))
     shape : option_map (shape_of_comment B) own ≡ comment
 
+  -- the comment is read, or none
   own_read : (h : Held) (comment : Option Text) (rest : Marks) (f : ℕ) → GoodOwnComment comment →
       At S h f (print_own_comment comment ++ (line_end ∷ rest)) → OwnRead h f comment rest
   own_read h None rest f good at =
@@ -281,6 +292,7 @@ module _ {edition : Edition} {B T : List ℕ} {o : ℕ} (S : StandsIn edition B 
 
   -- ---- the end of a line, and of a list
 
+  -- where none stands no comment is read
   pub no_remark : (h : Held) (l : Listed) (n : Next) (p : ℕ) → raw_stands T p number_sign ≡ false →
       Gives (g S) (a_remark (list_so l n)) (state h p) (list_so l n) (state h p)
   unfolding a_remark
@@ -293,6 +305,7 @@ module _ {edition : Edition} {B T : List ℕ} {o : ℕ} (S : StandsIn edition B 
     pub at_q : At S h (past_blanks T e) (line_end ∷ rest)
     pub no_comment_q : raw_stands T (past_blanks T e) number_sign ≡ false
 
+  -- a newline token stands there
   pub line_end_here : (h : Held) (e : ℕ) (rest : Marks) → At S h e (line_end ∷ rest) → LineEnd h e rest
   line_end_here h e rest at =
       let line = newline_next S h Command e rest at in
@@ -305,6 +318,7 @@ module _ {edition : Edition} {B T : List ℕ} {o : ℕ} (S : StandsIn edition B 
             (at_q ∙ laid_line h rest);
       }
 
+  -- where a pipeline begins the text has not ended
   pub pipeline_within : (p : ℕ) → PipelineBegins S p → p < length T
   unfolding token_at
   pipeline_within p b = by_byte (byte_at T p) refl
@@ -339,6 +353,7 @@ module _ {edition : Edition} {B T : List ℕ} {o : ℕ} {S : StandsIn edition B 
     pub shape : shape_of_entry B value ≡ open_entry [] (entry (command a) background blank comment)
     pub texts : Adds S h later (entry_bodies (entry (command a) background blank comment))
 
+  -- an entry is in the background as its separator says
   entered_is : (blank : Bool) (a : AnAndOr) (s : Option ASeparator) (c : Option Span) (n : Next)
       (background : Bool) → is_background s ≡ background
       → ◌≡◌ {A = Entered} (record
@@ -346,6 +361,7 @@ module _ {edition : Edition} {B T : List ℕ} {o : ℕ} {S : StandsIn edition B 
       (record { entry = entry (command a) background blank c; parted = past_separator s; next = n })
   entered_is blank a s c n background e = rw e refl
 
+  -- the shape of an entry by those of its parts
   entry_shape : (blank background : Bool) (a : AnAndOr) (c : Option Span) (x : Shape AnAndOrOf)
       (comment : Option Text) → shape_of_and_or B a ≡ open_and_or [] x →
       option_map (shape_of_comment B) c ≡ comment
@@ -354,6 +370,7 @@ module _ {edition : Edition} {B T : List ℕ} {o : ℕ} {S : StandsIn edition B 
   unfolding open_entry open_content
   entry_shape blank background a c x comment e f = rw (e, f) refl
 
+  -- it is read there
   pub entry_read : (h : Held) (m : Text) (blank : Bool) (a : Shape AnAndOrOf) (background : Bool)
       (comment : Option Text) (n : Next) (p : ℕ) (rest : Marks) → all_blank m ≡ true → GoodAndOr edition room a
       → GoodOwnComment comment → is_normal_and_or a ≡ true → n.token ≡ told S Command p →
@@ -418,6 +435,7 @@ module _ {edition : Edition} {B T : List ℕ} {o : ℕ} {S : StandsIn edition B 
     pub shape : shape_of_entry B value ≡ open_entry [] e
     pub texts : Adds S h later (entry_bodies e)
 
+  -- the one entry of a line, by what is read of it
   one_entry_by : (h : Held) (acc : Row AnEntry) (blank commands : Bool) (before : Option ℕ) (n : Next) (p : ℕ)
       (a : Shape AnAndOrOf) (background : Bool) (comment : Option Text) (rest : Marks)
       → begins_pipeline n.token ≡ true → p < length T →
@@ -525,6 +543,7 @@ module _ {edition : Edition} {B T : List ℕ} {o : ℕ} {S : StandsIn edition B 
           ≡ entry (remark c) false blank None
       remark_shape h blank c p at = rw (comment_shape S h c p (line_end ∷ rest) at, and-true blank) refl
 
+  -- an entry, or a comment on a line of its own, is read
   pub entry_on_line : (h : Held) (m : Text) (acc : Row AnEntry) (blank commands : Bool) (before : Option ℕ)
       (what : Shape AContentOf) (background : Bool) (comment : Option Text) (n : Next) (p : ℕ) (rest : Marks) →
       all_blank m ≡ true
@@ -545,6 +564,7 @@ module _ {edition : Edition} {B T : List ℕ} {o : ℕ} {S : StandsIn edition B 
   entry_on_line h m acc blank commands before (remark c) false
       (Some d) n p rest blank_m good good_c normal token_is at = absurd cc
 
+  -- either begins where it is printed
   pub content_start : (h : Held) (m : Text) (what : Shape AContentOf) (background blank : Bool)
       (comment : Option Text) (p : ℕ) (rest : Marks) → GoodContent edition room what → GoodOwnComment comment
       → is_normal_entry (entry what background blank comment) ≡ true →
@@ -572,6 +592,7 @@ module _ {edition : Edition} {B T : List ℕ} {o : ℕ} {S : StandsIn edition B 
     shape : shape_of_entry B value ≡ open_entry [] x
     texts : Adds S h later (entry_bodies x)
 
+  -- the line is read with its newline, by what is read of its entry
   line_by : (h : Held) (acc : Row AnEntry) (blank commands : Bool) (before : Option ℕ) (n : Next) (p : ℕ)
       (x : Shape AnEntryOf) (rest : Marks) → OnLine h acc blank commands before n p x (is_command x) rest →
       LineRead h acc blank commands before n p x rest
@@ -610,6 +631,7 @@ module _ {edition : Edition} {B T : List ℕ} {o : ℕ} {S : StandsIn edition B 
     pub on : leads_on (g S) (state h (past_blanks T e)) (state later (past_blanks T q)) ≡ true
     pub texts : Adds S h later no_more
 
+  -- so is an empty line
   pub empty_line : (h : Held) (acc : Row AnEntry) (blank commands : Bool) (before : Option ℕ) (e : ℕ) (rest : Marks) →
       At S h e (line_end ∷ rest) → EmptyLine h acc blank commands before e rest
   unfolding list_turn
@@ -629,6 +651,7 @@ module _ {edition : Edition} {B T : List ℕ} {o : ℕ} {S : StandsIn edition B 
         texts = z.texts;
       }
 
+  -- what is read of a list, up to what closes it
   pub record ListRead (h : Held) (acc : Row AnEntry) (commands : Bool) (before : Option ℕ) (n : Next) (p : ℕ)
       (es : Shape EntriesOf) (rest : Marks) : Type 0 where
     pub value : Row AnEntry
@@ -644,6 +667,7 @@ module _ {edition : Edition} {B T : List ℕ} {o : ℕ} {S : StandsIn edition B 
     pub shape : shape_of B (entries_of value) ≡ opened [] es
     pub texts : Adds S h later (entries_bodies es)
 
+  -- a list ends where what closes it stands
   pub list_ends : (h : Held) (acc : Row AnEntry) (blank commands : Bool) (before : Option ℕ) (e : ℕ) → Closes S e
       → Gives (g S) (list_turn (level room) (list_so (at_line_start acc blank commands before) (asked S Command e)))
       (state h (past_blanks T e))
@@ -694,6 +718,7 @@ module _ {edition : Edition} {B T : List ℕ} {o : ℕ} {S : StandsIn edition B 
       (list_so (at_line_start (acc ++ (v ∷ vs)) blank q last) z) (state later f))
       (or_assoc commands c d) entries_are
 
+  -- the shape of entries by that of the first and those of the others
   entries_shape : (v : AnEntry) (vs : Row AnEntry) (x : Shape AnEntryOf) (es : Shape EntriesOf) →
       shape_of_entry B v ≡ open_entry [] x → shape_of B (entries_of vs) ≡ opened [] es
       → shape_of B (entries_of (v ∷ vs)) ≡ opened [] (more_entries x es)
@@ -720,6 +745,7 @@ module _ {edition : Edition} {B T : List ℕ} {o : ℕ} {S : StandsIn edition B 
       (entry_on_line h d acc blank commands before what background comment
       (asked S Command e) q rest blank_d good good_c normal refl at_q)
 
+  -- the first line with its margin, and then the others by what is known of them
   list_by : (h : Held) (d : Text) (what : Shape AContentOf) (background blank : Bool) (comment : Option Text)
       (es : Shape EntriesOf) (acc : Row AnEntry) (commands : Bool) (before : Option ℕ) (e : ℕ) (rest : Marks) →
       all_blank d ≡ true
@@ -753,6 +779,7 @@ module _ {edition : Edition} {B T : List ℕ} {o : ℕ} {S : StandsIn edition B 
         texts = λ ts. others.texts ts ∙ one_line.texts (entries_bodies es ts);
       }
 
+  -- all lines of a list are read
   pub list_read : (h : Held) (d : Text) (es : Shape EntriesOf) (acc : Row AnEntry) (commands : Bool)
       (before : Option ℕ) (e : ℕ) (rest : Marks) → all_blank d ≡ true → GoodEntries edition room es →
       are_normal es ≡ true
@@ -832,6 +859,7 @@ module _ {edition : Edition} {B T : List ℕ} {o : ℕ} {S : StandsIn edition B 
 
   -- ---- lists
 
+  -- a list, by what is read of its lines
   pub list_of : (h later : Held) (es : Shape EntriesOf) (n : Next) (p : ℕ) (rest : Marks) (acc : Row AnEntry)
       (blank : Bool) (parted : Option ℕ) (e : ℕ)
       → Gives (g S) (many (list_turn (level room)) (list_so (none_listed false) n)) (state h p)

@@ -49,6 +49,7 @@ use Rattle.shprint.proofs.PrintedCases.{case_marks, items_are, case_read}
 
 -- ---- the end of the text, and no entries
 
+-- where the text has ended no byte stands
 no_byte_end : (T : List ℕ) (q c : ℕ) → drop q T ≡ [] → raw_stands T q c ≡ false
 unfolding raw_stands
 no_byte_end T q c e = ap (λ b. is_byte b c) (none_first T q e)
@@ -61,6 +62,7 @@ none_filled (b ∷ bs) = refl
 
 -- ---- forms as they are printed
 
+-- with which word a compound command opens
 abbrev opener_for : Shape AFormOf → Opener
 opener_for (brace es) = openers.Brace
 opener_for (subshell es) = openers.Paren
@@ -89,6 +91,7 @@ module _ {edition : Edition} {B T : List ℕ} {o : ℕ} {S : StandsIn edition B 
     (fine : Fine S room y) where
   -- ---- forms
 
+  -- what is printed of it, by its opener and what stands after that
   form_is : (m : Text) (form : Shape AFormOf) (rest : Marks) → GoodForm edition room form →
       Alike (print_form y m form ++ rest) (text (opener_text (opener_for form)) ∷ form_rest y m form rest)
   unfolding laid_after
@@ -141,6 +144,7 @@ module _ {edition : Edition} {B T : List ℕ} {o : ℕ} {S : StandsIn edition B 
       (laid_same (print_word w) _ (case_marks y m items tail rest)
       (λ held. ap (λ z. codes " in" ++ (newline_char ∷ held ++ z)) (items_are fine m items tail rest good.1 [])) held)
 
+  -- it is read from just after its opener
   form_read : (h : Held) (m : Text) (form : Shape AFormOf) (f : ℕ) (rest : Marks) → all_blank m ≡ true →
       GoodForm edition room form → is_normal_form form ≡ true → Ends rest → At S h f (form_rest y m form rest)
       → Finished S h AForm (a_form (level room) (opener_for form) (asked S (position_after (opener_for form)) f))
@@ -214,6 +218,7 @@ module _ {edition : Edition} {B T : List ℕ} {o : ℕ} {S : StandsIn edition B 
     reads : Gives (g S) (reserved_or_paren (opener_text k) (is_open_paren k) (position_after k)) (state h p)
         (s, asked S (position_after k) f) (state h (past_blanks T f))
 
+  -- a reserved word opens a command
   opened_by : (h : Held) (k : Opener) (r : Reserved) (p : ℕ) (ms : Marks) → is_open_paren k ≡ false →
       begins_simple (tokens.Reserved r) ≡ false → opener_of (tokens.Reserved r) ≡ Some k →
       Key S (opener_text k) r ms
@@ -233,6 +238,7 @@ module _ {edition : Edition} {B T : List ℕ} {o : ℕ} {S : StandsIn edition B 
             (p + length (opener_text k)) it.past_it);
       }
 
+  -- so does `(`
   opened_paren : (h : Held) (p : ℕ) (ms : Marks) → At S h p (text (codes "(") ∷ ms) → Opened h p openers.Paren ms
   opened_paren h p ms at =
       let there = at ∙ laid_text h (codes "(") ms in
@@ -250,6 +256,7 @@ module _ {edition : Edition} {B T : List ℕ} {o : ℕ} {S : StandsIn edition B 
         reads = paren_alone S h (codes "(") p r.place_after;
       }
 
+  -- each form begins with its opener
   form_opened : (h : Held) (m : Text) (form : Shape AFormOf) (p : ℕ) (rest : Marks) → GoodForm edition room form →
       At S h p (text (opener_text (opener_for form)) ∷ form_rest y m form rest) →
       Opened h p (opener_for form) (form_rest y m form rest)
@@ -284,6 +291,7 @@ module _ {edition : Edition} {B T : List ℕ} {o : ℕ} {S : StandsIn edition B 
       (key_by S (codes "case") reserved.Case (text (codes " ") ∷ ms) (space_end ms)
       (λ p x xs clear stops at. case_here T p x xs clear stops at)) at
 
+  -- what is printed of a compound command without redirections, by its opener
   compound_is : (m : Text) (form : Shape AFormOf) (mark : Unit {0}) (redirects : Shape ItemsOf) (rest : Marks) →
       GoodForm edition room form
       → Alike (print_compound y m (formed form mark redirects) ++ rest)
@@ -301,10 +309,12 @@ module _ {edition : Edition} {B T : List ℕ} {o : ℕ} {S : StandsIn edition B 
         (at ∙ compound_is m form mark redirects rest good.0 (held_bytes h.waiting))).opens,
   )
 
+  -- one token is one opener
   opener_same : (k l : Opener) (p : ℕ) → Opens S p k → Opens S p l → k ≡ l
   opener_same k l p one two = let same : ◌≡◌ {A = Option Opener} (Some k) (Some l) = sym one.opener
       ∙ two.opener in cc
 
+  -- a compound command is read where it is printed
   pub compound_read : (h : Held) (m : Text) (c : Shape ACompoundOf) (p : ℕ) (rest : Marks) (k : Opener) →
       all_blank m ≡ true → GoodCompound edition (suc room) c → is_normal_compound c ≡ true
       → Followed rest → Opens S p k → At S h p (print_compound y m (bare_compound c) ++ rest) →
@@ -347,6 +357,7 @@ module _ {edition : Edition} {B T : List ℕ} {o : ℕ} {S : StandsIn edition B 
     shape : shape_of_comments B comments ≡ cs
     texts : Adds S h later no_more
 
+  -- the lines after the brackets, where the body stands on another line
   broken_lines : (h : Held) (e : ℕ) (cs : Row Text) (ms : Marks) →
       JoinLines S h false [] (asked S Command e) (past_blanks T e) cs ms → GapLines h e cs ms
   unfolding a_linebreak
@@ -389,6 +400,7 @@ module _ {edition : Edition} {B T : List ℕ} {o : ℕ} {S : StandsIn edition B 
           texts = λ ts. refl;
         }
 
+    -- with comments or without, as it is printed
     function_gap : (h : Held) (cs : Row Text) (body : Shape ACompoundOf) (e : ℕ) → GoodComments cs →
         At S h e (print_function_gap y m cs body ++ ms) → GapLines h e cs ms
     function_gap h [] body e good at = bare_gap h (y.func_next_line && is_brace body) e at
@@ -398,6 +410,7 @@ module _ {edition : Edition} {B T : List ℕ} {o : ℕ} {S : StandsIn edition B 
         (commented S m blank ms operand h false c cs e good
         (at ∙ ap (λ ks. lay h (text (codes " ") ∷ text c ∷ ks)) same))
 
+  -- the shape of a function by those of its parts
   under_shape : (name : Span) (ss : Row Span) (v : ACommand) (c : Shape ACompoundOf) (cs : Row Text) →
       shape_of_command B v ≡ open_command [] (compound c) → shape_of_comments B ss ≡ cs
       → shape_of_command B (under_name name ss v) ≡ open_command [] (function (text_at B name) cs c)
@@ -447,9 +460,11 @@ module _ {edition : Edition} {B T : List ℕ} {o : ℕ} {S : StandsIn edition B 
 module _ {edition : Edition} {B T : List ℕ} {o : ℕ} (S : StandsIn edition B T o) where
   -- ---- at every level
 
+  -- where nothing may be opened no compound command is good
   none_at_all : (c : Shape ACompoundOf) → GoodCompound edition zero c → ⊥
   none_at_all (formed form mark redirects) good = good
 
+  -- all that is known of compound commands, at each level from that of the one below
   pub fine : (y : Layout) (room : ℕ) → Fine S room y
   unfolding level
   fine y zero = record {
@@ -473,15 +488,18 @@ module _ {edition : Edition} {B T : List ℕ} {o : ℕ} (S : StandsIn edition B 
     pub at : drop f T ≡ laid rest
     pub reads : Gives (g S) (a_line (level most_open) blank) (standing 0) (es, newline) (standing f)
 
+  -- a line of one entry, with its shape
   pub record EntryLine (blank : Bool) (x : Shape AnEntryOf) (rest : Marks) : Type 0 where
     pub value : AnEntry
     pub line : ScriptLine blank (value ∷ []) true rest
     pub shape : shape_of_entry B value ≡ x
 
   module _ (y : Layout) where
+    -- the level of a script
     abbrev top : Inner
     top = level most_open
 
+    -- where nothing waits the marks are laid down alone
     nothing_laid : (h : Held) (q : ℕ) (ms : Marks) → h.waiting ≡ [] → At S h q ms → drop q T ≡ laid ms
     nothing_laid h q ms none at = at ∙ ap (λ xs. laid_after (held_bytes xs) ms) none
         ∙ ap (λ held. laid_after held ms) no_bytes
@@ -516,6 +534,7 @@ module _ {edition : Edition} {B T : List ℕ} {o : ℕ} (S : StandsIn edition B 
         ∙ append-nil (map (text_at B) h.bodies) in
         sym all ∙ sym (append-nil (texts_of S h)) ∙ texts []
 
+    -- the line of an entry is read, with the bodies after it
     pub entry_line : (blank : Bool) (what : Shape AContentOf) (background : Bool) (comment : Option Text) (rest : Marks)
         → GoodContent edition most_open what → GoodOwnComment comment
         → is_normal_entry (entry what background blank comment) ≡ true →
@@ -559,6 +578,7 @@ module _ {edition : Edition} {B T : List ℕ} {o : ℕ} (S : StandsIn edition B 
           shape = v.2;
         }
 
+    -- an empty line is read
     pub blank_line_read : (blank : Bool) (rest : Marks) → drop 0 T ≡ laid (line_end ∷ rest) →
         ScriptLine blank [] true rest
     unfolding a_line an_open_line
@@ -581,6 +601,7 @@ module _ {edition : Edition} {B T : List ℕ} {o : ℕ} (S : StandsIn edition B 
               (none_filled k.bodies) filled;
         }
 
+    -- the end of the script is read
     pub end_line_read : (blank : Bool) → drop 0 T ≡ laid [] → ScriptLine blank [] false []
     unfolding a_line an_open_line end_of_line nothing_waits laid_after
     end_line_read blank at =

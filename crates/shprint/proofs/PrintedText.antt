@@ -44,6 +44,7 @@ use Rattle.shprint.proofs.Good.{GoodComments}
 
 -- ---- marks
 
+-- a text is laid down as it stands
 pub laid_text : (h : Held) (t : Text) (ms : Marks) → lay h (text t ∷ ms) ≡ t ++ lay h ms
 unfolding laid_after
 laid_text h t ms = refl
@@ -52,6 +53,7 @@ laid_text h t ms = refl
 abbrev pub after_line : Held → Marks → Text
 after_line h ms = held_bytes h.waiting ++ laid_after [] ms
 
+-- the end of a line is a newline, and then what waits
 pub laid_line : (h : Held) (ms : Marks) → lay h (line_end ∷ ms) ≡ newline_char ∷ after_line h ms
 unfolding laid_after
 laid_line h ms = refl
@@ -70,6 +72,7 @@ laid_same (document t ∷ ms) a b e held = laid_same ms a b e (held ++ t)
 
 -- ---- margins
 
+-- spaces are blanks, and so are blanks after blanks
 all_spaces : (n : ℕ) → all_blank (replicate n space) ≡ true
 all_spaces zero = refl
 all_spaces (suc n) = all_spaces n
@@ -78,6 +81,7 @@ blank_join : (a b : Text) → all_blank a ≡ true → all_blank b ≡ true → 
 blank_join [] b one two = two
 blank_join (c ∷ a) b one two = let parts = and_parts _ _ one in and_from _ _ parts.0 (blank_join a b parts.1 two)
 
+-- a margin that is one step deeper is of blanks
 step_blank : (y : Layout) → all_blank (step y) ≡ true
 step_blank y = cond_both (y.indent == 0) (codes "\t") (replicate y.indent space) (λ t. all_blank t ≡ true) (λ e. refl)
     (λ e. all_spaces y.indent)
@@ -85,9 +89,11 @@ step_blank y = cond_both (y.indent == 0) (codes "\t") (replicate y.indent space)
 pub deeper_blank : (y : Layout) (m : Text) → all_blank m ≡ true → all_blank (deeper y m) ≡ true
 deeper_blank y m blank = blank_join m (step y) blank (step_blank y)
 
+-- a text by its first byte and the others
 abbrev pub Some_byte : Text → Type 0
 Some_byte t = (c : ℕ) × (cs : Text) × (t ≡ c ∷ cs)
 
+-- a deeper margin has a byte
 some_spaces : (n : ℕ) → (n == 0) ≡ false → Some_byte (replicate n space)
 some_spaces zero e = absurd cc
 some_spaces (suc n) e = (space, replicate n space, refl)
@@ -117,6 +123,7 @@ pub record NoOther (t : Token) : Type 0 where
   pub comment : is_comment t ≡ false
   pub bang : is_bang t ≡ false
 
+-- it is neither `!` nor a comment nor a newline
 pub no_other : (t : Token) → begins_command t ≡ true → NoOther t
 no_other tokens.End e = absurd cc
 no_other tokens.Newline e = absurd cc
@@ -170,6 +177,7 @@ pub record Parted (t : Text) : Type 0 where
   pub no_bar : (c == vertical_line) ≡ false
   pub no_ampersand : (c == ampersand) ≡ false
 
+-- what stands after the operator of a join makes no longer operator of it
 pub join_parted : (h : Held) (y : Layout) (m : Text) (broken : Bool) (cs : Row Text) (ms : Marks) →
     Parted (lay h (join_rest y m (record { broken = broken; comments = cs }) ++ ms))
 unfolding laid_after
@@ -182,6 +190,7 @@ join_parted h y m false (c ∷ cs) ms =
 join_parted h y m true (c ∷ cs) ms =
     record { c = space; cs = _; is = refl; no_backslash = refl; no_bar = refl; no_ampersand = refl }
 
+-- the token of an operator between pipelines
 abbrev pub operator_token : AndOrOperator → Token
 operator_token And = tokens.AndIf
 operator_token Or = tokens.OrIf
@@ -197,6 +206,7 @@ module _ {edition : Edition} {B T : List ℕ} {o : ℕ} (S : StandsIn edition B 
   abbrev pub Adds : Held → Held → (Row Text → Row Text) → Type 0
   Adds h later more = (ts : Row Text) → texts_of S later ++ ts ≡ texts_of S h ++ more ts
 
+  -- after a text that stands here the other marks stand
   pub at_text : (h : Held) (p : ℕ) (t : Text) (ms : Marks) → At S h p (text t ∷ ms) → At S h (p + length t) ms
   at_text h p t ms at = skip T p t (lay h ms) (at ∙ laid_text h t ms)
 
@@ -219,10 +229,12 @@ module _ {edition : Edition} {B T : List ℕ} {o : ℕ} (S : StandsIn edition B 
   abbrev pub asked : Position → ℕ → Next
   asked position e = next_in edition (next_at position T e)
 
+  -- it is told after a gap
   pub asked_after : {e q : ℕ} {broken : Bool} (position : Position) → Gap T e q broken →
       asked position e ≡ record { token = told position q; broken = broken }
   asked_after position gap = ap (next_in edition) (next_after position gap)
 
+  -- so is a token, and a word whatever the edition
   pub tell : {s t : Token} → s ≡ t → token_in edition s ≡ token_in edition t
   tell e = ap (token_in edition) e
 
@@ -235,10 +247,12 @@ module _ {edition : Edition} {B T : List ℕ} {o : ℕ} (S : StandsIn edition B 
   unfolding next_token
   next_read h position e = seen_here (the_token position) ⟫ moved_here blanks ⟫ given_here
 
+  -- a word that stands here stands in the text
   pub some_word : (p : ℕ) (w zs : Text) → 0 < length w → drop p T ≡ w ++ zs → p < length T
   some_word p [] zs some at = absurd (omega (arith, some))
   some_word p (c ∷ w) zs some at = some_here p c (w ++ zs) at
 
+  -- one byte is passed, where the next place is the one after it
   pub one_moved : (h : Held) (p : ℕ) → past_byte T p ≡ p + 1 →
       Gives (g S) (move one_byte) (state h p) tt (state h (p + 1))
   one_moved h p on = subst (λ q. Gives (g S) (move one_byte) (state h p) tt (state h q)) on (moved_here one_byte)
@@ -248,6 +262,7 @@ module _ {edition : Edition} {B T : List ℕ} {o : ℕ} (S : StandsIn edition B 
       Gives (g S) (move one_byte) (state h p) tt (state h (p + 1))
   byte_moved h p c xs clear at = one_moved h p (byte_here T p c xs clear at).place_after
 
+  -- the second of two bytes
   pub byte_after : (p c d : ℕ) (xs : Text) → drop p T ≡ c ∷ d ∷ xs → drop (p + 1) T ≡ d ∷ xs
   byte_after p c d xs at = skip T p (c ∷ []) (d ∷ xs) at
 
@@ -285,6 +300,7 @@ module _ {edition : Edition} {B T : List ℕ} {o : ℕ} (S : StandsIn edition B 
 
   -- ---- comments and newlines
 
+  -- another byte stands here than this one
   pub no_byte : (p c : ℕ) (xs : List ℕ) (x : ℕ) → (c == x) ≡ false → drop p T ≡ c ∷ xs → raw_stands T p x ≡ false
   unfolding raw_stands
   no_byte p c xs x e at = ap (λ b. is_byte b x) (first T p c xs at) ∙ e
@@ -300,6 +316,7 @@ module _ {edition : Edition} {B T : List ℕ} {o : ℕ} (S : StandsIn edition B 
         gap.blanks,
       )
 
+  -- what is read of a newline
   pub record NewlineRead (h : Held) (n : Next) (p : ℕ) (ms : Marks) : Type 0 where
     pub later : Held
     pub q : ℕ
@@ -324,11 +341,13 @@ module _ {edition : Edition} {B T : List ℕ} {o : ℕ} (S : StandsIn edition B 
         texts = λ ts. ap (λ r. r ++ ts) line.texts;
       }
 
+  -- none is read of another token
   pub no_newline_read : (h : Held) (n : Next) (p : ℕ) → is_newline_token n.token ≡ false →
       Gives (g S) (a_newline n) (state h p) (false, n) (state h p)
   unfolding a_newline
   no_newline_read h n p is = second_of _ _ is given_here
 
+  -- no comment is read where no number sign stands
   pub no_comment_read : (h : Held) (n : Next) (p : ℕ) → raw_stands T p number_sign ≡ false →
       Gives (g S) (a_comment n) (state h p) (None, n) (state h p)
   unfolding a_comment comment_at
@@ -347,6 +366,7 @@ module _ {edition : Edition} {B T : List ℕ} {o : ℕ} (S : StandsIn edition B 
       subst (λ q. Gives (g S) (move a_comment_on) (state h p) tt (state h q)) found.1 (moved_here a_comment_on) in
       seen_here the_comment ⟫ (rw found.0 (moved ⟫ next_read h Command (p + length c) ⟫ given_here))
 
+  -- its span has its text
   pub comment_shape : (h : Held) (c : Text) (p : ℕ) (ms : Marks) → At S h p (text c ∷ ms) →
       text_at B (span o p (p + length c)) ≡ c
   comment_shape h c p ms at = span_text p c (lay h ms) (at ∙ laid_text h c ms)
@@ -395,10 +415,12 @@ module _ {edition : Edition} {B T : List ℕ} {o : ℕ} (S : StandsIn edition B 
     pub on : leads_on (g S) (state h p) (state later (past_blanks T q)) ≡ true
     pub texts : Adds h later no_more
 
+  -- it stands in the text
   comment_within : (h : Held) (c : Text) (p : ℕ) (ms : Marks) → CommentAnywhere c → At S h p (text c ∷ ms) →
       p < length T
   comment_within h c p ms good at = some_word p c (lay h ms) good.some (at ∙ laid_text h c ms)
 
+  -- a comment with the newline after it
   pub comment_join_turn : (h : Held) (c : Text) (b : Bool) (acc : Row Span) (n : Next) (p : ℕ) (ms : Marks) →
       CommentAnywhere c → At S h p (text c ∷ line_end ∷ ms)
       → TurnRead h b acc (acc ++ span o p (p + length c) ∷ []) n p ms
@@ -426,6 +448,7 @@ module _ {edition : Edition} {B T : List ℕ} {o : ℕ} (S : StandsIn edition B 
         texts = r.texts;
       }
 
+  -- a newline alone
   pub newline_join_turn : (h : Held) (b : Bool) (acc : Row Span) (n : Next) (p : ℕ) (ms : Marks) →
       is_newline_token n.token ≡ true → At S h p (line_end ∷ ms) → TurnRead h b acc acc n p ms
   unfolding join_turn
@@ -449,6 +472,7 @@ module _ {edition : Edition} {B T : List ℕ} {o : ℕ} (S : StandsIn edition B 
 
   -- ---- a join as a whole
 
+  -- what is read of the lines of a join, up to the operand
   pub record JoinLines (h : Held) (b : Bool) (acc : Row Span) (n : Next) (p : ℕ) (cs : Row Text)
       (ms : Marks) : Type 0 where
     pub comments : Row Span
@@ -462,6 +486,7 @@ module _ {edition : Edition} {B T : List ℕ} {o : ℕ} (S : StandsIn edition B 
     pub shape : shape_of_comments B comments ≡ cs
     pub texts : Adds h later no_more
 
+  -- the texts of comments by that of the first and those of the others
   pub cons_shape : (s : Span) (ss : Row Span) (c : Text) (cs : Row Text) → text_at B s ≡ c →
       shape_of_comments B ss ≡ cs → shape_of_comments B (s ∷ ss) ≡ c ∷ cs
   cons_shape s ss c cs e f = rw (e, f) refl
@@ -513,14 +538,17 @@ module _ {edition : Edition} {B T : List ℕ} {o : ℕ} (S : StandsIn edition B 
           texts = λ ts. refl;
         }
 
+    -- what stands after a comment: further comments, and the operand after its margin
     abbrev further : Row Text → Marks
     further cs = print_further_comments d cs ++ (line_end ∷ text d ∷ ms)
 
+    -- such a comment begins a token
     further_start : (h : Held) (c : Text) (cs : Row Text) (p : ℕ) → CommentAnywhere c → At S h p (text c ∷ further cs) →
         Start T p
     further_start h c [] p good at = comment_start h c p (text d ∷ ms) good at
     further_start h c (c2 ∷ cs) p good at = comment_start h c p (text d ∷ text c2 ∷ further cs) good at
 
+    -- the comments of a join are read, each on a line of its own
     comment_lines : (h : Held) (c : Text) (cs : Row Text) (b : Bool) (acc : Row Span) (n : Next) (p : ℕ) →
         GoodComments (c ∷ cs) → At S h p (text c ∷ further cs) → JoinLines h b acc n p (c ∷ cs) ms
     comment_lines h c [] b acc n p good at =
@@ -640,6 +668,7 @@ module _ {edition : Edition} {B T : List ℕ} {o : ℕ} (S : StandsIn edition B 
         comment_lines h c cs b [] (asked Command e) (past_blanks T e) good
         (subst (λ r. At S h r (text c ∷ further cs)) (sym gap.blanks) at_after)
 
+  -- a join is read as it is printed, up to the operand
   pub join_read : (h : Held) (y : Layout) (m : Text) (ms : Marks) → all_blank (deeper y m) ≡ true →
       ((h : Held) (p : ℕ) → At S h p ms → Operand p) → (broken : Bool) (cs : Row Text) (e : ℕ)
       → is_normal_join (record { broken = broken; comments = cs }) ≡ true → GoodComments cs →
@@ -659,6 +688,7 @@ module _ {edition : Edition} {B T : List ℕ} {o : ℕ} (S : StandsIn edition B 
 
   -- ---- what follows a command
 
+  -- what follows a command begins no item
   pub follower_after : {rest : Marks} {t : Token} → Follower rest t → begins_simple t ≡ false → (h : Held) (e : ℕ) →
       At S h e rest → NoItemAfter e
   follower_after {t = t} f none h e at =
@@ -672,6 +702,7 @@ module _ {edition : Edition} {B T : List ℕ} {o : ℕ} (S : StandsIn edition B 
       margin_gap h (codes " ") e (text (c ∷ cs) ∷ ms) refl at
       (start_here (byte_here T (e + 1) c (cs ++ lay h ms) clear there) no_blank)
 
+  -- `|` follows a command after its space, and so do `&&` and `||`
   pub pipe_follower : (ms : Marks) → ((h : Held) → Parted (lay h ms)) →
       Follower (text (codes " ") ∷ text (codes "|") ∷ ms) tokens.Pipe
   unfolding laid_after
@@ -727,6 +758,7 @@ module _ {edition : Edition} {B T : List ℕ} {o : ℕ} (S : StandsIn edition B 
       sharp None e = absurd cc
       sharp (Some b) e = let is : b ≡ 35 = grind (arith, nat_tests) in ap Some is
 
+  -- a command may stand after an operator
   pub begins_operand : (p : ℕ) → Begins p → Operand p
   begins_operand p b =
       let other = no_other (told Command p) b.command in

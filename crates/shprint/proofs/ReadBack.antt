@@ -32,6 +32,7 @@ module _ (edition : Edition) (y : Layout) (B : List ℕ) where
     reads : Lines edition B so p (record { entries = entries_of (so.entries ++ value); fault = None }) told
     shape : shape_of B (entries_of value) ≡ es
 
+  -- these marks, and no more, stand from here on
   abbrev At : ℕ → Marks → Type 0
   At p ms = drop p B ≡ laid ms
 
@@ -39,6 +40,7 @@ module _ (edition : Edition) (y : Layout) (B : List ℕ) where
   abbrev from_here : (p : ℕ) → StandsIn edition B (drop p B) p
   from_here p = record { here = refl }
 
+  -- so they do after a line
   at_next : (p f : ℕ) (ms : Marks) → drop f (drop p B) ≡ laid ms → At (p + f) ms
   at_next p f ms at = sym (drop-drop f p B) ∙ at
 
@@ -115,6 +117,7 @@ module _ (edition : Edition) (y : Layout) (B : List ℕ) where
         shape = others.shape;
       }
 
+  -- all lines of the script are read
   lines_read : (es : Shape EntriesOf) (so : SoFar) (p : ℕ) → GoodEntries edition most_open es → are_normal es ≡ true →
       (is_empty so.entries ≡ true → first_not_blank es ≡ true) → so.gap ≡ false
       → At p (print_entries y [] es) → ScriptRead so p es
@@ -137,6 +140,7 @@ module _ (edition : Edition) (y : Layout) (B : List ℕ) where
       (λ to q none some there. lines_read es to q good.1 (and_parts _ _ normal).1
       (λ e. absurd (both_ways (is_empty to.entries) some e)) none there))
 
+-- what is printed of a script that was read is read, with the same shape
 pub reads_back : (edition : Edition) (y : Layout) (B : List ℕ) (s : AScript) → Outcome edition B s →
     ReadsBack edition (printed y (shape_of B s.entries)) (shape_of B s.entries)
 reads_back edition y B s is =

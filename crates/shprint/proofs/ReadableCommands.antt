@@ -58,11 +58,13 @@ module _ (B : List ℕ) where
 
 module _ (B : List ℕ) (g : Given) (here : g.text ≡ drop g.offset B) where
   module _ (room : ℕ) where
+    -- what may be opened inside
     abbrev inner : Inner
     inner = level room
 
     -- ---- parts of a list, where these documents are open
 
+    -- an item, and items, good once they have the bodies of their documents
     abbrev OpenItem : Kind → Position → Row Due → AnItem → Row Due → Position → Type 0
     OpenItem kind position D i E next =
         Opens g fill_item (λ j. GoodItem g.edition room kind position (shape_of_item B j) next) D i E
@@ -72,6 +74,7 @@ module _ (B : List ℕ) (g : Given) (here : g.text ≡ drop g.offset B) where
         Opens g (fill_all g fill_item)
         (λ js. GoodItems g.edition room kind begin (shape_of_items B (items_of js)) last) D is E
 
+    -- so are commands, and all that holds them
     abbrev OpenCommand : Row Due → ACommand → Row Due → Type 0
     OpenCommand D c E = Opens g fill_command (λ d. GoodCommand g.edition room (shape_of_command B d)) D c E
 
@@ -99,17 +102,21 @@ module _ (B : List ℕ) (g : Given) (here : g.text ≡ drop g.offset B) where
       pub stands : Stands g i.position i.next p
       pub begun : begins_simple i.next.token ≡ false → SomeOf g i.items
 
+    -- after an item there is one
     abbrev ItemsOn : Row Due → Items → Row Due → ℕ → Type 0
     ItemsOn C i D p = ItemsSo C i D p × SomeOf g i.items
 
+    -- they are a simple command
     abbrev ItemsDone : Row Due → Items → Row Due → ℕ → Type 0
     ItemsDone C i D p = Opens g fill_items (λ is. GoodSimple g.edition room (shape_of_items B is)) C
         (items_of i.items) D
 
+    -- a row that has an item has one in its shape
     some_item : (is : Row AnItem) → SomeOf g is → SomeItem (shape_of_items B (items_of is))
     some_item [] some = some
     some_item (i ∷ is) some = tt
 
+    -- items of which there is one are a simple command
     simple_is : (C : Row Due) (i : Items) (D : Row Due) (p : ℕ) → ItemsOn C i D p → ItemsDone C i D p
     simple_is C i D p (so, some) =
         opens_one g (items_of i.items) items_of (items_going i.items)
@@ -126,9 +133,11 @@ module _ (B : List ℕ) (g : Given) (here : g.text ≡ drop g.offset B) where
     abbrev pub text_of : (p q : ℕ) → Text
     text_of p q = text_at B (span g.offset p q)
 
+    -- the substitutions of a word, by their shapes
     abbrev pub substs_in : {p q : ℕ} {w : AWord} → WordRead g room p w q → Shape SubstsOf
     substs_in read = shape_of_substs B (substs_of read.substs)
 
+    -- a word that was read is read wherever it stands
     pub reads_anywhere : (position : Position) (n : Next) (p q : ℕ) (w : AWord) → begins_word n.token ≡ true →
         Stands g position n p → (read : WordRead g room p w q)
         → ItemAnywhere g.edition room position n.token (text_of p q) (substs_in read)
@@ -181,6 +190,7 @@ module _ (B : List ℕ) (g : Given) (here : g.text ≡ drop g.offset B) where
         (word_open of_command broken position next next w
         (subst (λ (s : Shape AnItemOf). GoodItem g.edition room of_command position s next) (sym shape) one)) good
 
+    -- a word as an item
     reads_item : (C : Row Due) (i : Items) (next : Position) (D : Row Due) (p : ℕ) →
         after_word i.next.token ≡ Some next → ItemsSo C i D p
         → Adds g D (an_item inner i next) (Turns g (ItemsOn C) (ItemsDone C)) p
@@ -200,6 +210,7 @@ module _ (B : List ℕ) (g : Given) (here : g.text ≡ drop g.offset B) where
 
     -- ---- redirections
 
+    -- the digits of a number
     abbrev bare_number : Option Span → Option Text
     bare_number d = option_map (bare_at B) d
 
@@ -224,6 +235,7 @@ module _ (B : List ℕ) (g : Given) (here : g.text ≡ drop g.offset B) where
         (λ x e good. first g (reads_next g Suffix e) (λ m f stands. gives g good)))
         (gives g tt)
 
+    -- an operator, whatever it is
     reads_operator : (at : ℕ) (o : Option RedirectOperator) (p : ℕ) → Reads g (operator_by at o) (λ x e. Unit {0}) p
     unfolding an_operator
     reads_operator at (Some o) p =
@@ -239,6 +251,7 @@ module _ (B : List ℕ) (g : Given) (here : g.text ≡ drop g.offset B) where
     TargetGood x e = (ss : Shape SubstsOf) × (shape_of_word B x.0 ≡ word x.1 ss)
         × ItemAnywhere g.edition room Suffix tokens.Word x.1 ss
 
+    -- the word of a redirection is one wherever it stands
     reads_target : (p : ℕ) → Reads g (a_target inner) TargetGood p
     unfolding a_target
     reads_target p =
@@ -257,6 +270,7 @@ module _ (B : List ℕ) (g : Given) (here : g.text ≡ drop g.offset B) where
                   (sym (raw_at B g here e q)) anywhere,
             ))
 
+    -- its document, good once it has its body
     abbrev OpenHere : RedirectOperator → Text → Row Due → Option AHere → Row Due → Type 0
     OpenHere o t D h E = Opens g fill_here (λ x. GoodHere g.edition o t (option_map (shape_of_here B) x)) D h E
 
@@ -309,9 +323,11 @@ module _ (B : List ℕ) (g : Given) (here : g.text ≡ drop g.offset B) where
         × (h : Option (AHereOf Text)) × (s ≡ a_redirect_of broken number o t ss h)
         × GoodRedirect g.edition room number o t ss h
 
+    -- a redirection, good once its document has its body
     abbrev OpenRedirect : Bool → Row Due → AnItem → Row Due → Type 0
     OpenRedirect broken D i E = Opens g fill_item (λ j. IsRedirect broken (shape_of_item B j)) D i E
 
+    -- so it is by its parts
     redirect_open : {D E : Row Due} (broken : Bool) (d : Option Span) (o : RedirectOperator) (s : Span) (w : AWord)
         (h : Option AHere) (t : Text) (ss : Shape SubstsOf) → GoodNumber (bare_number d)
         → shape_of_word B w ≡ word t ss → ItemAnywhere g.edition room Suffix tokens.Word t ss → OpenHere o t D h E →
@@ -349,6 +365,7 @@ module _ (B : List ℕ) (g : Given) (here : g.text ≡ drop g.offset B) where
         add_gives g (all (item broken (redirect d.0 o.0 o.1 w.0 x)) m E j
         (redirect_open broken d.0 o.0 o.1 w.0 x w.1 three.0 one three.1 three.2 four) stands))))))))
 
+    -- an item by the token in hand: a word, a redirection, or none
     reads_item_turn : (C : Row Due) (i : Items) (D : Row Due) (p : ℕ) → ItemsSo C i D p →
         Adds g D (item_turn inner i) (Turns g (ItemsOn C) (ItemsDone C)) p
     unfolding item_turn
@@ -387,9 +404,11 @@ module _ (B : List ℕ) (g : Given) (here : g.text ≡ drop g.offset B) where
         by_token (Some next) is = reads_item C i next D p is so
         by_token None is = by_redirect (begins_redirect i.next.token) refl is
 
+    -- what is read is a good command
     abbrev Command_is : {X : Type 0} → Row Due → ACommand × X → Row Due → ℕ → Type 0
     Command_is D c E e = OpenCommand D c.0 E
 
+    -- all items of a simple command
     reads_simple : (C : Row Due) (i : Items) (D : Row Due) (p : ℕ) → ItemsSo C i D p →
         Adds g D (a_simple inner i) (Command_is C) p
     unfolding a_simple fill_command
@@ -410,6 +429,7 @@ module _ (B : List ℕ) (g : Given) (here : g.text ≡ drop g.offset B) where
 
     -- ---- commands
 
+    -- what is read is a good compound command
     abbrev Compound_is : {X : Type 0} → Row Due → ACommand × X → Row Due → ℕ → Type 0
     Compound_is D c E e = (body : ACompound) × (c.0 ≡ compound body) × OpenCompound D body E
 
@@ -418,6 +438,7 @@ module _ (B : List ℕ) (g : Given) (here : g.text ≡ drop g.offset B) where
     Bare_is D c E e = (form : AForm) × (mark : Span) × (c.0 ≡ compound (formed form mark no_item)) × OpenUnder D form E
         × Stands g Command c.1 e
 
+    -- what is known of the compound commands and functions at this level
     pub record Fine : Type 0 where
       pub compound : (o : Opener) (D : Row Due) (p : ℕ) → Adds g D (inner.compound o) (Bare_is D) p
       pub function : (name : Span) (D : Row Due) (p : ℕ) → NameBefore room (text_at B name) →

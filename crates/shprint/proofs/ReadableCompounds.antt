@@ -50,11 +50,13 @@ use Rattle.shgrammar.proofs.NamesBefore.{NameBefore}
 
 module _ (B : List ℕ) (g : Given) (here : g.text ≡ drop g.offset B) where
   module _ (room : ℕ) where
+    -- what may be opened inside
     abbrev inner : Inner
     inner = level room
 
     -- ---- parts of a list, where these documents are open
 
+    -- forms, and all that they hold, good once they have the bodies of their documents
     abbrev OpenForm : Row Due → AForm → Row Due → Type 0
     OpenForm D f E = Opens g fill_form (λ h. GoodForm g.edition room (shape_of_form B h)) D f E
 
@@ -74,9 +76,11 @@ module _ (B : List ℕ) (g : Given) (here : g.text ≡ drop g.offset B) where
     abbrev OpenCase : Row Due → ACaseItem → Row Due → Type 0
     OpenCase D x E = Opens g fill_case (λ y. GoodCase g.edition room (shape_of_case B y)) D x E
 
+    -- entries as a list
     list_opens : {D E : Row Due} (es : Row AnEntry) → OpenRow D es E → OpenEntries D (entries_of es) E
     list_opens es all = opens_one g (entries_of es) entries_of (entries_going es) (λ ls good. good) all
 
+    -- the shape of items
     abbrev items : Items → Shape ItemsOf
     items i = shape_of_items B (items_of i.items)
 
@@ -672,6 +676,7 @@ module _ (B : List ℕ) (g : Given) (here : g.text ≡ drop g.offset B) where
           add_first g (reads_compound_by B g here room fine l.next (opener_of l.next.token) D h)
           (λ b E k one. add_gives g (under_good name l.join.comments b.0 one.0 one.1 before lines.0 one.2)))))
 
+  -- all that is known of compound commands, at each level from that of the one below
   reads_level : (room : ℕ) → Fine B g here room
   unfolding level
   reads_level zero = record {
@@ -686,6 +691,7 @@ module _ (B : List ℕ) (g : Given) (here : g.text ≡ drop g.offset B) where
 -- ---- a script
 
 module _ (edition : Edition) (B : List ℕ) where
+  -- a line that was read has a good shape, and so have all lines
   line_good : (blank : Bool) (p : ℕ) (es : Row AnEntry) (newline : Bool) (t : State) (k : Row Spelled) →
       may (a_line (level most_open) blank) (given edition (drop p B) p) (standing 0) (Ok ((es, newline), t)) k
       → GoodEntries edition most_open (shape_of B (entries_of es))

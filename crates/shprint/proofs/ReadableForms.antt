@@ -90,6 +90,7 @@ Quiet (a_level r) = ⊥
 Quiet (in_substitution r) = ⊥
 
 module _ (g : Given) where
+  -- it leaves the documents as they are
   quiet : {X : Type 0} (r : Form X) → Quiet r → (D : Row Due) (s : State) → DocsAt g D s →
       Tells Whole g r (λ x t. DocsAt g D t) s
   quiet (give x) only D s docs = record { told = docs }
@@ -110,6 +111,7 @@ module _ (g : Given) where
 
   -- ---- forms that add no document
 
+  -- P holds, and the documents are those before
   abbrev Kept : {X : Type 0} → Row Due → (X → ℕ → Type 0) → X → State → Type 0
   Kept D P x t = DocsAt g D t × P x t.at
 
@@ -118,9 +120,11 @@ module _ (g : Given) where
   pub record Reads {X : Type 0} (r : Form X) (P : X → ℕ → Type 0) (p : ℕ) : Type 0 where
     pub reads : (D : Row Due) (s : State) → DocsAt g D s → Tells Whole g r (Kept D P) (place_of s p)
 
+  -- what is given
   pub gives : {X : Type 0} {P : X → ℕ → Type 0} {x : X} {p : ℕ} → P x p → Reads (give x) P p
   gives so = record { reads = λ D s docs. tells_give Whole g (docs, so) }
 
+  -- a form and then the next
   pub first : {X Y : Type 0} {P : X → ℕ → Type 0} {Q : Y → ℕ → Type 0} {r : Form X} {q : X → Form Y} {p : ℕ} →
       Reads r P p →
       ((x : X) (e : ℕ) → P x e → Reads (q x) Q e)
@@ -149,20 +153,24 @@ module _ (g : Given) where
         (subst (λ x. Tells Whole g (q x) (Kept D Q) (place_of s p)) (sym (same s)) (rest.reads D s docs));
   }
 
+  -- a move
   moves : {Y : Type 0} {Q : Y → ℕ → Type 0} {m : Move} {q : Unit {0} → Form Y} {p : ℕ} → Reads (q tt) Q (to m g.text p)
       → Reads (both (move m) q) Q p
   moves rest = record { reads = λ D s docs. tells_moved Whole g (rest.reads D s docs) }
 
+  -- one thing more in a row
   pub pushes : {A Y : Type 0} {Q : Y → ℕ → Type 0} {xs : Row A} {x : A} {q : Row A → Form Y} {p : ℕ} →
       Reads (q (xs ++ x ∷ [])) Q p → Reads (both (push xs x) q) Q p
   pushes rest = record { reads = λ D s docs. tells_pushed g (rest.reads D s docs) }
 
+  -- one of two forms
   pub picks : {X : Type 0} {P : X → ℕ → Type 0} (b : Bool) {r q : Form X} {p : ℕ} → (b ≡ true → Reads r P p) →
       Reads q P p →
       Reads (pick b r q) P p
   picks true one two = one refl
   picks false one two = two
 
+  -- a form with its bytes
   pub with_its_bytes : {X : Type 0} {P : X → ℕ → Type 0} {Q : X × Spelled → ℕ → Type 0} {r : Form X} {p : ℕ} →
       Reads r P p →
       ((x : X) (e : ℕ) → P x e → Q (x, raw g.text p e) e) → Reads (with_bytes r) Q p
@@ -171,6 +179,7 @@ module _ (g : Given) where
         λ D s docs. tells_with_bytes Whole g (one.reads D s docs) (λ x t good. (good.0, so x t.at good.1));
   }
 
+  -- where no row goes on nothing is read
   pub stopped : {X : Type 0} {P : X → ℕ → Type 0} {p : ℕ} (inner : Inner) (n : Next) →
       Reads (unexpected {X = X} inner n) P p
   stopped inner n = record { reads = λ D s docs. tells_after Whole g (λ w t. record { told = tt }) }
@@ -186,6 +195,7 @@ module _ (g : Given) where
   turned D R Q (again a) t so = so
   turned D R Q (done a) t so = so
 
+  -- a turn that goes on by a test
   turned_if : {A : Type 0} (R Q : A → ℕ → Type 0) (b : Bool) (a : A) (p : ℕ) → (b ≡ true → R a p) → Q a p →
       Turned R Q (step_if b a) p
   turned_if R Q true a p go last = go refl
@@ -194,6 +204,7 @@ module _ (g : Given) where
   module _ {A : Type 0} (turn : A → Form (Step A)) (P R Q : A → ℕ → Type 0)
       (each : (a : A) (p : ℕ) → P a p → Reads (turn a) (Turned R Q) p)
       (goes : (a : A) (p : ℕ) → R a p → P a p) (ends : (a : A) (p : ℕ) → R a p → Q a p) where
+    -- a repetition, by its turn
     pub repeats : (a : A) (p : ℕ) → P a p → Reads (many turn a) Q p
     repeats a p so = record {
       reads = λ D s docs. tells_until Whole g turn (Kept D P) (Kept D R) (Kept D Q)
@@ -203,6 +214,7 @@ module _ (g : Given) where
 
   -- ---- forms that add documents
 
+  -- P holds, with the documents of that place
   abbrev Grown : {X : Type 0} → (X → Row Due → ℕ → Type 0) → X → State → Type 0
   Grown P x t = (E : Row Due) × DocsAt g E t × P x E t.at
 
@@ -211,10 +223,12 @@ module _ (g : Given) where
   pub record Adds {X : Type 0} (D : Row Due) (r : Form X) (P : X → Row Due → ℕ → Type 0) (p : ℕ) : Type 0 where
     pub adds : (s : State) → DocsAt g D s → Tells Whole g r (Grown P) (place_of s p)
 
+  -- what is given adds none
   pub add_gives : {X : Type 0} {P : X → Row Due → ℕ → Type 0} {D : Row Due} {x : X} {p : ℕ} → P x D p →
       Adds D (give x) P p
   add_gives {D = D} so = record { adds = λ s docs. tells_give Whole g (D, docs, so) }
 
+  -- a form and then the next, both of which may add some
   pub add_first : {X Y : Type 0} {P : X → Row Due → ℕ → Type 0} {Q : Y → Row Due → ℕ → Type 0} {D : Row Due}
       {r : Form X}
       {q : X → Form Y} {p : ℕ} → Adds D r P p
@@ -235,6 +249,7 @@ module _ (g : Given) where
             (λ x t so. (rest x t.at so.1).adds t so.0);
       }
 
+  -- after a quiet form
   pub add_after : {X Y : Type 0} {Q : Y → Row Due → ℕ → Type 0} {D : Row Due} {r : Form X} {q : X → Form Y} {p : ℕ} →
       Quiet r → ((x : X) (e : ℕ) → Adds D (q x) Q e) → Adds D (both r q) Q p
   add_after {Q = Q} {D = D} {r = r} {p = p} only rest =
@@ -251,6 +266,7 @@ module _ (g : Given) where
         λ s docs. tells_so Whole g (one.adds s docs) (λ x t good. (good.0, good.1, so x good.0 t.at good.2));
   }
 
+  -- two things hold of what is read
   hold_both : {X : Type 0} (P Q : X → State → Type 0) (y : Read X) → Holds P y → Holds Q y →
       Holds (λ x t. P x t × Q x t) y
   hold_both P Q (Ok (x, t)) one two = (one, two)
@@ -266,6 +282,7 @@ module _ (g : Given) where
         (λ x t both. (both.0.0, both.0.1, (both.0.2, so x t both.1)));
   }
 
+  -- a sight, a row with one thing more, one of two forms, and two that read nothing
   pub add_sees : {X Y : Type 0} {Q : Y → Row Due → ℕ → Type 0} {D : Row Due} {f : Sight X} {q : X → Form Y} {p : ℕ} →
       ((s : State) → seen f g (place_of s p) ≡ seen f g (standing p))
       → Adds D (q (seen f g (standing p))) Q p → Adds D (both (see f) q) Q p
@@ -292,16 +309,19 @@ module _ (g : Given) where
       Adds D (unexpected {X = X} inner n) P p
   add_stopped inner n = record { adds = λ s docs. tells_after Whole g (λ w t. record { told = tt }) }
 
+  -- what a turn gives: R where it goes on, and Q where it was the last
   abbrev pub Turns : {A : Type 0} → (A → Row Due → ℕ → Type 0) → (A → Row Due → ℕ → Type 0) → Step A → Row Due → ℕ →
       Type 0
   Turns R Q (again a) E p = R a E p
   Turns R Q (done a) E p = Q a E p
 
+  -- the same, as a repetition asks for it
   turns : {A : Type 0} (R Q : A → Row Due → ℕ → Type 0) (c : Step A) (t : State) → Grown (Turns R Q) c t →
       Stepped Whole g (Grown R) (Grown Q) c t
   turns R Q (again a) t so = so
   turns R Q (done a) t so = so
 
+  -- a turn that goes on by a test
   pub turns_if : {A : Type 0} (R Q : A → Row Due → ℕ → Type 0) (b : Bool) (a : A) (E : Row Due) (p : ℕ) →
       (b ≡ true → R a E p) → Q a E p → Turns R Q (step_if b a) E p
   turns_if R Q true a E p go last = go refl
@@ -311,6 +331,7 @@ module _ (g : Given) where
       (each : (a : A) (D : Row Due) (p : ℕ) → P a D p → Adds D (turn a) (Turns R Q) p)
       (goes : (a : A) (D : Row Due) (p : ℕ) → R a D p → P a D p)
       (ends : (a : A) (D : Row Due) (p : ℕ) → R a D p → Q a D p) where
+    -- a repetition, by its turn
     pub add_repeats : (a : A) (D : Row Due) (p : ℕ) → P a D p → Adds D (many turn a) Q p
     add_repeats a D p so = record {
       adds = λ s docs. tells_until Whole g turn (Grown P) (Grown R) (Grown Q)
@@ -333,6 +354,7 @@ module _ (g : Given) where
   word_so {position = position} {n = n} {p = p} so is =
       told_so is_a_word refl refl g.edition (token_at position g.text p) n.token so.token_is is
 
+  -- the next token stands where the reading stands then
   pub reads_next : (position : Position) (p : ℕ) → Reads (next_token position) (Stands position) p
   unfolding next_token past_blanks
   reads_next position p = sees (λ s. refl)
@@ -344,6 +366,7 @@ module _ (g : Given) where
       → Reads (both r (λ x. both (next_token Command) (λ n. give (f x n)))) P p
   next_on only so = after only (λ x e. first (reads_next Command e) (λ n d stands. gives (so x n d stands)))
 
+  -- rows of one token or none: after it the next token stands there
   pub reads_bang : (n : Next) (p : ℕ) → Stands Command n p → Reads (a_bang n) (λ b e. Stands Command b.1 e) p
   unfolding a_bang
   reads_bang n p so = picks (is_bang n.token) (λ is. next_on tt (λ x m e stands. stands)) (gives so)
@@ -362,6 +385,7 @@ module _ (g : Given) where
         (subst (λ ws. Docs g D ws t.bodies) (sym r.1) (done_docs g r.0), tt));
   }
 
+  -- a newline token, and the token after the bodies
   pub reads_newline : (X : Type 0) (n : Next) (p : ℕ) → (X → Stands Command n p) →
       Reads (a_newline n) (λ l e. (X → Stands Command l.1 e) × (l.0 ≡ true → Stands Command l.1 e)) p
   unfolding a_newline
@@ -371,6 +395,7 @@ module _ (g : Given) where
       (λ v f any. first (reads_next Command f) (λ m e stands. gives ((λ y. stands), (λ y. stands))))))
       (gives (so, (λ y. absurd cc)))
 
+  -- a separator, or none
   pub reads_separator : (n : Next) (p : ℕ) → Reads (a_separator n) (λ s e. is_some s.0 ≡ true → Stands Command s.1 e) p
   unfolding a_separator
   reads_separator n p = by_separator (separator_of n.token)
@@ -380,6 +405,7 @@ module _ (g : Given) where
       by_separator (Some s) = next_on tt (λ x m e stands. λ y. stands)
       by_separator None = gives (λ y. absurd cc)
 
+  -- a reserved word or a bracket, and the token after it
   pub reads_reserved_or_paren : (text : Spelled) (paren : Bool) (position : Position) (p : ℕ) →
       Reads (reserved_or_paren text paren position) (λ x e. Stands position x.1 e) p
   unfolding reserved_or_paren
@@ -400,6 +426,7 @@ module _ (g : Given) where
     pub substs : Row ASubst
     pub is : w ≡ word (span g.offset p q) (substs_of substs)
 
+  -- a word that is read is one that may be read where nothing waits
   pub reads_word : (room p : ℕ) → Reads (a_word (level room)) (WordRead room p) p
   reads_word room p =
       let some = (computed_is_only (a_word (level room)) g (standing p)).some in
@@ -419,6 +446,7 @@ module _ (g : Given) where
 module _ (B : List ℕ) (g : Given) (here : g.text ≡ drop g.offset B) where
   -- ---- comments
 
+  -- a comment that was read is one before any newline
   comment_good : (p : ℕ) (c : Span) → comment_at g.text g.offset p ≡ Some c → CommentAnywhere (text_at B c)
   comment_good p c is =
       let start : c.start ≡ g.offset + p = ap (λ (s : Span). s.start) (comment_is g.text g.offset p c is).1 in
@@ -432,6 +460,7 @@ module _ (B : List ℕ) (g : Given) (here : g.text ≡ drop g.offset B) where
   Commented X c e = GoodOwnComment (option_map (shape_of_comment B) c.0) × (X → Stands g Command c.1 e)
       × (is_some c.0 ≡ true → Stands g Command c.1 e)
 
+  -- a comment or none
   pub reads_comment : (X : Type 0) (n : Next) (p : ℕ) → (X → Stands g Command n p) →
       Reads g (a_comment n) (Commented X) p
   unfolding a_comment
@@ -443,9 +472,11 @@ module _ (B : List ℕ) (g : Given) (here : g.text ≡ drop g.offset B) where
 
   -- ---- joins
 
+  -- these comments are good
   abbrev pub Comments : Row Span → Type 0
   Comments cs = GoodComments (shape_of_comments B cs)
 
+  -- so they are with one more, or with none
   reads_with : (cs : Row Span) (c : Option Span) (p : ℕ) → Comments cs →
       GoodOwnComment (option_map (shape_of_comment B) c) → Reads g (with_comment cs c) (λ ds e. Comments ds × (e ≡ p)) p
   reads_with cs (Some c) p all one =
@@ -456,10 +487,12 @@ module _ (B : List ℕ) (g : Given) (here : g.text ≡ drop g.offset B) where
   abbrev JoinGood : Type 0 → JoinSo → ℕ → Type 0
   JoinGood X j p = Comments j.join.comments × (X ⊎ (j.join.broken ≡ true) → Stands g Command j.next p)
 
+  -- one of two tests
   pub or_parts : (a b : Bool) → (a || b) ≡ true → (a ≡ true) ⊎ (b ≡ true)
   or_parts true b e = inl refl
   or_parts false b e = inr e
 
+  -- a comment and a newline, or one of them, within a join
   reads_join_turn : (X : Type 0) (j : JoinSo) (p : ℕ) → JoinGood X j p →
       Reads g (join_turn j) (Turned g (JoinGood X) (JoinGood X)) p
   unfolding join_turn
@@ -476,6 +509,7 @@ module _ (B : List ℕ) (g : Given) (here : g.text ≡ drop g.offset B) where
       (λ b. ⊎_elim (λ d. three.0 (inr d)) three.1 (or_parts _ _ b)) y in
       gives g (turned_if g (JoinGood X) (JoinGood X) l.0 _ h (λ y. (two.0, ended)) (two.0, ended)))))
 
+  -- comments and newlines where no command has to follow
   pub reads_linebreak : (X : Type 0) (cs : Row Span) (n : Next) (p : ℕ) → Comments cs → (X → Stands g Command n p) →
       Reads g (a_linebreak cs n) (JoinGood X) p
   unfolding a_linebreak
@@ -483,6 +517,7 @@ module _ (B : List ℕ) (g : Given) (here : g.text ≡ drop g.offset B) where
       repeats g join_turn (JoinGood X) (JoinGood X) (JoinGood X) (reads_join_turn X) (λ j d on. on) (λ j d on. on) _ p
       (good, (λ y. ⊎_elim so (λ e. absurd cc) y))
 
+  -- comments and newlines after an operator
   pub reads_join : (broken : Bool) (p : ℕ) →
       Reads g (a_join broken) (λ x e. Comments x.0.comments × Stands g Command x.1 e) p
   unfolding a_join

@@ -21,6 +21,7 @@ module _ {A : Type 0} (f : A → Marks) where
   marks_from (x ∷ xs) (suc i) = marks_from xs i
 
   module _ {X : Type 0} (v : X → A) where
+    -- what is left from a part on is its marks, and then what is left from the next one on
     from_suc : (xs : Row X) (i : ℕ) (d : X) → i < length xs →
         marks_from (map v xs) i ≡ f (v (get_or xs i d)) ++ marks_from (map v xs) (suc i)
     unfolding marks_from
@@ -43,6 +44,7 @@ module _ {A : Type 0} (f : A → Marks) where
 -- ---- the marks of the definitions, as rows
 
 module _ (B : List ℕ) (y : Layout) (m : Text) where
+  -- the marks of one part, of each kind of row
   abbrev pub comment_line : Span → Marks
   comment_line c = text m ∷ text (text_at B c) ∷ line_end ∷ []
 
@@ -64,6 +66,7 @@ module _ (B : List ℕ) (y : Layout) (m : Text) where
   abbrev pub case_marks : ACaseItem → Marks
   case_marks c = print_case y m (shape_of_case B c)
 
+  -- what is printed of a row is the marks of its parts, for each kind
   pub comment_lines_are : (cs : Row Span) →
       print_comment_lines m (shape_of_comments B cs) ≡ marks_from comment_line cs 0
   unfolding marks_from
@@ -105,6 +108,7 @@ module _ (B : List ℕ) (y : Layout) (m : Text) where
 
   -- ---- chains: what is left of them, where the line was broken before or not
 
+  -- of pipelines, and of commands
   abbrev pub parts_left : Bool → Row AndOrPart → Marks
   parts_left broken ps = print_and_or_parts y m broken
       (shape_of_and_or_parts B (and_or_parts_of (map view_and_or_part ps)))
@@ -112,6 +116,7 @@ module _ (B : List ℕ) (y : Layout) (m : Text) where
   abbrev pub pipes_left : Bool → Row PipelinePart → Marks
   pipes_left broken ps = print_pipes y m broken (shape_of_pipes B (pipeline_parts_of (map view_pipeline_part ps)))
 
+  -- it stands there whether the line was broken before or not
   join_with : (operator : Text) (broken b : Bool) (cs : Row Text)
       → Path Marks (text (codes " ") ∷ text operator
       ∷ (if b then print_comments (deeper y m) cs ++ (line_end ∷ text (deeper y m) ∷ []) else one (codes " ")))
@@ -128,6 +133,7 @@ module _ (B : List ℕ) (y : Layout) (m : Text) where
       print_join y m operator j ≡ print_join_on (operand_margin y m (broken || breaks_line j)) operator j
   join_at operator broken j = join_with operator broken (breaks_line j) j.comments
 
+  -- past the last part nothing is left, and before it its marks and those of the others
   pub parts_end : (broken : Bool) (ps : Row AndOrPart) (i : ℕ) → length ps ≤ i → parts_left broken (drop i ps) ≡ []
   parts_end broken ps i le = at_drop_all (parts_left broken) ps i le
 

@@ -17,6 +17,7 @@ use Rattle.shprint.proofs.Copying.{taken}
 use Rattle.shprint.proofs.Writing.{written_append, written_cons}
 
 module _ (B : Text) where
+  -- a stretch of no bytes
   none_more : (a : ℕ) → stretch B a a ≡ []
   none_more a =
       let none : a - a ≡ 0 = omega arith in
@@ -41,9 +42,11 @@ module _ (B : Text) where
         ∙ ap (λ r. space ∷ r) (rw (← next) refl) in
         rw (unbroken, printed, told) refl
 
+    -- the marks of items after others
     abbrev items_marks : List Item → Marks
     items_marks is = marks_of_items B y m is
 
+    -- at first no word was passed
     pub none_passed : (a : ℕ) (is : List Item) (t : Sheet) →
         written t (items_marks is) ≡ written t (text (stretch B a a) ∷ items_marks is)
     unfolding written laid_after held_after

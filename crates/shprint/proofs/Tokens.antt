@@ -30,28 +30,35 @@ use Rattle.shprint.proofs.Good.{all_digits}
 
 -- ---- the bytes from a place on
 
+-- past the front of a list stands the rest of it
 skip_front : (xs ys : List ℕ) → drop (length xs) (xs ++ ys) ≡ ys
 skip_front [] ys = refl
 skip_front (x ∷ xs) ys = skip_front xs ys
 
+-- what is taken from the front of a list is that front
 take_front : (xs ys : List ℕ) → take (length xs) (xs ++ ys) ≡ xs
 take_front [] ys = refl
 take_front (x ∷ xs) ys = ap (λ z. x ∷ z) (take_front xs ys)
 
+-- past some bytes that stand here the rest stands
 pub skip : (T : List ℕ) (p : ℕ) (xs ys : List ℕ) → drop p T ≡ xs ++ ys → drop (p + length xs) T ≡ ys
 skip T p xs ys at = sym (drop-drop (length xs) p T) ∙ ap (drop (length xs)) at ∙ skip_front xs ys
 
+-- they are the text of that length from here on
 pub text_here : (T : List ℕ) (p : ℕ) (xs ys : List ℕ) → drop p T ≡ xs ++ ys → take (length xs) (drop p T) ≡ xs
 text_here T p xs ys at = ap (take (length xs)) at ∙ take_front xs ys
 
+-- one of them stands alone
 pub first : (T : List ℕ) (p c : ℕ) (xs : List ℕ) → drop p T ≡ c ∷ xs → slice_get T p ≡ Some c
 first T p c xs at = let e : p + 0 ≡ p = omega arith in
     ap (slice_get T) (sym e) ∙ sym (get_drop p T 0) ∙ ap (λ z. slice_get z 0) at
 
+-- where the text has ended no byte stands
 pub none_first : (T : List ℕ) (p : ℕ) → drop p T ≡ [] → slice_get T p ≡ None
 none_first T p at = let e : p + 0 ≡ p = omega arith in
     ap (slice_get T) (sym e) ∙ sym (get_drop p T 0) ∙ ap (λ (z : List ℕ). slice_get z 0) at
 
+-- past one byte the others stand
 pub next_one : (T : List ℕ) (p c : ℕ) (xs : List ℕ) → drop p T ≡ c ∷ xs → drop (p + 1) T ≡ xs
 next_one T p c xs at = skip T p (c ∷ []) xs at
 
@@ -63,6 +70,7 @@ pub record Reads (T : List ℕ) (p c : ℕ) (xs : List ℕ) : Type 0 where
   pub place_after : past_byte T p ≡ p + 1
   pub rest : drop (p + 1) T ≡ xs
 
+-- what is read of such a byte
 pub byte_here : (T : List ℕ) (p c : ℕ) (xs : List ℕ) → (c == backslash) ≡ false → drop p T ≡ c ∷ xs → Reads T p c xs
 unfolding raw_stands
 byte_here T p c xs clear at =
@@ -77,6 +85,7 @@ byte_here T p c xs clear at =
       rest = next_one T p c xs at;
     }
 
+-- the class of a byte that is read, and which byte it is, with and without continuations before it
 pub in_class : {T : List ℕ} {p c : ℕ} {xs : List ℕ} (test : ℕ → Bool) → Reads T p c xs → stands_in test T p ≡ test c
 unfolding stands_in
 in_class test r = ap (passes test) r.byte
@@ -101,21 +110,26 @@ pub record Start (T : List ℕ) (p : ℕ) : Type 0 where
   pub place : past_continuations T p ≡ p
   pub no_blank : stands_in is_blank T p ≡ false
 
+-- a byte that is no blank begins a token
 pub start_here : {T : List ℕ} {p c : ℕ} {xs : List ℕ} → Reads T p c xs → is_blank c ≡ false → Start T p
 start_here r e = record { place = r.place; no_blank = in_class is_blank r ∙ e }
 
+-- where a token may begin no continuation begins
 no_pair : (T : List ℕ) (p : ℕ) → past_continuations T p ≡ p → continues T p ≡ false
 no_pair T p at = must_fail (continues T p)
     (λ c. let more = joined_more T p c in let low = place_low T (p + 2) in absurd (omega (arith, at, more, low)))
 
+-- there a byte as it stands is the one that is read
 raw_read : (test : ℕ → Bool) (T : List ℕ) (p : ℕ) → past_continuations T p ≡ p → raw_in test T p ≡ stands_in test T p
 unfolding raw_in stands_in
 raw_read test T p at = ap (λ q. passes test (slice_get T q)) (sym at)
 
+-- the class of a byte as it stands
 raw_class : (T : List ℕ) (p c : ℕ) (test : ℕ → Bool) → slice_get T p ≡ Some c → raw_in test T p ≡ test c
 unfolding raw_in
 raw_class T p c test raw = ap (passes test) raw
 
+-- where a token begins there is none to pass
 pub no_gap : {T : List ℕ} {p : ℕ} → Start T p → Gap T p p false
 unfolding past_blanks is_broken_at
 no_gap {T = T} {p = p} s =
@@ -125,6 +139,7 @@ no_gap {T = T} {p = p} s =
       breaks = ap (continues T) raw ∙ no_pair T p s.place;
     }
 
+-- a blank is no backslash
 blank_clear : (b : ℕ) → is_blank b ≡ true → (b == backslash) ≡ false
 blank_clear b e = grind (arith, nat_tests)
 
@@ -145,6 +160,7 @@ abbrev pub all_blank : List ℕ → Bool
 all_blank [] = true
 all_blank (b ∷ bs) = is_blank b && all_blank bs
 
+-- blanks, up to where a token begins
 pub blanks_gap : (T : List ℕ) (p : ℕ) (bs xs : List ℕ) → all_blank bs ≡ true → drop p T ≡ bs ++ xs →
     Start T (p + length bs) → Gap T p (p + length bs) false
 blanks_gap T p [] xs all at s = let e : p + 0 ≡ p = omega arith in
@@ -156,6 +172,7 @@ blanks_gap T p (b ∷ bs) xs all at s =
     (blank_gap parts.0 at (blanks_gap T (p + 1) bs xs parts.1 (next_one T p b (bs ++ xs) at)
     (subst (Start T) (sym e) s)))
 
+-- a byte that stands is this one
 raw_is : (T : List ℕ) (p c x : ℕ) → slice_get T p ≡ Some c → (c == x) ≡ true → raw_stands T p x ≡ true
 unfolding raw_stands
 raw_is T p c x raw e = ap (λ b. is_byte b x) raw ∙ e
@@ -201,11 +218,13 @@ next_after position gap = rw (gap.blanks, gap.breaks) refl
 
 -- ---- tokens of one byte or two
 
+-- the token is told by its first byte
 pub token_here : {T : List ℕ} {p c : ℕ} {xs : List ℕ} (position : Position) → Reads T p c xs →
     token_at position T p ≡ token_of position T p (Some c)
 unfolding token_at
 token_here {T = T} {p = p} position r = ap (token_of position T p) r.byte
 
+-- tokens of which one byte is enough, whatever follows
 pub newline_token : (position : Position) (T : List ℕ) (p : ℕ) (xs : List ℕ) → drop p T ≡ newline_char ∷ xs →
     token_at position T p ≡ tokens.Newline
 newline_token position T p xs at = token_here position (byte_here T p newline_char xs refl at)
@@ -246,6 +265,7 @@ pipe_token position T p d xs clear other at =
     let r = byte_here T p vertical_line (d ∷ xs) refl at in
     token_here position r ∙ rw (second vertical_line clear r, other) refl
 
+-- tokens of two bytes
 pub and_token : (position : Position) (T : List ℕ) (p : ℕ) (xs : List ℕ) → drop p T ≡ ampersand ∷ ampersand ∷ xs →
     token_at position T p ≡ tokens.AndIf
 and_token position T p xs at =
@@ -275,6 +295,7 @@ pub record Ended (T : List ℕ) (p : ℕ) : Type 0 where
   pub gap : Gap T p p false
   pub token : (position : Position) → token_at position T p ≡ tokens.End
 
+-- where no byte stands the text has ended
 pub end_here : (T : List ℕ) (p : ℕ) → drop p T ≡ [] → Ended T p
 unfolding raw_stands stands_in token_at
 end_here T p at =
@@ -293,6 +314,7 @@ abbrev pub is_plain : List ℕ → Bool
 is_plain [] = true
 is_plain (c ∷ cs) = not (ends (Some c)) && (not (c == backslash) && is_plain cs)
 
+-- so it is with each of some words
 abbrev pub all_plain : Row Spelling → Bool
 all_plain [] = true
 all_plain (w ∷ ws) = is_plain w.0 && all_plain ws
@@ -313,12 +335,14 @@ not_true : (b : Bool) → not b ≡ true → b ≡ false
 not_true true e = absurd cc
 not_true false e = refl
 
+-- a plain word by its first byte and the others
 plain_parts : (c : ℕ) (cs : List ℕ) → is_plain (c ∷ cs) ≡ true → (ends (Some c) ≡ false) × ((c == backslash) ≡ false)
     × (is_plain cs ≡ true)
 plain_parts c cs e = let one = and_parts _ _ e in let two = and_parts _ _ one.1 in
     (not_true _ one.0, not_true _ two.0, two.1)
 
 module _ (T : List ℕ) (x : ℕ) (xs : List ℕ) (clear : (x == backslash) ≡ false) (ends_it : ends (Some x) ≡ true) where
+  -- where a plain word stands before a byte that ends it, exactly that word is spelled
   pub spelled_here : (p : ℕ) (v w : List ℕ) → is_plain v ≡ true → is_plain w ≡ true → drop p T ≡ w ++ x ∷ xs →
       is_word_at T p v ≡ same_word v w
   spelled_here p [] [] one two at = spelled_none T p ∙ ap ends (byte_here T p x xs clear at).byte ∙ ends_it
@@ -335,6 +359,7 @@ module _ (T : List ℕ) (x : ℕ) (xs : List ℕ) (clear : (x == backslash) ≡ 
       ∙ ap (λ b. c == d && b) (ap (λ q. is_word_at T q v) r.place_after
       ∙ spelled_here (p + 1) v w (plain_parts d v one).2 parts.2 r.rest)
 
+  -- of some words the first that stands there is the first that is this one
   first_here : (p : ℕ) (w : List ℕ) (vs : Row Spelling) → is_plain w ≡ true → all_plain vs ≡ true →
       drop p T ≡ w ++ x ∷ xs → first_of_words T p vs ≡ first_same w vs
   unfolding first_of_words
@@ -350,6 +375,7 @@ pub record ReservedWord (T : List ℕ) (p : ℕ) (w : List ℕ) (r : Reserved) :
   pub token : token_at Command T p ≡ tokens.Reserved r
   pub past_it : past_reserved T p ≡ p + length w
 
+-- bytes of names alone
 abbrev pub all_names : List ℕ → Bool
 all_names [] = true
 all_names (c ∷ cs) = is_name c && all_names cs
@@ -357,6 +383,7 @@ all_names (c ∷ cs) = is_name c && all_names cs
 name_clear : (c : ℕ) → is_name c ≡ true → (c == backslash) ≡ false
 name_clear c e = grind (arith, nat_tests)
 
+-- what ends a word is in no name
 ends_no_name : (x : ℕ) → ends (Some x) ≡ true → is_name x ≡ false
 ends_no_name x e = grind (arith, nat_tests)
 
@@ -376,6 +403,7 @@ all_are_plain : all_plain reserved_words ≡ true
 unfolding reserved_words
 all_are_plain = refl
 
+-- a word that begins with no digit is no number
 no_number : (T : List ℕ) (p : ℕ) → stands_in is_digit T p ≡ false → is_number T p ≡ false
 unfolding is_number
 no_number T p e = rw e refl
@@ -385,6 +413,7 @@ abbrev pub WordByte : ℕ → Type 0
 WordByte c = (T : List ℕ) (p : ℕ) → is_number T p ≡ false →
     token_of Command T p (Some c) ≡ first_word (begins_assignment T p) (reserved_at T p)
 
+-- a reserved word before a byte that ends it, by its first byte and the others
 pub reserved_here : (T : List ℕ) (p c x : ℕ) (cs xs : List ℕ) (r : Reserved) → WordByte c → is_blank c ≡ false →
     is_digit c ≡ false → is_plain (c ∷ cs) ≡ true → all_names cs ≡ true
     → first_same (c ∷ cs) reserved_words ≡ Some r → (x == backslash) ≡ false → ends (Some x) ≡ true →
@@ -471,6 +500,7 @@ module _ (T : List ℕ) (p x : ℕ) (xs : List ℕ) (clear : (x == backslash) �
 
 -- ---- editions
 
+-- such a token is neither `;` nor `;&`
 by_edition : (P : Token → Bool) → P tokens.Semicolon ≡ false → P tokens.SemicolonAmpersand ≡ false →
     (later : Bool) (u : Token) → cond later tokens.SemicolonAmpersand tokens.Semicolon ≡ u → P u ≡ true → ⊥
 by_edition P one two true u same e = both_ways (P u) (ap P (sym same) ∙ two) e
@@ -497,6 +527,7 @@ delimiter_by : (c : Bool) (x : Option ADelimiter) (d : ADelimiter) → cond c No
 delimiter_by true x d e = absurd cc
 delimiter_by false x d e = e
 
+-- a delimiter by an edition is one by itself
 pub delimiter_stays : (edition : Edition) (bytes : List ℕ) (d : ADelimiter) → delimiter_in edition bytes ≡ Some d →
     delimiter_of bytes ≡ Some d
 delimiter_stays edition bytes d e = delimiter_by _ (delimiter_of bytes) d e
@@ -524,6 +555,7 @@ kind_of (tokens.Reserved r) next e = absurd cc
 kind_of tokens.Assignment next e = inr (refl, let same : ◌≡◌ {A = Option Position} (Some Prefix) (Some next) = e in cc)
 kind_of tokens.Word next e = inl (refl, let same : ◌≡◌ {A = Option Position} (Some Suffix) (Some next) = e in cc)
 
+-- a token that is a word is `Word`
 pub word_token : (t : Token) → is_word t ≡ true → t ≡ tokens.Word
 word_token tokens.End e = absurd cc
 word_token tokens.Newline e = absurd cc
@@ -548,6 +580,7 @@ paren_token : (t : Token) → is_paren t ≡ true → t ≡ tokens.OpenParen
 paren_token tokens.OpenParen e = refl
 paren_token _ e = absurd cc
 
+-- what begins a simple command is no `(`
 pub item_no_round : (t : Token) → begins_simple t ≡ true → is_paren t ≡ false
 item_no_round t begins = must_fail (is_paren t)
     (λ e. both_ways (begins_simple t) (ap begins_simple (paren_token t e)) begins)
@@ -570,6 +603,7 @@ pub record NoItem (t : Token) : Type 0 where
   pub redirect : begins_redirect t ≡ false
   pub word : is_word t ≡ false
 
+-- such a token begins no item
 pub no_item_token : (t : Token) → begins_simple t ≡ false → NoItem t
 no_item_token t none =
     let parts = or_parts (begins_word t) (begins_redirect t) none in
@@ -577,6 +611,7 @@ no_item_token t none =
 
 -- ---- redirections
 
+-- what begins a redirection begins a simple command, and is no word
 pub redirect_is_item : (t : Token) → begins_redirect t ≡ true → begins_simple t ≡ true
 redirect_is_item t e = must_hold (begins_word t) (begins_redirect t) e
   where
@@ -601,6 +636,7 @@ pub record NoLonger (T : List ℕ) (q : ℕ) : Type 0 where
   pub no_ampersand : stands T q ampersand ≡ false
   pub no_bar : stands T q vertical_line ≡ false
 
+-- a space makes no operator longer
 pub space_no_longer : (T : List ℕ) (q : ℕ) (xs : List ℕ) → drop q T ≡ space ∷ xs → NoLonger T q
 space_no_longer T q xs at =
     let r = byte_here T q space xs refl at in
@@ -610,6 +646,7 @@ that_byte : (x : Option ℕ) (c : ℕ) → is_byte x c ≡ true → x ≡ Some c
 that_byte None c e = absurd cc
 that_byte (Some b) c e = let same : b ≡ c = grind (arith, nat_tests) in ap Some same
 
+-- no byte is read where a word begins with which the token would be no word
 no_such_byte : (T : List ℕ) (q x : ℕ) → token_at Suffix T q ≡ tokens.Word →
     is_word (token_of Suffix T q (Some x)) ≡ false → stands T q x ≡ false
 unfolding stands token_at
@@ -638,6 +675,7 @@ abbrev pub IsWhole : RedirectOperator → List ℕ → ℕ → Type 0
 IsWhole redirects.Here T q = stands T q hyphen ≡ false
 IsWhole _ T q = Unit {0}
 
+-- an operator of redirections, where no longer one stands
 pub redirect_token : (position : Position) (k : RedirectOperator) (T : List ℕ) (p : ℕ) (xs : List ℕ) →
     IsWhole k T (p + length (redirect_text k)) → NoLonger T (p + length (redirect_text k)) →
     drop p T ≡ redirect_text k ++ xs
@@ -681,6 +719,7 @@ redirect_token position redirects.Clobber T p xs none n at =
 abbrev pub is_angle : ℕ → Bool
 is_angle b = b == less_than_sign || b == greater_than_sign
 
+-- it is no backslash, no blank and no digit
 pub angle_clear : (b : ℕ) → is_angle b ≡ true → (b == backslash) ≡ false
 angle_clear b e = grind (arith, nat_tests)
 
@@ -714,6 +753,7 @@ digit_clear c e = grind (arith, nat_tests)
 digit_no_blank : (c : ℕ) → is_digit c ≡ true → is_blank c ≡ false
 digit_no_blank c e = grind (arith, nat_tests)
 
+-- digits are passed up to an angle
 digits_here : (T : List ℕ) (p x : ℕ) (cs xs : List ℕ) → is_angle x ≡ true → all_digits cs ≡ true →
     drop p T ≡ cs ++ x ∷ xs → past is_digit T p ≡ p + length cs
 digits_here T p x [] xs angle all at =
@@ -727,6 +767,7 @@ digits_here T p x (c ∷ cs) xs angle all at =
     past_more is_digit T p (in_class is_digit r ∙ parts.0) ∙ ap (past is_digit T) r.place_after
     ∙ digits_here T (p + 1) x cs xs angle parts.1 r.rest ∙ e
 
+-- a number is told by its first digit
 digit_token : (position : Position) (T : List ℕ) (p c : ℕ) → is_digit c ≡ true → is_number T p ≡ true →
     token_of position T p (Some c) ≡ tokens.Number
 digit_token position T p c digit number =
@@ -742,6 +783,7 @@ digit_token position T p c digit number =
     rw (no_newline, no_semicolon, no_ampersand, no_bar, no_opener, no_closer, no_less, no_greater, no_sharp, number)
     refl
 
+-- digits before an angle are a number
 pub number_token : (position : Position) (T : List ℕ) (p x d : ℕ) (ds xs : List ℕ) → all_digits (d ∷ ds) ≡ true →
     is_angle x ≡ true → drop p T ≡ (d ∷ ds) ++ x ∷ xs → NumberHere position T p (d ∷ ds)
 unfolding is_number past_digits

@@ -9,6 +9,7 @@ use Rattle.shprint.specs.Written.{Sheet, sheet_of, written}
 
 -- ---- marks, and others after them
 
+-- they are laid down after what the first ones lay, with what waits then
 pub laid_append : (h : Text) (ms ns : Marks) →
     laid_after h (ms ++ ns) ≡ laid_after h ms ++ laid_after (held_after h ms) ns
 unfolding laid_after held_after
@@ -17,6 +18,7 @@ laid_append h (text t ∷ ms) ns = rw (laid_append h ms ns, append_assoc) refl
 laid_append h (line_end ∷ ms) ns = rw (laid_append [] ms ns, append_assoc) refl
 laid_append h (document t ∷ ms) ns = laid_append (h ++ t) ms ns
 
+-- what waits after both
 pub held_append : (h : Text) (ms ns : Marks) → held_after h (ms ++ ns) ≡ held_after (held_after h ms) ns
 unfolding held_after
 held_append h [] ns = refl
@@ -26,6 +28,7 @@ held_append h (document t ∷ ms) ns = held_append (h ++ t) ms ns
 
 -- ---- on a sheet
 
+-- no marks change nothing
 pub written_none : (s : Sheet) → written s [] ≡ s
 unfolding written laid_after held_after
 written_none s = ap (λ t. sheet_of t s.held) (append-nil s.so_far)
@@ -39,6 +42,7 @@ written_append s ms ns = rw (laid_append s.held ms ns, held_append s.held ms ns,
 pub written_cons : (s : Sheet) (ms : Marks) (m : Mark) → written (written s (m ∷ [])) ms ≡ written s (m ∷ ms)
 written_cons s ms m = written_append s (m ∷ []) ms
 
+-- a text is written at the end
 pub written_text : (s : Sheet) (x : Text) → written s (text x ∷ []) ≡ sheet_of (s.so_far ++ x) s.held
 unfolding written laid_after held_after
 written_text s x = ap (λ r. sheet_of (s.so_far ++ r) s.held) (append-nil x)
@@ -49,6 +53,7 @@ written_nothing s x none = sym
     (written_text s x ∙ ap (λ t. sheet_of (s.so_far ++ t) s.held) none
     ∙ ap (λ t. sheet_of t s.held) (append-nil s.so_far))
 
+-- the end of a line writes a newline, and what waits
 pub written_line : (s : Sheet) → written s (line_end ∷ []) ≡ sheet_of ((s.so_far ++ newline_char ∷ []) ++ s.held) []
 unfolding written laid_after held_after
 written_line s = rw (append_assoc, append-nil) refl
@@ -61,6 +66,7 @@ written_line_alone s none =
     ∙ ap (λ t. sheet_of t []) (append-nil (s.so_far ++ newline_char ∷ []))
     ∙ ap (sheet_of (s.so_far ++ newline_char ∷ [])) (sym none))
 
+-- a document waits
 pub written_document : (s : Sheet) (x : Text) → written s (document x ∷ []) ≡ sheet_of s.so_far (s.held ++ x)
 unfolding written laid_after held_after
 written_document s x = ap (λ r. sheet_of r (s.held ++ x)) (append-nil s.so_far)
@@ -70,6 +76,7 @@ pub written_first : (ms : Marks) → written (sheet_of [] []) ms ≡ sheet_of (l
 unfolding written
 written_first ms = refl
 
+-- a row of no length is empty
 pub empty_row : {A : Type 0} (xs : List A) → length xs ≡ 0 → xs ≡ []
 empty_row [] e = refl
 empty_row (x ∷ xs) e = absurd (omega (arith, e))
