@@ -45,7 +45,8 @@ none_taken : (n : ℕ) → take {A = ℕ} n [] ≡ []
 none_taken zero = refl
 none_taken (suc n) = refl
 
-drop_some : (B : List ℕ) (at b : ℕ) → slice_get B at ≡ Some b → drop at B ≡ b ∷ drop (at + 1) B
+-- from a place on stands its byte, and then the others
+pub drop_some : (B : List ℕ) (at b : ℕ) → slice_get B at ≡ Some b → drop at B ≡ b ∷ drop (at + 1) B
 drop_some [] zero b e = absurd cc
 drop_some [] (suc at) b e = absurd cc
 drop_some (c ∷ B) zero b e = cc
@@ -64,7 +65,8 @@ pub bare_none : bare [] ≡ []
 unfolding bare
 bare_none = refl
 
-bare_pair : (X : List ℕ) → bare (backslash ∷ newline_char ∷ X) ≡ bare X
+-- a continuation is not in the bare text
+pub bare_pair : (X : List ℕ) → bare (backslash ∷ newline_char ∷ X) ≡ bare X
 unfolding bare
 bare_pair X = refl
 

@@ -1,15 +1,13 @@
 -- The number before an operator that was read: digits, once its continuations are removed.
 use Rattle.std.proofs.Common.{◌≡◌, ℕ, zero, suc, ◌+◌, ◌-◌, ◌<◌, ◌≤◌, ◌==◌, Bool, true, false, List, [], ◌∷◌, length, drop, take, Option, Some, None, slice_get, refl, sym, ap, subst, ◌∙◌, arith, cond}
-use Rattle.std.proofs.Math.Seq.{drop-cons}
 use Rattle.std.proofs.lemmas.Bool.{and_from, and_parts, cond_both}
-use Rattle.std.proofs.lemmas.Bool.Decides.{nat_tests}
-use Rattle.std.proofs.lemmas.Option.{slice_get_within, get_or_from_slice_get}
 use Rattle.shgrammar.specs.declared.token.Position.{Position}
 use Rattle.shgrammar.specs.declared.token.Position.TheVariants.{Command, Prefix, Suffix}
 use Rattle.shgrammar.specs.declared.token.Reserved.{Reserved}
 use Rattle.shgrammar.specs.declared.token.Token.{Token}
 use Rattle.shgrammar.specs.declared.token.Token.TheVariants as tokens
 use Rattle.shsource.specs.Text.{is_newline as is_newline_byte}
+use Rattle.shgrammar.specs.Characters.{ampersand, backslash, greater_than_sign, left_parenthesis, less_than_sign, newline_char, number_sign, right_parenthesis, semicolon, vertical_line}
 use Rattle.shgrammar.specs.Classes.{is_digit}
 use Rattle.shgrammar.specs.Standing.{continues, is_byte, passes, raw_stands}
 use Rattle.shgrammar.specs.Bytes.{byte_at, past, past_byte, past_continuations, stands, stands_in}
@@ -22,7 +20,9 @@ use Rattle.shgrammar.proofs.Spelling.{raw_at}
 use Rattle.shgrammar.proofs.Stretches.{joined_more, joined_none, past_more, past_none, place_low, stands_in_low}
 use Rattle.shgrammar.proofs.Places.{past_low}
 use Rattle.shast.specs.Shape.{Text, bare, bare_at}
+use Rattle.shprint.proofs.Copying.{bare_none, bare_pair, drop_some}
 use Rattle.shprint.proofs.Good.{GoodNumber, all_digits}
+use Rattle.shprint.proofs.Tokens.{digit_clear, that_byte}
 
 -- ---- what begins with a number's token
 
@@ -78,31 +78,16 @@ number_here position T p t same is = token_counts position T p (byte_at T p) (ap
 -- ---- the bare text of digits
 
 -- one byte more of a text from a place on
-one_front : (T : List ℕ) (p c : ℕ) → slice_get T p ≡ Some c → drop p T ≡ c ∷ drop (suc p) T
-one_front T p c at =
-    drop-cons T p c (slice_get_within T p c at) ∙ ap (λ b. b ∷ drop (suc p) T) (get_or_from_slice_get T p c c at)
-
 raw_front : (T : List ℕ) (p q c : ℕ) → slice_get T p ≡ Some c → p < q → raw T p q ≡ c ∷ raw T (p + 1) q
 raw_front T p q c at lt =
-    let next : suc p ≡ p + 1 = omega arith in
     let many : q - p ≡ suc (q - (p + 1)) = omega (arith, lt) in
-    ap (take (q - p)) (one_front T p c at ∙ ap (λ r. c ∷ drop r T) next) ∙ ap (λ n. take n (c ∷ drop (p + 1) T)) many
+    ap (take (q - p)) (drop_some T p c at) ∙ ap (λ n. take n (c ∷ drop (p + 1) T)) many
 
 -- nothing stands between a place and itself
 raw_nothing : (T : List ℕ) (p : ℕ) → raw T p p ≡ []
 raw_nothing T p = let none : p - p ≡ 0 = omega arith in ap (λ n. take n (drop p T)) none
 
-bare_nothing : bare [] ≡ []
-unfolding bare
-bare_nothing = refl
-
-bare_pair : (bs : Text) → bare (92 ∷ 10 ∷ bs) ≡ bare bs
-unfolding bare
-bare_pair bs = refl
-
-digit_clear : (c : ℕ) → is_digit c ≡ true → (c == 92) ≡ false
-digit_clear c e = grind (arith, nat_tests)
-
+-- a digit is in the bare text
 bare_digit : (c : ℕ) (bs : Text) → is_digit c ≡ true → bare (c ∷ bs) ≡ c ∷ bare bs
 unfolding bare
 bare_digit c [] e = refl
@@ -119,10 +104,7 @@ bare_of_digits (c ∷ cs) all = let parts = and_parts _ _ all in
 digits_more : (c : ℕ) (t : Text) → is_digit c ≡ true → all_digits t ≡ true → all_digits (c ∷ t) ≡ true
 digits_more c t one others = and_from _ _ one others
 
-is_that : (x : Option ℕ) (c : ℕ) → is_byte x c ≡ true → x ≡ Some c
-is_that None c e = absurd cc
-is_that (Some b) c e = let same : b ≡ c = grind (arith, nat_tests) in ap Some same
-
+-- where a digit is read it stands
 byte_of : (x : Option ℕ) → passes is_digit x ≡ true → (c : ℕ) × (x ≡ Some c) × (is_digit c ≡ true)
 byte_of None e = absurd cc
 byte_of (Some c) e = (c, refl, e)
@@ -139,7 +121,9 @@ past_pair T p pair digit =
           ∙ sym (past_more is_digit T (p + 2) there),
     )
 
-pair_front : (T : List ℕ) (p q : ℕ) → continues T p ≡ true → p + 2 ≤ q → raw T p q ≡ backslash ∷ newline_char ∷ raw T (p + 2) q
+-- a text that begins with a continuation
+pair_front : (T : List ℕ) (p q : ℕ) → continues T p ≡ true → p + 2 ≤ q →
+    raw T p q ≡ backslash ∷ newline_char ∷ raw T (p + 2) q
 unfolding continues raw_stands
 pair_front T p q pair le =
     let parts : (is_byte (slice_get T p) backslash ≡ true) × (is_byte (slice_get T (p + 1)) newline_char ≡ true) =
@@ -197,7 +181,7 @@ one_digit n T p further few digit no_pair =
     (b.0, bare (raw T (p + 1) q), same, digits_more b.0 (bare (raw T (p + 1) q)) b.2 (ap all_digits rest.2 ∙ rest.3)))
     (λ none.
     let nothing : bare (raw T (p + 1) q) ≡ [] = ap (λ r. bare (raw T (p + 1) r)) (past_none is_digit T (p + 1) none)
-    ∙ ap bare (raw_nothing T (p + 1)) ∙ bare_nothing in
+    ∙ ap bare (raw_nothing T (p + 1)) ∙ bare_none in
     (b.0, bare (raw T (p + 1) q), same, digits_more b.0 (bare (raw T (p + 1) q)) b.2 (ap all_digits nothing)))
 
 -- so it does from each place at which a digit is read, by how much of the text is left

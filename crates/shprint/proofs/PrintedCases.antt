@@ -33,11 +33,10 @@ use Rattle.shprint.specs.declared.layout.Layout.{Layout}
 use Rattle.shprint.specs.Marks.{text, line_end, Marks, laid_after, deeper}
 use Rattle.shprint.specs.Printed.{print_word, print_entries, print_cases, print_patterns, print_first_pattern, ender, print_body, print_comment_lines, case_margin}
 use Rattle.shprint.proofs.Tokens.{close_token, first, byte_here, start_here, all_blank, no_gap, next_one, double_semicolon_token, falls_token, falls_stays, esac_here}
-use Rattle.shprint.proofs.Gives.{Gives, gives_on, told_here, ◌⟫◌, given_here, seen_here, moved_here, pushed_here, first_of, second_of, last_turn, one_turn}
+use Rattle.shprint.proofs.Gives.{Gives, gives_on, told_here, ◌⟫◌, given_here, seen_here, pushed_here, first_of, second_of, last_turn, one_turn}
 use Rattle.shprint.proofs.Held.{At, Followed, Held, StandsIn, g, held_bytes, lay, state}
 use Rattle.shprint.proofs.Good.{GoodForm, GoodEntries, GoodComments, GoodWord, GoodMorePatterns, GoodCases}
-use Rattle.shprint.proofs.PrintedText.{laid_text, Alike, laid_same, deeper_blank, Parted, no_more, Adds, at_text, some_here, leads, told, asked, asked_after, tell, tell_word, next_read, some_word, byte_moved, byte_after, no_byte, comment_shape, comment_start, margin_gap, Operand, last_join_turn, comment_join_turn, newline_join_turn, cons_shape, joined, space_then, pipe_follower, no_sharp}
-use Rattle.shprint.proofs.PrintedItems.{printed_word}
+use Rattle.shprint.proofs.PrintedText.{laid_text, Alike, laid_same, deeper_blank, Parted, no_more, Adds, at_text, some_here, leads, told, asked, asked_after, tell, tell_word, next_read, some_word, byte_moved, byte_after, no_byte, comment_shape, comment_start, margin_gap, Operand, last_join_turn, comment_join_turn, newline_join_turn, cons_shape, joined, space_then, pipe_follower, no_sharp, printed_word, one_moved}
 use Rattle.shprint.proofs.PrintedCommands.{Fine}
 use Rattle.shprint.proofs.PrintedLists.{at_line_start, line_end_here, Closes, empty_line, list_ends, list_read}
 use Rattle.shprint.proofs.PrintedCompounds.{Ends, line_end_end, Key, ReservedRead, paren_alone, reserved_read, key_by, in_key, Finished, no_lines, closing_read}
@@ -307,8 +306,7 @@ module _ {edition : Edition} {B T : List ℕ} {o : ℕ} {S : StandsIn edition B 
       (at_text S h f (codes " ") (text (codes "|") ∷ X) at) in
       let there_q = at_q ∙ laid_text h (codes "|") X in
       let the_bar = byte_here T q vertical_line (lay h X) refl there_q in
-      let moved : Gives (g S) (move one_byte) (state h q) tt (state h (q + 1)) =
-      subst (λ p. Gives (g S) (move one_byte) (state h q) tt (state h p)) r_q.place_after (moved_here one_byte) in
+      let moved = one_moved S h q the_bar.place_after in
       let v = word_at h Suffix begins_word (codes " ") w (q + 1) (more_marks ws ms) refl good.0
       (more_follows ws ms) the_bar.rest in
       let others = patterns_read h ws (acc ++ v.value ∷ []) v.e ms good.1 v.at in

@@ -32,11 +32,11 @@ use Rattle.shprint.specs.declared.layout.Layout.{Layout}
 use Rattle.shprint.specs.Marks.{text, Marks, one}
 use Rattle.shprint.specs.Printed.{print_form, print_and_or, print_bang, print_pipeline, print_and_or_parts, print_join, print_pipes, print_compound, print_command, operand_margin, breaks_line, print_item, print_items, print_simple, print_function_gap}
 use Rattle.shprint.proofs.Tokens.{open_token, bang_here, byte_here, start_here, Gap, all_blank, no_gap, no_word}
-use Rattle.shprint.proofs.Gives.{Gives, gives_on, told_here, ◌⟫◌, given_here, seen_here, moved_here, pushed_here, first_of, second_of, last_turn, one_turn}
-use Rattle.shprint.proofs.Held.{At, Followed, Held, StandsIn, g, lay, state, texts_of}
+use Rattle.shprint.proofs.Gives.{Gives, gives_on, told_here, ◌⟫◌, given_here, seen_here, pushed_here, first_of, second_of, last_turn, one_turn}
+use Rattle.shprint.proofs.Held.{At, Followed, Held, StandsIn, g, lay, state, text_of_span, texts_of}
 use Rattle.shprint.proofs.Good.{of_command, GoodRedirects, GoodAndOr, GoodParts, GoodPipeline, GoodPipes, GoodCompound, GoodCommand, GoodComments, GoodItems, none_more, one_more, SomeItem, GoodBody, GoodFunction, parts_of_function}
-use Rattle.shprint.proofs.PrintedText.{laid_text, deeper_blank, deeper_some, operand_blank, begins_command, no_other, join_rest, join_parted, operator_token, Adds, at_text, span_text, some_here, leads, told, asked, asked_after, tell, next_read, Got, Follower, Opens, margin_gap, join_read, follower_after, space_then, pipe_follower, operator_follower, Begins, no_sharp, begins_operand, PipelineBegins}
-use Rattle.shprint.proofs.PrintedItems.{items_follow, printed_word, ItemThere, item_there, items_read, simple_command}
+use Rattle.shprint.proofs.PrintedText.{laid_text, deeper_blank, deeper_some, operand_blank, begins_command, no_other, join_rest, join_parted, operator_token, Adds, at_text, some_here, leads, told, asked, asked_after, tell, next_read, Got, Follower, Opens, margin_gap, join_read, follower_after, space_then, pipe_follower, operator_follower, Begins, no_sharp, begins_operand, PipelineBegins, printed_word, one_moved}
+use Rattle.shprint.proofs.PrintedItems.{items_follow, ItemThere, item_there, items_read, simple_command}
 
 -- ---- commands
 
@@ -197,7 +197,8 @@ module _ {edition : Edition} {B T : List ℕ} {o : ℕ} {S : StandsIn edition B 
         reads = first_of _ _ (ap is_word (token_is ∙ tell S found.token_is))
             (seen_here is_a_name ⟫ printed_word S room h name no_subst p v ⟫ next_read S h Suffix e ⟫ first_of _ _ paren
             (first_of _ _ name_is after_name));
-        is = r.is ∙ ap (λ z. open_command [] (function z cs body)) (span_text S p name (left_parenthesis ∷ right_parenthesis ∷ lay h X) there);
+        is = r.is ∙ ap (λ z. open_command [] (function z cs body))
+            (text_of_span S p name (left_parenthesis ∷ right_parenthesis ∷ lay h X) there);
       }
 
   -- a compound command with the redirections after it
@@ -356,8 +357,7 @@ module _ {edition : Edition} {B T : List ℕ} {o : ℕ} {S : StandsIn edition B 
       let X = print_command y d c ++ ms in
       let there = at ∙ laid_text h (codes "|") (join_rest y m j ++ X) in
       let r = byte_here T q vertical_line (lay h (join_rest y m j ++ X)) refl there in
-      let moved : Gives (g S) (move one_byte) (state h q) tt (state h (q + 1)) =
-      subst (λ p. Gives (g S) (move one_byte) (state h q) tt (state h p)) r.place_after (moved_here one_byte) in
+      let moved = one_moved S h q r.place_after in
       let join_got = join_read S h y m X (deeper_blank y m blank)
       (λ h p at. begins_operand S p (command_begins h d c p ms good f.follow at)) j.broken j.comments
       (q + 1) normal_j good_j (at_text S h q (codes "|") (join_rest y m j ++ X) at) in
@@ -510,8 +510,7 @@ module _ {edition : Edition} {B T : List ℕ} {o : ℕ} {S : StandsIn edition B 
   bang_read h n p (Some mark) ms begins token_is at =
       let there = at ∙ laid_text h (codes "! ") ms in
       let r = byte_here T p exclamation_mark (space ∷ lay h ms) refl there in
-      let moved : Gives (g S) (move one_byte) (state h p) tt (state h (p + 1)) =
-      subst (λ q. Gives (g S) (move one_byte) (state h p) tt (state h q)) r.place_after (moved_here one_byte) in
+      let moved = one_moved S h p r.place_after in
       let at_space : At S h (p + 1) (text (codes " ") ∷ ms) = r.rest ∙ sym (laid_text h (codes " ") ms) in
       let at_after = at_text S h (p + 1) (codes " ") ms at_space in
       let gap = margin_gap S h (codes " ") (p + 1) ms refl at_space (begins (p + 1 + 1) at_after).start in
@@ -614,12 +613,8 @@ module _ {edition : Edition} {B T : List ℕ} {o : ℕ} {S : StandsIn edition B 
       Gives (g S) (move one_byte >> move one_byte) (state h q) tt (state h (q + 2))
   two_moves h q one_is two_is =
       let e : q + 1 + 1 ≡ q + 2 = omega arith in
-      let first_move : Gives (g S) (move one_byte) (state h q) tt (state h (q + 1)) =
-      subst (λ p. Gives (g S) (move one_byte) (state h q) tt (state h p)) one_is (moved_here one_byte) in
-      let second_move : Gives (g S) (move one_byte) (state h (q + 1)) tt (state h (q + 2)) =
-      subst (λ p. Gives (g S) (move one_byte) (state h (q + 1)) tt (state h p)) (two_is ∙ e)
-      (moved_here one_byte) in
-      first_move ⟫ second_move
+      subst (λ p. Gives (g S) (move one_byte >> move one_byte) (state h q) tt (state h p)) e
+      (one_moved S h q one_is ⟫ one_moved S h (q + 1) two_is)
 
   -- no further pipeline is read where no operator stands
   no_part : (h : Held) (acc : Row AnAndOrPart) (n : Next) (p : ℕ) → and_or_operator_of n.token ≡ None →

@@ -40,9 +40,9 @@ use Rattle.shprint.specs.Printed.{delimiter_line, print_here, print_gap, print_n
 use Rattle.shprint.proofs.Tokens.{IsWhole, Reads, is_here, first, byte_here, start_here, skip, text_here, Gap, Start, all_blank, blank_gap, broken_gap, no_gap, next_one, kind_of, item_no_round, no_word, no_item_token, NoLonger, space_no_longer, word_no_longer, redirect_token, NumberHere, number_token, angle_first, angle_clear, angle_no_blank, RedirectThere, redirect_is_item, redirect_no_word, delimiter_stays}
 use Rattle.shprint.proofs.Digits.{bare_of_digits}
 use Rattle.shprint.proofs.Gives.{Gives, gives, told_here, ◌⟫◌, given_here, seen_here, moved_here, pushed_here, first_of, second_of, last_turn, one_turn}
-use Rattle.shprint.proofs.Held.{At, Document, Followed, Held, StandsIn, bytes_more, g, held_bytes, lay, one_waits, state, with_document}
+use Rattle.shprint.proofs.Held.{At, Document, Followed, Held, StandsIn, bytes_more, g, held_bytes, lay, one_waits, state, text_of_span, with_document}
 use Rattle.shprint.proofs.Good.{GoodHere, Kind, of_command, of_for, of_compound, GoodItem, of_word, of_argument, of_redirect, of_redirect_after, GoodNumber, GoodRedirect, a_redirect_of, GoodItems, none_more, one_more, GoodSimple, SomeItem, an_item_of}
-use Rattle.shprint.proofs.PrintedText.{laid_text, Adds, at_text, span_text, leads, told, asked, asked_after, tell, tell_word, next_read, some_word, byte_moved, byte_after, NoItemAfter, Got}
+use Rattle.shprint.proofs.PrintedText.{laid_text, Adds, at_text, leads, told, asked, asked_after, tell, tell_word, next_read, some_word, byte_moved, byte_after, NoItemAfter, Got}
 
 -- ---- items as they are printed
 
@@ -263,7 +263,7 @@ module _ {edition : Edition} {B T : List ℕ} {o : ℕ} (S : StandsIn edition B 
           at = at_q;
           low = omega arith;
           shape = ap (λ t. Some (bare t))
-              (span_text S p (d ∷ ds) _ (at ∙ laid_text h (d ∷ ds) (text (redirect_text k) ∷ ms)))
+              (text_of_span S p (d ∷ ds) _ (at ∙ laid_text h (d ∷ ds) (text (redirect_text k) ∷ ms)))
               ∙ ap Some (bare_of_digits (d ∷ ds) digits);
         }
 

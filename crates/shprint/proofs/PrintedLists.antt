@@ -17,8 +17,7 @@ use Rattle.shgrammar.specs.Bytes.{past_byte, byte_at, past_blanks}
 use Rattle.shgrammar.specs.Comments.{span}
 use Rattle.shgrammar.specs.Standing.{raw_stands}
 use Rattle.shgrammar.specs.Tokens.{token_in, token_of, token_at}
-use Rattle.shgrammar.specs.Sights.{one_byte}
-use Rattle.shgrammar.specs.Form.{give, move, leads_on, again, done, many, step_if}
+use Rattle.shgrammar.specs.Form.{give, leads_on, again, done, many, step_if}
 use Rattle.shgrammar.specs.Levels.{level}
 use Rattle.shast.specs.Normal.{is_whole, is_command, holds_command, is_normal_entry, first_not_blank, are_normal, is_normal_and_or}
 use Rattle.shgrammar.specs.Lists.{Listed, list_so, none_listed, one_entry, entry_turn, a_remark, on_line, list_turn, a_list}
@@ -34,10 +33,10 @@ use Rattle.shprint.specs.declared.layout.Layout.{Layout}
 use Rattle.shprint.specs.Marks.{text, line_end, Marks, laid_after, one}
 use Rattle.shprint.specs.Printed.{print_content, print_entry, print_entries, print_blank, print_background, print_own_comment, print_and_or}
 use Rattle.shprint.proofs.Tokens.{ampersand_token, first, byte_here, newline_token, start_here, Start, all_blank, blank_gap, no_gap, next_one}
-use Rattle.shprint.proofs.Gives.{Gives, gives_on, told_here, ◌⟫◌, given_here, moved_here, pushed_here, first_of, second_of, last_turn, one_turn}
+use Rattle.shprint.proofs.Gives.{Gives, gives_on, told_here, ◌⟫◌, given_here, pushed_here, first_of, second_of, last_turn, one_turn}
 use Rattle.shprint.proofs.Held.{At, Held, StandsIn, g, lay, state}
 use Rattle.shprint.proofs.Good.{GoodContent, GoodEntries, GoodOwnComment, GoodAndOr}
-use Rattle.shprint.proofs.PrintedText.{laid_text, after_line, laid_line, Parted, no_more, Adds, at_text, some_here, leads, told, asked, asked_after, tell, next_read, Got, Follower, no_byte, newline_next, newline_read, no_newline_read, no_comment_read, comment_read, comment_shape, comment_start, margin_gap, PipelineBegins}
+use Rattle.shprint.proofs.PrintedText.{laid_text, after_line, laid_line, Parted, no_more, Adds, at_text, some_here, leads, told, asked, asked_after, tell, next_read, Got, Follower, no_byte, newline_next, newline_read, no_newline_read, no_comment_read, comment_read, comment_shape, comment_start, margin_gap, PipelineBegins, one_moved}
 use Rattle.shprint.proofs.PrintedCommands.{Fine, and_or_begins, and_or_read}
 
 -- ---- entries and lines as they are printed
@@ -207,8 +206,7 @@ module _ {edition : Edition} {B T : List ℕ} {o : ℕ} (S : StandsIn edition B 
       (state h (past_blanks T (q + 1)))
   unfolding a_separator
   some_separator h n q k e after_is =
-      let moved : Gives (g S) (move one_byte) (state h q) tt (state h (q + 1)) =
-      subst (λ p. Gives (g S) (move one_byte) (state h q) tt (state h p)) after_is (moved_here one_byte) in
+      let moved = one_moved S h q after_is in
       rw e (told_here (told_separator k) moved ⟫ next_read S h Command (q + 1) ⟫ given_here)
 
   -- `&` is read, or none

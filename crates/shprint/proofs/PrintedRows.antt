@@ -36,6 +36,7 @@ use Rattle.shast.specs.Tree.{branch, AContentOf, AnEntryOf, AnEntry, entry, ACom
 use Rattle.shprint.specs.declared.layout.Layout.{Layout}
 use Rattle.shprint.specs.Marks.{text, line_end, Marks, laid, laid_after, one, deeper, lines_between}
 use Rattle.shprint.specs.Printed.{print_for_words, print_word, print_form, print_branch, print_branches, print_else, print_content, print_entries, print_compound, print_further_comments, print_items, print_function_gap, is_brace, print_cases, print_comment_lines, case_margin}
+use Rattle.shprint.specs.Written.{print_condition}
 use Rattle.shprint.proofs.Tokens.{none_first, end_here, for_here, if_here, while_here, until_here, brace_here, open_token, close_token, first, byte_here, start_here, all_blank, no_gap, case_here}
 use Rattle.shprint.proofs.Gives.{Gives, gives, ◌⟫◌, given_here, seen_here, pushed_here, first_of, second_of, last_turn}
 use Rattle.shprint.proofs.Held.{At, Document, Emptied, Followed, Held, StandsIn, emptied, g, held_bytes, lay, no_bytes, nothing_held, state, texts_of}
@@ -267,18 +268,18 @@ module _ {edition : Edition} {B T : List ℕ} {o : ℕ} {S : StandsIn edition B 
   form_opened h m (subshell es) p rest good at = opened_paren h p (form_rest y m (subshell es) rest) at
   form_opened h m (if_then (branch condition body) bs other) p rest good at =
       let ms = text (codes "then") ∷ block_marks y m body (if_rest y m bs other rest) in
-      opened_by h openers.If reserved.If p (cond_marks y m condition ++ ms) refl refl refl
-      (key_by S (codes "if") reserved.If (cond_marks y m condition ++ ms) (condition_end y m condition ms)
+      opened_by h openers.If reserved.If p (print_condition y m condition ++ ms) refl refl refl
+      (key_by S (codes "if") reserved.If (print_condition y m condition ++ ms) (condition_end y m condition ms)
       (λ p x xs clear stops at. if_here T p x xs clear stops at)) at
   form_opened h m (while_do (branch condition body)) p rest good at =
       let ms = text (codes "do") ∷ block_marks y m body (text (codes "done") ∷ rest) in
-      opened_by h openers.While reserved.While p (cond_marks y m condition ++ ms) refl refl refl
-      (key_by S (codes "while") reserved.While (cond_marks y m condition ++ ms) (condition_end y m condition ms)
+      opened_by h openers.While reserved.While p (print_condition y m condition ++ ms) refl refl refl
+      (key_by S (codes "while") reserved.While (print_condition y m condition ++ ms) (condition_end y m condition ms)
       (λ p x xs clear stops at. while_here T p x xs clear stops at)) at
   form_opened h m (until_do (branch condition body)) p rest good at =
       let ms = text (codes "do") ∷ block_marks y m body (text (codes "done") ∷ rest) in
-      opened_by h openers.Until reserved.Until p (cond_marks y m condition ++ ms) refl refl refl
-      (key_by S (codes "until") reserved.Until (cond_marks y m condition ++ ms) (condition_end y m condition ms)
+      opened_by h openers.Until reserved.Until p (print_condition y m condition ++ ms) refl refl refl
+      (key_by S (codes "until") reserved.Until (print_condition y m condition ++ ms) (condition_end y m condition ms)
       (λ p x xs clear stops at. until_here T p x xs clear stops at)) at
   form_opened h m (for_in name words body) p rest good at =
       let ms = print_word name ++ head_marks y m words (block_marks y m body (text (codes "done") ∷ rest)) in

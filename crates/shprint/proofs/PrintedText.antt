@@ -1,10 +1,9 @@
 -- One printed text, from an offset of all that was printed on: what its marks lay down, which tokens stand in
 -- it, and what is read of it between commands: newlines, comments, and what follows an operator.
-use Rattle.std.proofs.Common.{◌≡◌, ℕ, zero, suc, ◌+◌, ◌<◌, ◌≤◌, ◌==◌, Bool, true, false, ◌||◌, List, List as Row, [], ◌∷◌, ◌++◌, length, drop, codes, if◌then◌else◌, Option, Some, None, is_some, slice_get, refl, sym, ap, subst, ◌∙◌, arith, append_assoc, append-nil}
+use Rattle.std.proofs.Common.{◌≡◌, ℕ, zero, suc, ◌+◌, ◌<◌, ◌≤◌, ◌==◌, Bool, true, false, ◌||◌, List, List as Row, [], ◌∷◌, ◌++◌, length, drop, codes, if◌then◌else◌, Some, None, is_some, slice_get, refl, sym, ap, subst, ◌∙◌, arith, append_assoc, append-nil}
 use Rattle.std.proofs.Math.ListN.{replicate}
 use Rattle.std.proofs.Math.Bool.{or-true, or-false}
 use Rattle.std.proofs.lemmas.Bool.{both_ways, lt-ltb, and_from, and_parts, cond_both}
-use Rattle.std.proofs.lemmas.Bool.Decides.{nat_tests}
 use Rattle.std.proofs.lemmas.List.{length-drop}
 use Rattle.shgrammar.specs.declared.edition.Edition.{Edition}
 use Rattle.shgrammar.specs.declared.token.Next.{Next}
@@ -23,6 +22,10 @@ use Rattle.shgrammar.specs.Standing.{is_byte, raw_stands}
 use Rattle.shgrammar.specs.Tokens.{is_comment, token_in, token_of, token_at, next_in, next_at}
 use Rattle.shgrammar.specs.Sights.{the_token, the_comment, blanks, one_byte, a_comment_on}
 use Rattle.shgrammar.specs.Form.{Form, give, move, leads_on, again, done, many}
+use Rattle.shgrammar.specs.Words.{a_word}
+use Rattle.shgrammar.specs.Levels.{level}
+use Rattle.shgrammar.proofs.Anywhere.{WordOf}
+use Rattle.shgrammar.proofs.WordsWaiting.{word_waiting}
 use Rattle.shast.specs.Normal.{is_normal_join}
 use Rattle.shgrammar.specs.Commands.{begins_pipeline, a_newline, a_comment, join_turn, join_so, a_join_of, a_join, begins_simple, opener_of, is_newline_token, is_bang, next_token, is_paren}
 use Rattle.shgrammar.proofs.Places.{must_fail, blanks_low}
@@ -32,13 +35,13 @@ use Rattle.shast.specs.declared.tree.AndOrOperator.{AndOrOperator}
 use Rattle.shast.specs.declared.tree.AndOrOperator.TheVariants.{And, Or}
 use Rattle.shast.specs.declared.tree.Span.{Span}
 use Rattle.shast.specs.Spelling.{and_or_text}
-use Rattle.shast.specs.Shape.{Text, text_at, shape_of_comments, shape_of_join}
-use Rattle.shast.specs.Tree.{AJoinOf, AJoin}
+use Rattle.shast.specs.Shape.{Text, Shape, text_at, shape_of_comments, shape_of_join}
+use Rattle.shast.specs.Tree.{AJoinOf, AJoin, SubstsOf, word}
 use Rattle.shprint.specs.declared.layout.Layout.{Layout}
 use Rattle.shprint.specs.Marks.{text, line_end, document, Marks, laid_after, one, step, deeper}
 use Rattle.shprint.specs.Printed.{operand_margin, breaks_line, print_comments, print_further_comments}
-use Rattle.shprint.proofs.Tokens.{pipe_token, and_token, or_token, first, byte_here, newline_token, start_here, skip, Gap, Start, all_blank, blanks_gap, no_gap, next_after, word_stays}
-use Rattle.shprint.proofs.Gives.{Gives, ◌⟫◌, given_here, seen_here, moved_here, pushed_here, first_of, second_of, last_turn, one_turn}
+use Rattle.shprint.proofs.Tokens.{pipe_token, and_token, or_token, first, byte_here, newline_token, start_here, skip, Gap, Start, all_blank, blanks_gap, no_gap, next_after, word_stays, that_byte}
+use Rattle.shprint.proofs.Gives.{Gives, gives, ◌⟫◌, given_here, seen_here, moved_here, pushed_here, first_of, second_of, last_turn, one_turn}
 use Rattle.shprint.proofs.Held.{At, Followed, Held, StandsIn, emptied, g, held_bytes, lay, state, text_of_span, texts_of}
 use Rattle.shprint.proofs.Good.{GoodComments}
 
@@ -210,10 +213,6 @@ module _ {edition : Edition} {B T : List ℕ} {o : ℕ} (S : StandsIn edition B 
   pub at_text : (h : Held) (p : ℕ) (t : Text) (ms : Marks) → At S h p (text t ∷ ms) → At S h (p + length t) ms
   at_text h p t ms at = skip T p t (lay h ms) (at ∙ laid_text h t ms)
 
-  -- the text of a span
-  pub span_text : (p : ℕ) (w zs : List ℕ) → drop p T ≡ w ++ zs → text_at B (span o p (p + length w)) ≡ w
-  span_text p w zs at = text_of_span S p w zs at
-
   -- something stands at p
   pub some_here : (p c : ℕ) (xs : List ℕ) → drop p T ≡ c ∷ xs → p < length T
   some_here p c xs at = let e = ap length at in omega (arith, e, length-drop p T)
@@ -256,6 +255,12 @@ module _ {edition : Edition} {B T : List ℕ} {o : ℕ} (S : StandsIn edition B 
   pub one_moved : (h : Held) (p : ℕ) → past_byte T p ≡ p + 1 →
       Gives (g S) (move one_byte) (state h p) tt (state h (p + 1))
   one_moved h p on = subst (λ q. Gives (g S) (move one_byte) (state h p) tt (state h q)) on (moved_here one_byte)
+
+  -- a word that is printed here
+  pub printed_word : (room : ℕ) (h : Held) (w : Text) (ss : Shape SubstsOf) (p : ℕ)
+      (v : WordOf room (g S) p (length w) B (word w ss)) →
+      Gives (g S) (a_word (level room)) (state h p) v.0 (state h (p + length w))
+  printed_word room h w ss p v = gives _ (word_waiting room (g S) p (p + length w) v.0 _ (state h p) v.1.0)
 
   -- one byte that is read as it stands
   pub byte_moved : (h : Held) (p c : ℕ) (xs : Text) → (c == backslash) ≡ false → drop p T ≡ c ∷ xs →
@@ -369,7 +374,7 @@ module _ {edition : Edition} {B T : List ℕ} {o : ℕ} (S : StandsIn edition B 
   -- its span has its text
   pub comment_shape : (h : Held) (c : Text) (p : ℕ) (ms : Marks) → At S h p (text c ∷ ms) →
       text_at B (span o p (p + length c)) ≡ c
-  comment_shape h c p ms at = span_text p c (lay h ms) (at ∙ laid_text h c ms)
+  comment_shape h c p ms at = text_of_span S p c (lay h ms) (at ∙ laid_text h c ms)
 
   -- where a comment begins
   pub comment_start : (h : Held) (c : Text) (p : ℕ) (ms : Marks) → CommentAnywhere c →
@@ -747,16 +752,14 @@ module _ {edition : Edition} {B T : List ℕ} {o : ℕ} (S : StandsIn edition B 
     pub start : Start T p
     pub command : begins_command (told Command p) ≡ true
 
-  pub no_sharp : (p : ℕ) → past_continuations T p ≡ p → is_comment (told Command p) ≡ false → raw_stands T p number_sign ≡ false
+  -- where no comment is told no number sign stands
+  pub no_sharp : (p : ℕ) → past_continuations T p ≡ p → is_comment (told Command p) ≡ false →
+      raw_stands T p number_sign ≡ false
   unfolding raw_stands token_at
   no_sharp p place none = must_fail (is_byte (slice_get T p) number_sign)
       (λ e. both_ways (is_comment (token_in edition (token_of Command T p (byte_at T p)))) none
       (ap (λ b. is_comment (token_in edition (token_of Command T p b)))
-      (ap (slice_get T) place ∙ sharp (slice_get T p) e)))
-    where
-      sharp : (x : Option ℕ) → is_byte x 35 ≡ true → x ≡ Some 35
-      sharp None e = absurd cc
-      sharp (Some b) e = let is : b ≡ 35 = grind (arith, nat_tests) in ap Some is
+      (ap (slice_get T) place ∙ that_byte (slice_get T p) number_sign e)))
 
   -- a command may stand after an operator
   pub begins_operand : (p : ℕ) → Begins p → Operand p

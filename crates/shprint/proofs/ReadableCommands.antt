@@ -13,7 +13,7 @@ use Rattle.shgrammar.specs.declared.token.Token.{Token}
 use Rattle.shgrammar.specs.declared.token.Token.TheVariants as tokens
 use Rattle.shast.specs.declared.tree.AndOrOperator.{AndOrOperator}
 use Rattle.shast.specs.declared.tree.Span.{Span}
-use Rattle.shast.specs.Tree.{AHere, AHereOf, AJoin, AnAndOr, APipeline, APipelinePart, AnAndOrPart, ACommand, AForm, pipeline_parts_of, and_or_parts_of, AnEntry, AnItem, AWord, item, entry, items_of, ItemsOf, no_item, AnItemOf, AWordOf, SubstsOf, word, substs_of, ACompound, compound, argument, AFormOf, formed, redirect, with_redirects, command, and_or, pipeline, simple, function}
+use Rattle.shast.specs.Tree.{AHere, AHereOf, AJoin, AnAndOr, APipeline, APipelinePart, AnAndOrPart, ACommand, AForm, pipeline_parts_of, and_or_parts_of, AnEntry, AnItem, AWord, item, entry, items_of, ItemsOf, no_item, AnItemOf, AWordOf, SubstsOf, word, substs_of, ACompound, compound, argument, AFormOf, formed, redirect, with_redirects, command, and_or, pipeline, simple}
 use Rattle.shast.specs.Shape.{Text, Shape, bare_at, text_at, shape_of_comment, shape_of_entry, shape_of_and_or, shape_of_and_or_parts, shape_of_pipeline, shape_of_pipes, shape_of_command, shape_of_form, shape_of_items, shape_of_item, shape_of_word, shape_of_substs, shape_of_compound, shape_of_here}
 use Rattle.shgrammar.specs.Comments.{span}
 use Rattle.shgrammar.specs.Tokens.{is_name_at, token_at}

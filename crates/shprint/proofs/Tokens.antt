@@ -247,8 +247,10 @@ second : {T : List ℕ} {p c d : ℕ} {xs : List ℕ} (x : ℕ) → (d == backsl
 second {T = T} {p = p} {d = d} {xs = xs} x clear r = ap (λ q. stands T q x) r.place_after
     ∙ is_here x (byte_here T (p + 1) d xs clear r.rest)
 
-pub semicolon_token : (position : Position) (T : List ℕ) (p d : ℕ) (xs : List ℕ) → (d == backslash) ≡ false → (d == semicolon) ≡ false
-    → (d == ampersand) ≡ false → drop p T ≡ semicolon ∷ d ∷ xs → token_at position T p ≡ tokens.Semicolon
+-- tokens of one byte, where the next one makes no longer token of it
+pub semicolon_token : (position : Position) (T : List ℕ) (p d : ℕ) (xs : List ℕ) → (d == backslash) ≡ false →
+    (d == semicolon) ≡ false → (d == ampersand) ≡ false → drop p T ≡ semicolon ∷ d ∷ xs →
+    token_at position T p ≡ tokens.Semicolon
 semicolon_token position T p d xs clear other no_ampersand at =
     let r = byte_here T p semicolon (d ∷ xs) refl at in
     token_here position r ∙ rw (second semicolon clear r, other, second ampersand clear r, no_ampersand) refl
@@ -331,7 +333,7 @@ abbrev pub first_same : List ℕ → Row Spelling → Option Reserved
 first_same w [] = None
 first_same w (v ∷ vs) = cond (same_word v.0 w) (Some v.1) (first_same w vs)
 
-not_true : (b : Bool) → not b ≡ true → b ≡ false
+pub not_true : (b : Bool) → not b ≡ true → b ≡ false
 not_true true e = absurd cc
 not_true false e = refl
 
@@ -387,8 +389,9 @@ name_clear c e = grind (arith, nat_tests)
 ends_no_name : (x : ℕ) → ends (Some x) ≡ true → is_name x ≡ false
 ends_no_name x e = grind (arith, nat_tests)
 
-names_here : (T : List ℕ) (p x : ℕ) (cs xs : List ℕ) → (x == backslash) ≡ false → ends (Some x) ≡ true → all_names cs ≡ true →
-    drop p T ≡ cs ++ x ∷ xs → past is_name T p ≡ p + length cs
+-- bytes of names are passed up to what ends the word
+names_here : (T : List ℕ) (p x : ℕ) (cs xs : List ℕ) → (x == backslash) ≡ false → ends (Some x) ≡ true →
+    all_names cs ≡ true → drop p T ≡ cs ++ x ∷ xs → past is_name T p ≡ p + length cs
 names_here T p x [] xs clear stops all at =
     let e : p + 0 ≡ p = omega arith in
     past_none is_name T p (in_class is_name (byte_here T p x xs clear at) ∙ ends_no_name x stops) ∙ sym e
@@ -640,9 +643,15 @@ pub record NoLonger (T : List ℕ) (q : ℕ) : Type 0 where
 pub space_no_longer : (T : List ℕ) (q : ℕ) (xs : List ℕ) → drop q T ≡ space ∷ xs → NoLonger T q
 space_no_longer T q xs at =
     let r = byte_here T q space xs refl at in
-    record { no_less = is_here less_than_sign r; no_greater = is_here greater_than_sign r; no_ampersand = is_here ampersand r; no_bar = is_here vertical_line r }
+    record {
+      no_less = is_here less_than_sign r;
+      no_greater = is_here greater_than_sign r;
+      no_ampersand = is_here ampersand r;
+      no_bar = is_here vertical_line r;
+    }
 
-that_byte : (x : Option ℕ) (c : ℕ) → is_byte x c ≡ true → x ≡ Some c
+-- a test for a byte tells it
+pub that_byte : (x : Option ℕ) (c : ℕ) → is_byte x c ≡ true → x ≡ Some c
 that_byte None c e = absurd cc
 that_byte (Some b) c e = let same : b ≡ c = grind (arith, nat_tests) in ap Some same
 
@@ -747,7 +756,8 @@ pub record NumberHere (position : Position) (T : List ℕ) (p : ℕ) (t : List �
   pub token : token_at position T p ≡ tokens.Number
   pub past_it : past_digits T p ≡ p + length t
 
-digit_clear : (c : ℕ) → is_digit c ≡ true → (c == backslash) ≡ false
+-- a digit is no backslash and no blank
+pub digit_clear : (c : ℕ) → is_digit c ≡ true → (c == backslash) ≡ false
 digit_clear c e = grind (arith, nat_tests)
 
 digit_no_blank : (c : ℕ) → is_digit c ≡ true → is_blank c ≡ false
