@@ -19,6 +19,7 @@ pub mod Gives
 pub mod Tokens
 pub mod Held
 pub mod PrintedText
+pub mod PrintedRedirects
 pub mod PrintedItems
 pub mod PrintedCommands
 pub mod PrintedLists
