@@ -39,7 +39,7 @@ use Rattle.shprint.proofs.Good.{GoodForm, GoodEntries, GoodComments, GoodWord, G
 use Rattle.shprint.proofs.PrintedText.{laid_text, Alike, laid_same, deeper_blank, Parted, no_more, Adds, at_text, some_here, leads, told, asked, asked_after, tell, tell_word, next_read, some_word, byte_moved, byte_after, no_byte, comment_shape, comment_start, margin_gap, Operand, last_join_turn, comment_join_turn, newline_join_turn, cons_shape, joined, space_then, pipe_follower, no_sharp, printed_word, one_moved}
 use Rattle.shprint.proofs.PrintedCommands.{Fine}
 use Rattle.shprint.proofs.PrintedLists.{at_line_start, line_end_here, Closes, empty_line, list_ends, list_read}
-use Rattle.shprint.proofs.PrintedCompounds.{Ends, line_end_end, Key, ReservedRead, paren_alone, reserved_read, key_by, in_key, Finished, no_lines, closing_read}
+use Rattle.shprint.proofs.PrintedReserved.{Ends, line_end_end, Key, ReservedRead, paren_alone, reserved_read, key_by, in_key, Finished, no_lines, closing_read}
 
 -- ---- what stands after a pattern
 
@@ -758,7 +758,7 @@ module _ {edition : Edition} {B T : List ℕ} {o : ℕ} {S : StandsIn edition B 
         texts = λ ts. c.texts ts ∙ l.texts (cases_bodies items ts);
         reads = (first_of _ _ v.begin (v.reads ⟫ next_read S h Command v.e ⟫ given_here) ⟫ no_lines S h
             (asked S Command v.e) (past_blanks T v.e) k.not_comment (ap is_newline_token k.token_is)
-            ⟫ closing_read fine h closings.In reserved.In v.e X refl refl k ⟫ l.reads ⟫ given_here) ⟫ c.reads ⟫
-            closing_read fine c.later closings.Esac reserved.Esac c.f rest refl refl c.key ⟫ given_here;
+            ⟫ closing_read S room h closings.In reserved.In v.e X refl refl k ⟫ l.reads ⟫ given_here) ⟫ c.reads ⟫
+            closing_read S room c.later closings.Esac reserved.Esac c.f rest refl refl c.key ⟫ given_here;
         is = case_shape v.value c.value c.comments w items tail v.shape c.shape c.tail_shape;
       }

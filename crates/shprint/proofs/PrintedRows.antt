@@ -45,7 +45,10 @@ use Rattle.shprint.proofs.Good.{GoodForm, GoodContent, GoodOwnComment, GoodCompo
 use Rattle.shprint.proofs.PrintedText.{laid_text, after_line, laid_line, Alike, laid_same, no_more, Adds, at_text, told, asked, asked_after, tell, next_read, one_moved, Got, Follower, Opens, margin_gap, Operand, last_join_turn, JoinLines, newline_lines, commented, begins_operand}
 use Rattle.shprint.proofs.PrintedCommands.{bare_compound, opens_by, function_rest, Fine, whole_compound}
 use Rattle.shprint.proofs.PrintedLists.{entry_rest, line_end_here, nothing_on_line, entry_on_line, content_start}
-use Rattle.shprint.proofs.PrintedCompounds.{follows_end, Ends, line_end_end, space_end, cond_marks, block_marks, between_is, if_rest, condition_end, branch_marks, branch_is, head_marks, head_is, Key, reserved_or_paren_by, paren_alone, key_by, Finished, loop_read, if_read, for_read, group_read, subshell_read}
+use Rattle.shprint.proofs.PrintedReserved.{follows_end, Ends, line_end_end, space_end, Key, reserved_or_paren_by, paren_alone, key_by, Finished}
+use Rattle.shprint.proofs.PrintedGroups.{block_marks, between_is, condition_end, group_read, subshell_read}
+use Rattle.shprint.proofs.PrintedBranches.{if_rest, branch_marks, branch_is, loop_read, if_read}
+use Rattle.shprint.proofs.PrintedFor.{head_marks, head_is, for_read}
 use Rattle.shprint.proofs.PrintedCases.{case_marks, items_are, case_read}
 
 -- ---- the end of the text, and no entries
