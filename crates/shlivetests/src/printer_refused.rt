@@ -4,7 +4,7 @@ use shprint::{Layout, print};
 use shread::{Edition, Reader};
 use shtext::Flat;
 use shtreetests::growths::Growths;
-use shtreetests::table::rows;
+use shtreetests::table::{cells, counted};
 use std::alloc::{AllocError, Global};
 use std::process::Abort;
 use std::test::Fail;
@@ -59,10 +59,8 @@ const SCRIPTS: &[u8] = br#"
 #[test]
 fn tree(rt: HostRuntime) -> Result<(), Fail> {
     prints(&rt, rt.alloc(), SCRIPT, TEXT)?;
-    for row in &rows(rt.alloc(), SCRIPTS)? {
-        let [script, text] = row.as_slice() else {
-            return Err(Fail::from("no row"));
-        };
+    for row in &counted(rt.alloc(), SCRIPTS, 4)? {
+        let [script, text] = cells::<2>(row)?;
         prints(&rt, rt.alloc(), &script.bytes, &text.bytes)?;
     }
     Ok(())

@@ -6,7 +6,7 @@ use shtext::{Flat, Source};
 use shtreetests::both::Both;
 use shtreetests::dice::Dice;
 use shtreetests::in_pieces::InPieces;
-use shtreetests::table::rows;
+use shtreetests::table::{cells, counted, one_row, picked, rows};
 use std::alloc::Global;
 use std::process::Abort;
 use std::test::Fail;
@@ -63,15 +63,7 @@ const SCRIPTS: &[u8] = br###"
 "###;
 
 /// What is put into a script.
-const NEW: [&[u8]; 7] = [
-    b"a",
-    b" ",
-    b"\n",
-    b"; b\n",
-    b"$(c)",
-    b"\nd <<E; e\nf\nE\n",
-    b"# g\n",
-];
+const NEW: &[u8] = br##"("a", " ", "\n", "; b\n", "$(c)", "\nd <<E; e\nf\nE\n", "# g\n")"##;
 
 /// The printed text of a script by an edition, in parts: of the whole lines at its front first, and then of
 /// what follows.
@@ -148,9 +140,7 @@ fn judge(
     table: &[u8],
 ) -> Result<(), Fail> {
     for (at, row) in rows(alloc, table)?.iter().enumerate() {
-        let [script, text] = row.as_slice() else {
-            return Err(Fail::from("no row"));
-        };
+        let [script, text] = cells::<2>(row)?;
         for bytes in [&script.bytes, &text.bytes] {
             let found = printed(alloc, edition, layout, bytes)?;
             assert!(rt; found == text.bytes, "row {at}");
@@ -176,13 +166,11 @@ fn blanks(rt: HostRuntime) -> Result<(), Fail> {
     judge(&rt, rt.alloc(), Edition::Y2017, &layout, table)
 }
 
-/// The scripts of a table, one after the other, with a newline after each.
-fn all_scripts(alloc: Global, table: &[u8]) -> Result<Vec<u8>, Fail> {
+/// The scripts of `SCRIPTS`, one after the other, with a newline after each.
+fn all_scripts(alloc: Global) -> Result<Vec<u8>, Fail> {
     let mut text = Vec::new(alloc);
-    for row in &rows(alloc, table)? {
-        let [script, _] = row.as_slice() else {
-            return Err(Fail::from("no row"));
-        };
+    for row in &counted(alloc, SCRIPTS, 54)? {
+        let [script, _] = cells::<2>(row)?;
         text.extend_from_slice(&script.bytes)?;
         text.push(b'\n')?;
     }
@@ -195,15 +183,16 @@ fn all_scripts(alloc: Global, table: &[u8]) -> Result<Vec<u8>, Fail> {
 fn over_a_buffer(rt: HostRuntime) -> Result<(), Fail> {
     let alloc = rt.alloc();
     let layout = Layout::new(0, false, false, false)?;
-    let scripts = all_scripts(alloc, SCRIPTS)?;
+    let scripts = all_scripts(alloc)?;
     let mut both = Both::of(alloc, &scripts)?;
     for _ in 0..9 {
         both.edit(0, 0, &scripts)?;
     }
+    let news = one_row(alloc, NEW, 7)?;
     let mut dice = Dice(46);
     for turn in 0..1_000 {
         let (a, b) = both.part(&mut dice, 30);
-        let new = NEW.get(dice.below(NEW.len())).copied().unwrap_or(b"");
+        let new = picked(&news, &mut dice);
         let old = both.edit(a, b, new)?;
         let mut reader = Reader::for_edition(alloc, Edition::Y2017);
         if reader.first_fault(&both.buffer)?.is_some() {
@@ -253,19 +242,48 @@ fn later_edition(rt: HostRuntime) -> Result<(), Fail> {
     judge(&rt, rt.alloc(), Edition::Y2024, &layout, LATER_INDENTED)
 }
 
+/// The fault of this number.
+fn kind_of(number: usize) -> Result<FaultKind, Fail> {
+    Ok(match number {
+        1 => FaultKind::UnclosedSingle,
+        2 => FaultKind::UnclosedDouble,
+        3 => FaultKind::UnclosedBackquote,
+        4 => FaultKind::UnclosedParam,
+        5 => FaultKind::UnclosedArith,
+        6 => FaultKind::BadArithClose,
+        7 => FaultKind::UnclosedSubst,
+        8 => FaultKind::LoneBackslash,
+        9 => FaultKind::UnclosedHere,
+        10 => FaultKind::BadHereWord,
+        11 => FaultKind::Unexpected,
+        12 => FaultKind::UnexpectedEnd,
+        13 => FaultKind::BadForName,
+        14 => FaultKind::BadFunctionName,
+        15 => FaultKind::TooDeep,
+        16 => FaultKind::UnclosedDollarSingle,
+        _ => return Err(Fail::from("no fault")),
+    })
+}
+
+/// Scripts, and the number and the offset of the fault of each.
+const FAULTY: &[u8] = br#"
+("a\nb;;": "fault" 11, "at" 3) ("a\n\n'": "fault" 1, "at" 3) ("a &&\n": "fault" 12, "at" 5)
+("for 1 in a; do b; done\n": "fault" 13, "at" 4) ("my-f() { a; }\n": "fault" 14, "at" 0)
+("a\nb $(c;;)": "fault" 11, "at" 7) ("a\n\"$(b\n": "fault" 7, "at" 3)
+"#;
+
+/// What a script is not printed for.
+fn refusal(alloc: Global, layout: &Layout, script: &[u8]) -> Option<PrintError> {
+    print_source(alloc, Edition::Y2017, layout, &Flat::new(script)).err()
+}
+
 #[test]
 fn faulty(rt: HostRuntime) -> Result<(), Fail> {
     let layout = Layout::new(0, false, false, false)?;
-    for (script, kind, at) in [
-        (b"a\nb;;".as_slice(), FaultKind::Unexpected, 3),
-        (b"a\n\n'", FaultKind::UnclosedSingle, 3),
-        (b"a &&\n", FaultKind::UnexpectedEnd, 5),
-        (b"for 1 in a; do b; done\n", FaultKind::BadForName, 4),
-        (b"my-f() { a; }\n", FaultKind::BadFunctionName, 0),
-        (b"a\nb $(c;;)", FaultKind::Unexpected, 7),
-        (b"a\n\"$(b\n", FaultKind::UnclosedSubst, 3),
-    ] {
-        let error = print_source(rt.alloc(), Edition::Y2017, &layout, &Flat::new(script)).err();
+    for row in &counted(rt.alloc(), FAULTY, 7)? {
+        let [script, kind, at] = cells::<3>(row)?;
+        let (kind, at) = (kind_of(kind.number)?, at.number);
+        let error = refusal(rt.alloc(), &layout, &script.bytes);
         assert!(rt;
             error == Some(PrintError::Faulty(Fault { kind, at })),
             "{at}"
@@ -274,46 +292,33 @@ fn faulty(rt: HostRuntime) -> Result<(), Fail> {
     Ok(())
 }
 
+/// The messages of the faults of these numbers.
+const MESSAGES: &[u8] = br#"
+("a:1:20: unclosed single quote\n" 1)
+("a:1:20: unclosed double quote\n" 2)
+("a:1:20: unclosed backquote\n" 3)
+("a:1:20: unclosed parameter expansion\n" 4)
+("a:1:20: unclosed arithmetic expansion\n" 5)
+("a:1:20: arithmetic expansion closed by one bracket\n" 6)
+("a:1:20: unclosed command substitution\n" 7)
+("a:1:20: backslash at the end\n" 8)
+("a:1:20: unclosed here-document\n" 9)
+("a:1:20: here-document word with an expansion\n" 10)
+("a:1:20: unexpected token\n" 11)
+("a:1:20: unexpected end\n" 12)
+("a:1:20: bad name after for\n" 13)
+("a:1:20: bad function name\n" 14)
+("a:1:20: too many open constructs\n" 15)
+("a:1:20: unclosed dollar-single quote\n" 16)
+"#;
+
 #[test]
 fn messages(rt: HostRuntime) -> Result<(), Fail> {
-    for (kind, line) in [
-        (FaultKind::UnclosedSingle, "a:1:20: unclosed single quote\n"),
-        (FaultKind::UnclosedDouble, "a:1:20: unclosed double quote\n"),
-        (FaultKind::UnclosedBackquote, "a:1:20: unclosed backquote\n"),
-        (
-            FaultKind::UnclosedParam,
-            "a:1:20: unclosed parameter expansion\n",
-        ),
-        (
-            FaultKind::UnclosedArith,
-            "a:1:20: unclosed arithmetic expansion\n",
-        ),
-        (
-            FaultKind::BadArithClose,
-            "a:1:20: arithmetic expansion closed by one bracket\n",
-        ),
-        (
-            FaultKind::UnclosedSubst,
-            "a:1:20: unclosed command substitution\n",
-        ),
-        (FaultKind::LoneBackslash, "a:1:20: backslash at the end\n"),
-        (FaultKind::UnclosedHere, "a:1:20: unclosed here-document\n"),
-        (
-            FaultKind::BadHereWord,
-            "a:1:20: here-document word with an expansion\n",
-        ),
-        (FaultKind::Unexpected, "a:1:20: unexpected token\n"),
-        (FaultKind::UnexpectedEnd, "a:1:20: unexpected end\n"),
-        (FaultKind::BadForName, "a:1:20: bad name after for\n"),
-        (FaultKind::BadFunctionName, "a:1:20: bad function name\n"),
-        (FaultKind::TooDeep, "a:1:20: too many open constructs\n"),
-        (
-            FaultKind::UnclosedDollarSingle,
-            "a:1:20: unclosed dollar-single quote\n",
-        ),
-    ] {
+    for row in &counted(rt.alloc(), MESSAGES, 16)? {
+        let [line] = cells::<1>(row)?;
+        let kind = kind_of(line.number)?;
         let text = message(rt.alloc(), b"a", 1, 20, Fault { kind, at: 7 })?;
-        assert!(rt; text.as_slice() == line.as_bytes(), "{line}");
+        assert!(rt; text == line.bytes, "fault {}", line.number);
     }
     Ok(())
 }

@@ -5,7 +5,7 @@ use crate::session_windows::is_right;
 use shlive::Session;
 use shread::{Fault, FaultKind};
 use shtreetests::spliced::part;
-use shtreetests::table::rows;
+use shtreetests::table::{cells, counted};
 use std::alloc::Global;
 use std::process::Abort;
 use std::test::Fail;
@@ -38,10 +38,8 @@ fn type_script(rt: &impl Abort, alloc: Global, script: &[u8]) -> Result<(), Fail
 
 #[test]
 fn typed(rt: HostRuntime) -> Result<(), Fail> {
-    for row in &rows(rt.alloc(), SCRIPTS)? {
-        let [script] = row.as_slice() else {
-            return Err(Fail::from("no row"));
-        };
+    for row in &counted(rt.alloc(), SCRIPTS, 6)? {
+        let [script] = cells::<1>(row)?;
         type_script(&rt, rt.alloc(), &script.bytes)?;
     }
     Ok(())

@@ -9,7 +9,7 @@ use shtext::{Input, Output, Splice};
 use shtreetests::devices::{PAGE, Page, Same};
 use shtreetests::growths::Growths;
 use shtreetests::spliced::{part, spliced_all};
-use shtreetests::table::rows;
+use shtreetests::table::{cells, counted, one_row};
 use std::alloc::{AllocError, Global};
 use std::io::Read;
 use std::process::Abort;
@@ -20,13 +20,13 @@ const SCRIPT: &[u8] = b"if a; then b; fi\nf() { echo $(c | d); }\n";
 const NEW: &[u8] = b"while e; do f; done\n";
 
 /// The scripts: an `if` and a function, here-documents, a `case`, a loop, a function alone.
-const SCRIPTS: [&[u8]; 5] = [
-    SCRIPT,
-    b"cat <<A <<'B' && c\n1\nA\n2\nB\n",
-    b"case $1 in # k\n-h|--help) usage;;\n(*) ;; # rest\nesac\n",
-    b"for i in a \\\n  b # n\ndo echo \"$i\"; done >f\n",
-    b"f() { echo $(a | b); }\n",
-];
+const SCRIPTS: &[u8] = br#"
+("if a; then b; fi\nf() { echo $(c | d); }\n")
+("cat <<A <<'B' && c\n1\nA\n2\nB\n")
+("case $1 in # k\n-h|--help) usage;;\n(*) ;; # rest\nesac\n")
+("for i in a \\\n  b # n\ndo echo \"$i\"; done >f\n")
+("f() { echo $(a | b); }\n")
+"#;
 
 /// Refuses each growth of an `open` in turn.
 fn opened_in_turn(rt: &impl Abort, alloc: Global, script: &[u8]) -> Result<(), Fail> {
@@ -47,8 +47,9 @@ fn opened_in_turn(rt: &impl Abort, alloc: Global, script: &[u8]) -> Result<(), F
 
 #[test]
 fn open(rt: HostRuntime) -> Result<(), Fail> {
-    for script in SCRIPTS {
-        opened_in_turn(&rt, rt.alloc(), script)?;
+    for row in &counted(rt.alloc(), SCRIPTS, 5)? {
+        let [script] = cells::<1>(row)?;
+        opened_in_turn(&rt, rt.alloc(), &script.bytes)?;
     }
     Ok(())
 }
@@ -125,10 +126,8 @@ const EDITS: &[u8] = br#"
 
 #[test]
 fn edits(rt: HostRuntime) -> Result<(), Fail> {
-    for row in &rows(rt.alloc(), EDITS)? {
-        let [script, new] = row.as_slice() else {
-            return Err(Fail::from("no row"));
-        };
+    for row in &counted(rt.alloc(), EDITS, 12)? {
+        let [script, new] = cells::<2>(row)?;
         let splices = [part(script.number, new.number, &new.bytes)];
         each_refused(&rt, rt.alloc(), &script.bytes, &splices, 1)?;
     }
@@ -188,17 +187,19 @@ fn asked_in_turn(
     Ok(())
 }
 
+/// Asks a session on a script each question in turn.
+fn each_asked(rt: &impl Abort, alloc: Global, script: &[u8]) -> Result<(), Fail> {
+    asked_in_turn(rt, alloc, script, Question::Outline)?;
+    asked_in_turn(rt, alloc, script, Question::NodesAt(13))?;
+    asked_in_turn(rt, alloc, script, Question::NodesAt(5))?;
+    asked_in_turn(rt, alloc, script, Question::Print)
+}
+
 #[test]
 fn questions(rt: HostRuntime) -> Result<(), Fail> {
-    for script in SCRIPTS {
-        for question in [
-            Question::Outline,
-            Question::NodesAt(13),
-            Question::NodesAt(5),
-            Question::Print,
-        ] {
-            asked_in_turn(&rt, rt.alloc(), script, question)?;
-        }
+    for row in &counted(rt.alloc(), SCRIPTS, 5)? {
+        let [script] = cells::<1>(row)?;
+        each_asked(&rt, rt.alloc(), &script.bytes)?;
     }
     Ok(())
 }
@@ -260,24 +261,38 @@ fn replied_in_turn(
     Ok(())
 }
 
-#[test]
-fn replies(rt: HostRuntime) -> Result<(), Fail> {
-    for script in SCRIPTS {
-        for requests in [
-            b"outline\nfault\n".as_slice(),
-            b"at 13\nfault\n",
-            b"print\nfault\n",
-            b"edit 0 0 4\na b\n\nfault\n",
-        ] {
-            replied_in_turn(&rt, rt.alloc(), script, requests)?;
-        }
+const REQUESTS: &[u8] = br#"
+("outline\nfault\n", "at 13\nfault\n", "print\nfault\n", "edit 0 0 4\na b\n\nfault\n")
+"#;
+
+/// Refuses each growth of requests on a script in turn.
+fn each_replied(rt: &impl Abort, alloc: Global, script: &[u8]) -> Result<(), Fail> {
+    for requests in &one_row(alloc, REQUESTS, 4)? {
+        replied_in_turn(rt, alloc, script, &requests.bytes)?;
     }
     Ok(())
 }
 
 #[test]
+fn replies(rt: HostRuntime) -> Result<(), Fail> {
+    for row in &counted(rt.alloc(), SCRIPTS, 5)? {
+        let [script] = cells::<1>(row)?;
+        each_replied(&rt, rt.alloc(), &script.bytes)?;
+    }
+    Ok(())
+}
+
+/// What a run may write where a growth is refused: `no memory` in the place of one reply.
+const WITHOUT_ONE: &[u8] = br#"
+("no memory\noutline 2\n0 1 simple\n2 3 simple\ntext 4\na\nb\n\nnone\n",
+ "ok 5 0\nno memory\ntext 6\na\nb c\n\nnone\n",
+ "ok 5 0\noutline 2\n0 1 simple\n2 5 simple\nno memory\nnone\n")
+"#;
+
+#[test]
 fn requests(rt: HostRuntime) -> Result<(), Fail> {
     let alloc = rt.alloc();
+    let without_one = one_row(alloc, WITHOUT_ONE, 3)?;
     let mut growths = Growths::of(alloc);
     let asked = b"edit 3 3 2\n c\noutline\nprint\nfault\nquit\n";
     for _ in 1..200 {
@@ -289,13 +304,9 @@ fn requests(rt: HostRuntime) -> Result<(), Fail> {
             assert!(rt; page.text() == whole.as_slice());
             break;
         }
-        let is_told = [
-            b"no memory\noutline 2\n0 1 simple\n2 3 simple\ntext 4\na\nb\n\nnone\n".as_slice(),
-            b"ok 5 0\nno memory\ntext 6\na\nb c\n\nnone\n",
-            b"ok 5 0\noutline 2\n0 1 simple\n2 5 simple\nno memory\nnone\n",
-        ]
-        .iter()
-        .any(|text| page.text() == *text);
+        let is_told = without_one
+            .iter()
+            .any(|text| page.text() == text.bytes.as_slice());
         assert!(rt; is_told);
     }
     assert!(rt; growths.were_each_refused());

@@ -4,11 +4,14 @@ use shlive::{LiveError, Session, run};
 use shprint::Layout;
 use shread::Reader;
 use shtext::{Input, Output, Splice};
+use shtreetests::cell::{Cell, joined};
 use shtreetests::devices::{PAGE, Page, Same, Tape};
 use shtreetests::dice::Dice;
 use shtreetests::spliced::spliced;
+use shtreetests::table::{cells, counted, one_row, picked};
 use std::alloc::Global;
 use std::io::Read;
+use std::process::Abort;
 use std::test::Fail;
 
 /// A session on a script, which prints with a tab for each level.
@@ -72,137 +75,77 @@ const MENDED_REPLIES: &[u8] = b"ok 7 1\nfault 2 2 1 1\nok 6 0\nnone\ntext 6\na\n
 
 const FUNCTION: &[u8] = b"f() { echo $(a | b); }\n";
 
-const FUNCTION_REPLIES: &[u8] =
-    b"outline 7\n0 22 function f\n4 22 brace\n6 19 simple\n11 19 subst\n13 18 pipeline\n13 14 simple\n17 18 simple\nat 8\n0 22 function f\n4 22 brace\n6 19 simple\n11 19 word\n11 19 subst\n13 18 pipeline\n17 18 simple\n17 18 word\nat 0\n";
+/// Scripts, requests, and the replies with the status that ends the run.
+const ROWS: &[u8] = br#"
+("a\nb\nc\n", "edit 2 3 2\nbb\nquit\n", "ok 7 0\n" 0)
+("a\nb\nc\n", "edit 2 2 1\n'\nfault\nedit 2 3 0\n\nfault\nprint\nquit\n", "ok 7 1\nfault 2 2 1 1\nok 6 0\nnone\ntext 6\na\nb\nc\n\n" 0)
+("a\n\nb\n", "edit 0 2 0\n\nprint\n", "ok 3 0\ntext 2\nb\n\n" 0)
+("a\nb", "edit 5 9 0\n\nedit 0 0 1\nxy\noutline\nquit\n",
+ "no range\nno payload\noutline 2\n0 1 simple\n2 3 simple\n" 0)
+("", "print\noutline\nat 0\nfault\nedit 0 0 0\n\nquit\n", "text 0\n\noutline 0\nat 0\nnone\nok 0 0\n" 0)
+("a\n", "at 99\noutline \nedit 00 0 0\n\nquit\n", "at 0\nno request\nno request\nno request\n" 0)
+("a\n", "xxxxxxxxxxxxxxxxxxxxxxxxxxxxxxxxxxxxxxxxxxxxxxxxxxxxxxxxxxxxxxxxx\nquit\n", "no request\n" 0)
+("", "hello\nedit 0 0 5\nab", "no request\n" 2)
+("f() { echo $(a | b); }\n", "outline\nat 17\nat 23\n",
+ "outline 7\n0 22 function f\n4 22 brace\n6 19 simple\n11 19 subst\n13 18 pipeline\n13 14 simple\n17 18 simple\nat 8\n0 22 function f\n4 22 brace\n6 19 simple\n11 19 word\n11 19 subst\n13 18 pipeline\n17 18 simple\n17 18 word\nat 0\n" 0)
+("'", "print\noutline\nat 0\nquit\nprint\n", "none\noutline 0\nat 0\n" 1)
+("a\n", "quit", "" 2) ("a\n", "edit 0 0 1\nxy", "" 2)
+("a\n", "edit 0 1 0\n\n\nfault\n", "ok 1 0\nno request\nnone\n" 0)
+("a\n", "edit 1 0 1\nx\nedit 0 3 0\n\n", "no range\nno range\n" 0)
+("fo\\\nr_() { a; }\n", "outline\n",
+ "outline 3\n0 15 function for_\n9 15 brace\n11 12 simple\n" 0)
+("a\n", "edit 0  0 0\n edit 0 0 0\nat\nat 1 1\nat 10000000000\nat 9999999999\nat -1\n",
+ "no request\nno request\nno request\nno request\nno request\nat 0\nno request\n" 0)
+"#;
 
-const LONG_LINE: &[u8] =
-    b"xxxxxxxxxxxxxxxxxxxxxxxxxxxxxxxxxxxxxxxxxxxxxxxxxxxxxxxxxxxxxxxxx\nquit\n";
+/// Judges the replies to requests that come so many bytes at a time. The number after the replies is the
+/// status.
+fn judge(
+    rt: &impl Abort,
+    alloc: Global,
+    script: &[u8],
+    (requests, text): (&Cell, &Cell),
+    step: usize,
+) -> Result<(), Fail> {
+    let tape = Tape::new(&requests.bytes, step);
+    let wanted = (text.bytes.as_slice(), text.number as u8);
+    let right = replies(alloc, script, tape, wanted)?;
+    assert!(rt; right, "{:?} in steps of {step}", requests.bytes);
+    Ok(())
+}
 
 #[test]
 fn rows(rt: HostRuntime) -> Result<(), Fail> {
-    for (script, requests, text, status) in [
-        (
-            THREE,
-            b"edit 2 3 2\nbb\nquit\n".as_slice(),
-            b"ok 7 0\n".as_slice(),
-            0,
-        ),
-        (THREE, MENDED, MENDED_REPLIES, 0),
-        (
-            b"a\n\nb\n",
-            b"edit 0 2 0\n\nprint\n",
-            b"ok 3 0\ntext 2\nb\n\n",
-            0,
-        ),
-        (
-            b"a\nb",
-            b"edit 5 9 0\n\nedit 0 0 1\nxy\noutline\nquit\n",
-            b"no range\nno payload\noutline 2\n0 1 simple\n2 3 simple\n",
-            0,
-        ),
-        (
-            b"",
-            b"print\noutline\nat 0\nfault\nedit 0 0 0\n\nquit\n",
-            b"text 0\n\noutline 0\nat 0\nnone\nok 0 0\n",
-            0,
-        ),
-        (
-            b"a\n",
-            b"at 99\noutline \nedit 00 0 0\n\nquit\n",
-            b"at 0\nno request\nno request\nno request\n",
-            0,
-        ),
-        (b"a\n", LONG_LINE, b"no request\n", 0),
-        (b"", b"hello\nedit 0 0 5\nab", b"no request\n", 2),
-        (FUNCTION, b"outline\nat 17\nat 23\n", FUNCTION_REPLIES, 0),
-        (
-            b"'",
-            b"print\noutline\nat 0\nquit\nprint\n",
-            b"none\noutline 0\nat 0\n",
-            1,
-        ),
-        (b"a\n", b"quit", b"", 2),
-        (b"a\n", b"edit 0 0 1\nxy", b"", 2),
-        (
-            b"a\n",
-            b"edit 0 1 0\n\n\nfault\n",
-            b"ok 1 0\nno request\nnone\n",
-            0,
-        ),
-        (
-            b"a\n",
-            b"edit 1 0 1\nx\nedit 0 3 0\n\n",
-            b"no range\nno range\n",
-            0,
-        ),
-        (
-            b"fo\\\nr_() { a; }\n",
-            b"outline\n",
-            b"outline 3\n0 15 function for_\n9 15 brace\n11 12 simple\n",
-            0,
-        ),
-        (
-            b"a\n",
-            b"edit 0  0 0\n edit 0 0 0\nat\nat 1 1\nat 10000000000\nat 9999999999\nat -1\n",
-            b"no request\nno request\nno request\nno request\nno request\nat 0\nno request\n",
-            0,
-        ),
-    ] {
-        for step in [1, 2, 99] {
-            let tape = Tape::new(requests, step);
-            assert!(rt;
-                replies(rt.alloc(), script, tape, (text, status))?,
-                "{requests:?}"
-            );
-        }
+    let alloc = rt.alloc();
+    for row in &counted(alloc, ROWS, 16)? {
+        let [script, requests, text] = cells::<3>(row)?;
+        judge(&rt, alloc, &script.bytes, (requests, text), 1)?;
+        judge(&rt, alloc, &script.bytes, (requests, text), 2)?;
+        judge(&rt, alloc, &script.bytes, (requests, text), 99)?;
     }
     Ok(())
 }
 
-/// How batches and their parts are spelled. What follows a line that is no part is read as requests.
+/// Requests on three lines, and the replies with the status that ends the run: how batches and their parts
+/// are spelled. What follows a line that is no part is read as requests.
+const BATCHES: &[u8] = br#"
+("batch\nbatch 1 1\nbatch 01\nbatch -1\nbatch  1\nbatch 65\n",
+ "no request\nno request\nno request\nno request\nno request\nno request\n" 0)
+("batch 1\n0 1 1\nx\nprint\nquit\n", "ok 6 0\ntext 6\nx\nb\nc\n\n" 0)
+("batch 1\nedit 0 1 0\n\nfault\n", "no part\nno request\nnone\n" 0)
+("batch 1\nquit\nquit\n", "no part\n" 0) ("batch 2\n00 1 0\nquit\n", "no part\n" 0)
+("batch 1\n0 1\nbatch 1\n0 1 0 \nbatch 1\n\n", "no part\nno part\nno part\n" 0)
+("batch 1\n0 1 00000000000000000000000000000000000000000000000000000000001\nx\nquit\n",
+ "no part\nno request\n" 0)
+("batch 1\n0 1 9\nv\nw\nx\ny\nz\nprint\n", "ok 14 0\ntext 14\nv\nw\nx\ny\nz\nb\nc\n\n" 0)
+"#;
+
 #[test]
 fn batches(rt: HostRuntime) -> Result<(), Fail> {
-    for (requests, text, status) in [
-        (
-            b"batch\nbatch 1 1\nbatch 01\nbatch -1\nbatch  1\nbatch 65\n".as_slice(),
-            b"no request\nno request\nno request\nno request\nno request\nno request\n".as_slice(),
-            0,
-        ),
-        (
-            b"batch 1\n0 1 1\nx\nprint\nquit\n",
-            b"ok 6 0\ntext 6\nx\nb\nc\n\n",
-            0,
-        ),
-        (
-            b"batch 1\nedit 0 1 0\n\nfault\n",
-            b"no part\nno request\nnone\n",
-            0,
-        ),
-        (b"batch 1\nquit\nquit\n", b"no part\n", 0),
-        (b"batch 2\n00 1 0\nquit\n", b"no part\n", 0),
-        (
-            b"batch 1\n0 1\nbatch 1\n0 1 0 \nbatch 1\n\n",
-            b"no part\nno part\nno part\n",
-            0,
-        ),
-        (
-            b"batch 1\n0 1 00000000000000000000000000000000000000000000000000000000001\nx\nquit\n",
-            b"no part\nno request\n",
-            0,
-        ),
-        (
-            b"batch 1\n0 1 9\nv\nw\nx\ny\nz\nprint\n",
-            b"ok 14 0\ntext 14\nv\nw\nx\ny\nz\nb\nc\n\n",
-            0,
-        ),
-    ] {
-        for step in [1, 99] {
-            let tape = Tape::new(requests, step);
-            assert!(rt;
-                replies(rt.alloc(), THREE, tape, (text, status))?,
-                "{requests:?}"
-            );
-        }
+    for row in &counted(rt.alloc(), BATCHES, 8)? {
+        let [requests, text] = cells::<2>(row)?;
+        judge(&rt, rt.alloc(), THREE, (requests, text), 1)?;
+        judge(&rt, rt.alloc(), THREE, (requests, text), 99)?;
     }
     Ok(())
 }
@@ -237,34 +180,25 @@ fn most_parts(rt: HostRuntime) -> Result<(), Fail> {
     Ok(())
 }
 
+/// The parts of a script, requests, and the replies with the status that ends the run.
+const CHUNK_ENDS: &[u8] = br#"
+("cat <<EOF\n", "x" * 4_083, "\nEOF\n": "edit 4096 4097 1\nX\nfault\nquit\n",
+ "ok 4098 1\nfault 4 1 5 9\n" 1)
+("'", "x" * 8_000, "'\n": "fault\nquit\n", "none\n" 0)
+("'", "x" * 8_000, "'\n": "edit 4096 4096 1\n'\nfault\nquit\n",
+ "ok 8004 1\nfault 8002 1 8003 1\n" 1)
+"#;
+
 /// The first chunk of a script ends in the line that ends a here-document, or in single quotes, and an edit
 /// there is read as elsewhere.
 #[test]
 fn chunk_ends(rt: HostRuntime) -> Result<(), Fail> {
     let alloc = rt.alloc();
-    let many = vec![in alloc; b'x'; 8_000]?;
-    for (before, count, behind, requests, (text, status)) in [
-        (
-            b"cat <<EOF\n".as_slice(),
-            4_083,
-            b"\nEOF\n".as_slice(),
-            b"edit 4096 4097 1\nX\nfault\nquit\n".as_slice(),
-            (b"ok 4098 1\nfault 4 1 5 9\n".as_slice(), 1),
-        ),
-        (b"'", 8_000, b"'\n", b"fault\nquit\n", (b"none\n", 0)),
-        (
-            b"'",
-            8_000,
-            b"'\n",
-            b"edit 4096 4096 1\n'\nfault\nquit\n",
-            (b"ok 8004 1\nfault 8002 1 8003 1\n", 1),
-        ),
-    ] {
-        let mut script = Vec::from_slice(alloc, before)?;
-        script.extend_from_slice(many.get(..count).unwrap_or(b""))?;
-        script.extend_from_slice(behind)?;
-        let tape = Tape::new(requests, 99);
-        assert!(rt; replies(alloc, &script, tape, (text, status))?, "{count}");
+    for row in &counted(alloc, CHUNK_ENDS, 3)? {
+        let [parts @ .., requests, text] = row.as_slice() else {
+            return Err(Fail::from("no row"));
+        };
+        judge(&rt, alloc, &joined(alloc, parts)?, (requests, text), 99)?;
     }
     Ok(())
 }
@@ -349,22 +283,27 @@ fn no_room(rt: HostRuntime) -> Result<(), Fail> {
     Ok(())
 }
 
+/// What follows the bytes of the first part, and the replies.
+const ROOM: &[u8] = br#"
+("\n0 2 0\n\nfault\n", "ok 16777216 0\nnone\n") ("\n0 1 0\n\nfault\n", "no room\nnone\n")
+"#;
+
+/// Whether a batch whose first part has as many bytes as a script may have is replied to so.
+fn replies_to_most(alloc: Global, last: &[u8], text: &[u8]) -> Result<bool, Fail> {
+    let requests = b"batch 2\n0 0 16777216\n"
+        .as_slice()
+        .chain(Same(b'x', 16_777_216))
+        .chain(last);
+    replies(alloc, b"a\n", requests, (text, 0))
+}
+
 /// The first part alone would make the script too large. What the second takes out, of as many bytes as it
 /// says, makes room.
 #[test]
 fn room_in_a_batch(rt: HostRuntime) -> Result<(), Fail> {
-    for (last, text) in [
-        (
-            b"\n0 2 0\n\nfault\n".as_slice(),
-            b"ok 16777216 0\nnone\n".as_slice(),
-        ),
-        (b"\n0 1 0\n\nfault\n", b"no room\nnone\n"),
-    ] {
-        let requests = b"batch 2\n0 0 16777216\n"
-            .as_slice()
-            .chain(Same(b'x', 16_777_216))
-            .chain(last);
-        assert!(rt; replies(rt.alloc(), b"a\n", requests, (text, 0))?);
+    for row in &counted(rt.alloc(), ROOM, 2)? {
+        let [last, text] = cells::<2>(row)?;
+        assert!(rt; replies_to_most(rt.alloc(), &last.bytes, &text.bytes)?);
     }
     Ok(())
 }
@@ -410,28 +349,16 @@ pub(crate) fn alike_at_each(one: &Session, two: &Session, step: usize) -> Result
     Ok(same)
 }
 
-const PIECES: [&[u8]; 16] = [
-    b"a",
-    b"\n",
-    b" ",
-    b"; ",
-    b"if a; then b; fi\n",
-    b"'",
-    b"\"",
-    b"$(",
-    b")",
-    b"f() { c; }\n",
-    b"# d\n",
-    b"&& ",
-    b"case x in y) z;; esac\n",
-    b"\\\n",
-    b"}",
-    b"",
-];
+/// What is put into a script.
+const PIECES: &[u8] = br##"
+("a", "\n", " ", "; ", "if a; then b; fi\n", "'", "\"", "$(", ")", "f() { c; }\n", "# d\n", "&& ",
+ "case x in y) z;; esac\n", "\\\n", "}", "")
+"##;
 
 #[test]
 fn random_edits(rt: HostRuntime) -> Result<(), Fail> {
     let alloc = rt.alloc();
+    let pieces = one_row(alloc, PIECES, 16)?;
     let seed = 20_261_124;
     let mut dice = Dice(seed);
     let mut bytes = Vec::from_slice(alloc, FUNCTION)?;
@@ -439,7 +366,7 @@ fn random_edits(rt: HostRuntime) -> Result<(), Fail> {
     for turn in 0..1_000 {
         let a = dice.below(bytes.len().saturating_add(1));
         let b = a.saturating_add(dice.below(6)).min(bytes.len());
-        let new = PIECES.get(dice.below(16)).copied().unwrap_or(b"");
+        let new = picked(&pieces, &mut dice);
         let made = spliced(alloc, &bytes, a, b, new)?;
         session.edit(a, b, new)?;
         assert!(rt;

@@ -4,9 +4,11 @@ use crate::session_runs::{alike_at_each, make, opened, page_of};
 use crate::windows::window;
 use shlive::{LiveError, Session, run};
 use shtext::{Input, Output, Splice};
+use shtreetests::cell::Cell;
 use shtreetests::devices::{PAGE, Tape};
 use shtreetests::dice::Dice;
 use shtreetests::spliced::{part, spliced_all};
+use shtreetests::table::{cells, counted, one_row, picked, splices};
 use std::alloc::{AllocError, Global};
 use std::test::Fail;
 
@@ -27,102 +29,60 @@ fn reads(
     Ok(before == script.len() as u64 && session.meter() == meter && page.text() == text)
 }
 
+/// Scripts, requests, and the replies with the meter after them.
+const ROWS: &[u8] = br#"
+("a\nb\nc\n", "edit 2 3 2\nbb\n", "ok 7 0\n" 9)
+("a\nb\nc\n", "edit 2 2 1\n'\n", "ok 7 1\n" 11)
+("a\nb\nc\n", "edit 2 2 1\n'\nedit 2 3 0\n\n", "ok 7 1\nok 6 0\n" 15)
+("a\n\nb\n", "edit 0 2 0\n\n", "ok 3 0\n" 5)
+("cat <<E\nE", "edit 9 9 1\nX\n", "ok 10 1\n" 19)
+("a\nb\nc\n", "edit 4 4 2\nd\n\n", "ok 8 0\n" 8)
+("a\nb\nE\nc\n", "edit 0 1 5\nx <<E\noutline\n", "ok 12 0\noutline 2\n0 5 simple\n10 11 simple\n" 18)
+("a\n", "edit 2 2 2\nb\n\n", "ok 4 0\n" 4)
+("a", "edit 1 1 1\n\n\n", "ok 2 0\n" 3)
+("a\n'\nb\n", "edit 4 5 1\nc\n", "ok 6 1\n" 10)
+("a\n'", "edit 3 3 1\nb\n", "ok 4 1\n" 5)
+("cd /srv\nif test -d new; then\n\tmv new pages\nfi\nls\n",
+ "edit 37 42 4\nsite\nedit 8 8 1\n'\nedit 8 9 0\n\n", "ok 48 0\nok 49 1\nok 48 0\n" 167)
+("a\nb\n", "edit 3 2 1\nc\nedit 0 5 1\nc\n", "no range\nno range\n" 4)
+"#;
+
 #[test]
 fn rows(rt: HostRuntime) -> Result<(), Fail> {
-    for (script, requests, text, meter) in [
-        (
-            b"a\nb\nc\n".as_slice(),
-            b"edit 2 3 2\nbb\n".as_slice(),
-            b"ok 7 0\n".as_slice(),
-            9,
-        ),
-        (b"a\nb\nc\n", b"edit 2 2 1\n'\n", b"ok 7 1\n", 11),
-        (
-            b"a\nb\nc\n",
-            b"edit 2 2 1\n'\nedit 2 3 0\n\n",
-            b"ok 7 1\nok 6 0\n",
-            15,
-        ),
-        (b"a\n\nb\n", b"edit 0 2 0\n\n", b"ok 3 0\n", 5),
-        (b"cat <<E\nE", b"edit 9 9 1\nX\n", b"ok 10 1\n", 19),
-        (b"a\nb\nc\n", b"edit 4 4 2\nd\n\n", b"ok 8 0\n", 8),
-        (
-            b"a\nb\nE\nc\n",
-            b"edit 0 1 5\nx <<E\noutline\n",
-            b"ok 12 0\noutline 2\n0 5 simple\n10 11 simple\n",
-            18,
-        ),
-        (b"a\n", b"edit 2 2 2\nb\n\n", b"ok 4 0\n", 4),
-        (b"a", b"edit 1 1 1\n\n\n", b"ok 2 0\n", 3),
-        (b"a\n'\nb\n", b"edit 4 5 1\nc\n", b"ok 6 1\n", 10),
-        (b"a\n'", b"edit 3 3 1\nb\n", b"ok 4 1\n", 5),
-        (
-            b"cd /srv\nif test -d new; then\n\tmv new pages\nfi\nls\n",
-            b"edit 37 42 4\nsite\nedit 8 8 1\n'\nedit 8 9 0\n\n",
-            b"ok 48 0\nok 49 1\nok 48 0\n",
-            167,
-        ),
-        (
-            b"a\nb\n",
-            b"edit 3 2 1\nc\nedit 0 5 1\nc\n",
-            b"no range\nno range\n",
-            4,
-        ),
-    ] {
-        assert!(rt;
-            reads(rt.alloc(), script, requests, (text, meter))?,
-            "{requests:?}"
-        );
+    for row in &counted(rt.alloc(), ROWS, 13)? {
+        let [script, requests, text] = cells::<3>(row)?;
+        let wanted = (text.bytes.as_slice(), text.number as u64);
+        let right = reads(rt.alloc(), &script.bytes, &requests.bytes, wanted)?;
+        assert!(rt; right, "{:?}", requests.bytes);
     }
     Ok(())
 }
+
+/// Requests on three lines, and the replies with the meter after them.
+const BATCHES: &[u8] = br#"
+("batch 2\n0 1 1\nx\n4 5 2\nyy\n", "ok 7 0\n" 13)
+("batch 2\n2 2 2\nx\n\n2 2 2\ny\n\nprint\n", "ok 10 0\ntext 10\na\nx\ny\nb\nc\n\n" 10)
+("batch 2\n2 3 2\n'x\n3 3 1\n'\n", "ok 8 0\n" 10)
+("batch 2\n0 0 1\n'\n5 5 1\n'\n", "ok 8 0\n" 14)
+("batch 1\n2 3 2\nbb\n", "ok 7 0\n" 9)
+("batch 2\n0 3 0\n\n2 4 0\n\nfault\n", "no order\nnone\n" 6)
+("batch 2\n4 5 0\n\n9 9 0\n\n", "no range\n" 6)
+("batch 2\n0 1 1\nx\nzz\nprint\n", "no part\ntext 6\na\nb\nc\n\n" 6)
+("batch 2\n9 9 1\nx\nzz\n", "no part\n" 6)
+("batch 2\n0 1 1\nxy\nprint\n", "no payload\ntext 6\na\nb\nc\n\n" 6)
+("batch 2\n0 1 1\nx\n4 5 1\nyz\nprint\n", "no payload\ntext 6\na\nb\nc\n\n" 6)
+("batch 0\nbatch 65\n", "no request\nno request\n" 6)
+"#;
 
 /// One window is read for all parts of a batch, and none for a batch that is not made. What follows a flaw is
 /// read as requests.
 #[test]
 fn batches(rt: HostRuntime) -> Result<(), Fail> {
-    for (requests, text, meter) in [
-        (
-            b"batch 2\n0 1 1\nx\n4 5 2\nyy\n".as_slice(),
-            b"ok 7 0\n".as_slice(),
-            13,
-        ),
-        (
-            b"batch 2\n2 2 2\nx\n\n2 2 2\ny\n\nprint\n",
-            b"ok 10 0\ntext 10\na\nx\ny\nb\nc\n\n",
-            10,
-        ),
-        (b"batch 2\n2 3 2\n'x\n3 3 1\n'\n", b"ok 8 0\n", 10),
-        (b"batch 2\n0 0 1\n'\n5 5 1\n'\n", b"ok 8 0\n", 14),
-        (b"batch 1\n2 3 2\nbb\n", b"ok 7 0\n", 9),
-        (
-            b"batch 2\n0 3 0\n\n2 4 0\n\nfault\n",
-            b"no order\nnone\n",
-            6,
-        ),
-        (b"batch 2\n4 5 0\n\n9 9 0\n\n", b"no range\n", 6),
-        (
-            b"batch 2\n0 1 1\nx\nzz\nprint\n",
-            b"no part\ntext 6\na\nb\nc\n\n",
-            6,
-        ),
-        (b"batch 2\n9 9 1\nx\nzz\n", b"no part\n", 6),
-        (
-            b"batch 2\n0 1 1\nxy\nprint\n",
-            b"no payload\ntext 6\na\nb\nc\n\n",
-            6,
-        ),
-        (
-            b"batch 2\n0 1 1\nx\n4 5 1\nyz\nprint\n",
-            b"no payload\ntext 6\na\nb\nc\n\n",
-            6,
-        ),
-        (b"batch 0\nbatch 65\n", b"no request\nno request\n", 6),
-    ] {
-        assert!(rt;
-            reads(rt.alloc(), b"a\nb\nc\n", requests, (text, meter))?,
-            "{requests:?}"
-        );
+    for row in &counted(rt.alloc(), BATCHES, 12)? {
+        let [requests, text] = cells::<2>(row)?;
+        let wanted = (text.bytes.as_slice(), text.number as u64);
+        let right = reads(rt.alloc(), b"a\nb\nc\n", &requests.bytes, wanted)?;
+        assert!(rt; right, "{:?}", requests.bytes);
     }
     Ok(())
 }
@@ -141,16 +101,19 @@ fn refuses_most(session: &mut Session, most: &[u8]) -> bool {
         && refuses(session, &too_large, LiveError::TooLarge)
 }
 
+/// Splices that are out of range in three lines.
+const OUT_OF_RANGE: &[u8] = br#"
+("from" 0, "" to 1; "from" 6, "" to 7) ("from" 4, "" to 3; "from" 0, "" to 1)
+"#;
+
 /// Splices that are refused leave the script and the meter.
 #[test]
 fn refused_together(rt: HostRuntime) -> Result<(), Fail> {
     let most = vec![in rt.alloc(); b'x'; 16_777_216]?;
     let mut session = opened(rt.alloc(), b"a\nb\nc\n")?;
-    for splices in [
-        [part(0, 1, b""), part(6, 7, b"")].as_slice(),
-        &[part(4, 3, b""), part(0, 1, b"")],
-    ] {
-        assert!(rt; refuses(&mut session, splices, LiveError::Range));
+    for row in &counted(rt.alloc(), OUT_OF_RANGE, 2)? {
+        let splices = splices(rt.alloc(), row)?;
+        assert!(rt; refuses(&mut session, &splices, LiveError::Range));
     }
     assert!(rt; refuses_most(&mut session, &most));
     assert!(rt;
@@ -182,40 +145,24 @@ pub(crate) fn is_right(
 const SCRIPT: &[u8] =
     b"#!/bin/sh\n\na=1 b\nif c; then\n\td\nfi\ncat <<E\nx\nE\n\n\nf() {\n\tg \\\n\t\th\n}\n# i\nj <<-'E' <<F &&\nk\n\tE\nl\nF\nm\nn |\n\n# o\np; q $(r <<E\ns\nE\n)\n't\nu'\nv \\\n\tw\n\n{\nx; }\ny\n";
 
-const PIECES: [&[u8]; 24] = [
-    b"a\n",
-    b"\n",
-    b" ",
-    b"; ",
-    b"if a; then\nb\nfi\n",
-    b"'",
-    b"\"",
-    b"$(",
-    b")",
-    b"f() {\nc; }\n",
-    b"# d\n",
-    b"&&\n",
-    b"x <<E\n",
-    b"E\n",
-    b"\nE",
-    b"E",
-    b"y <<-'E' <<F\n",
-    b"F\n",
-    b"\\\n",
-    b"}",
-    b"\\",
-    b"cat << E; $(x <<F\nF\n)\n",
-    b"a | b\n\n\nc # k\n",
-    b"",
-];
+/// What is put into a script.
+const PIECES: &[u8] = br##"
+("a\n", "\n", " ", "; ", "if a; then\nb\nfi\n", "'", "\"", "$(", ")", "f() {\nc; }\n", "# d\n", "&&\n",
+ "x <<E\n", "E\n", "\nE", "E", "y <<-'E' <<F\n", "F\n", "\\\n", "}", "\\", "cat << E; $(x <<F\nF\n)\n",
+ "a | b\n\n\nc # k\n", "")
+"##;
 
-/// A random edit of bytes: most take out a few of them.
-fn thrown(dice: &mut Dice, len: usize) -> Splice<'static> {
+/// The pieces that are put into a script.
+fn pieces(alloc: Global) -> Result<Vec<Cell>, Fail> {
+    one_row(alloc, PIECES, 24)
+}
+
+/// A random edit of bytes, with one of the pieces: most take out a few of them.
+fn thrown<'a>(pieces: &'a [Cell], dice: &mut Dice, len: usize) -> Splice<'a> {
     let a = dice.below(len.saturating_add(1));
     let most = if dice.below(8) == 0 { 40 } else { 4 };
     let b = a.saturating_add(dice.below(most)).min(len);
-    let new = PIECES.get(dice.below(24)).copied().unwrap_or(b"");
-    part(a, b, new)
+    part(a, b, picked(pieces, dice))
 }
 
 /// Whether an edit is to be undone: most of those that leave a fault are.
@@ -235,12 +182,13 @@ fn is_over(dice: &mut Dice, session: &Session) -> bool {
 #[test]
 fn random_edits(rt: HostRuntime) -> Result<(), Fail> {
     let alloc = rt.alloc();
+    let pieces = pieces(alloc)?;
     let seed = 20_261_126;
     let mut dice = Dice(seed);
     let mut bytes = Vec::from_slice(alloc, SCRIPT)?;
     let mut session = opened(alloc, &bytes)?;
     for turn in 0..1_000 {
-        let edit = thrown(&mut dice, bytes.len());
+        let edit = thrown(&pieces, &mut dice, bytes.len());
         let old = Vec::from_slice(alloc, bytes.get(edit.a..edit.b).unwrap_or(b""))?;
         let right = is_right(alloc, &mut session, &mut bytes, &[edit], 7)?;
         assert!(rt; right, "seed {seed}, turn {turn}");
@@ -259,11 +207,12 @@ fn random_edits(rt: HostRuntime) -> Result<(), Fail> {
 }
 
 /// Random edits that rise, five at most: near to each other, or all over the bytes.
-fn thrown_together(
+fn thrown_together<'a>(
     alloc: Global,
+    pieces: &'a [Cell],
     dice: &mut Dice,
     len: usize,
-) -> Result<Vec<Splice<'static>>, AllocError> {
+) -> Result<Vec<Splice<'a>>, AllocError> {
     let count = dice.below(5).saturating_add(1);
     let (mut at, most) = match dice.below(2) {
         0 => (0, len / count.max(1)),
@@ -271,7 +220,7 @@ fn thrown_together(
     };
     let mut splices = Vec::new(alloc);
     for _ in 0..count {
-        let edit = thrown(dice, most);
+        let edit = thrown(pieces, dice, most);
         let a = at.saturating_add(edit.a).min(len);
         let b = at.saturating_add(edit.b).min(len);
         splices.push(part(a, b, edit.bytes))?;
@@ -301,12 +250,13 @@ fn undoing<'a>(
 #[test]
 fn random_batches(rt: HostRuntime) -> Result<(), Fail> {
     let alloc = rt.alloc();
+    let pieces = pieces(alloc)?;
     let seed = 20_261_130;
     let mut dice = Dice(seed);
     let mut bytes = Vec::from_slice(alloc, SCRIPT)?;
     let mut session = opened(alloc, &bytes)?;
     for turn in 0..2_000 {
-        let splices = thrown_together(alloc, &mut dice, bytes.len())?;
+        let splices = thrown_together(alloc, &pieces, &mut dice, bytes.len())?;
         let old = Vec::from_slice(alloc, &bytes)?;
         let right = is_right(alloc, &mut session, &mut bytes, &splices, 7)?;
         assert!(rt; right, "seed {seed}, turn {turn}");
@@ -333,9 +283,9 @@ fn after_newlines(alloc: Global, dice: &mut Dice) -> Result<Vec<u8>, Fail> {
 }
 
 /// A random edit of the last of these bytes, of which there are as many as the script has.
-fn thrown_after(dice: &mut Dice, len: usize) -> Splice<'static> {
+fn thrown_after<'a>(pieces: &'a [Cell], dice: &mut Dice, len: usize) -> Splice<'a> {
     let begin = len.saturating_sub(SCRIPT.len());
-    let edit = thrown(dice, len.saturating_sub(begin));
+    let edit = thrown(pieces, dice, len.saturating_sub(begin));
     let (a, b) = (begin.saturating_add(edit.a), begin.saturating_add(edit.b));
     part(a, b, edit.bytes)
 }
@@ -344,13 +294,14 @@ fn thrown_after(dice: &mut Dice, len: usize) -> Splice<'static> {
 #[test]
 fn over_chunks(rt: HostRuntime) -> Result<(), Fail> {
     let alloc = rt.alloc();
+    let pieces = pieces(alloc)?;
     let seed = 20_261_129;
     let mut dice = Dice(seed);
     for turn in 0..200 {
         let mut bytes = after_newlines(alloc, &mut dice)?;
         let mut session = opened(alloc, &bytes)?;
         for _ in 0..3 {
-            let edit = thrown_after(&mut dice, bytes.len());
+            let edit = thrown_after(&pieces, &mut dice, bytes.len());
             assert!(rt;
                 is_right(alloc, &mut session, &mut bytes, &[edit], 97)?,
                 "seed {seed}, turn {turn}"
@@ -370,11 +321,12 @@ fn long(alloc: Global) -> Result<Vec<u8>, Fail> {
 }
 
 /// Lines that are put in, some thousands of them at times.
-fn lines(alloc: Global, dice: &mut Dice) -> Result<Vec<u8>, Fail> {
+fn lines(alloc: Global, pieces: &[Cell], dice: &mut Dice) -> Result<Vec<u8>, Fail> {
     let mut bytes = Vec::new(alloc);
     let most = if dice.below(2) == 0 { 6_000 } else { 3 };
     for _ in 0..dice.below(most) {
-        bytes.extend_from_slice(PIECES.get(dice.below(2)).copied().unwrap_or(b""))?;
+        let piece = pieces.get(dice.below(2)).ok_or("no piece")?;
+        bytes.extend_from_slice(&piece.bytes)?;
     }
     Ok(bytes)
 }
@@ -382,6 +334,7 @@ fn lines(alloc: Global, dice: &mut Dice) -> Result<Vec<u8>, Fail> {
 #[test]
 fn many_lines(rt: HostRuntime) -> Result<(), Fail> {
     let alloc = rt.alloc();
+    let pieces = pieces(alloc)?;
     let seed = 20_261_127;
     let mut dice = Dice(seed);
     let mut bytes = long(alloc)?;
@@ -390,7 +343,7 @@ fn many_lines(rt: HostRuntime) -> Result<(), Fail> {
         let a = dice.below(bytes.len().saturating_add(1));
         let most = if dice.below(2) == 0 { 12_000 } else { 9 };
         let b = a.saturating_add(dice.below(most)).min(bytes.len());
-        let new = lines(alloc, &mut dice)?;
+        let new = lines(alloc, &pieces, &mut dice)?;
         assert!(rt;
             is_right(alloc, &mut session, &mut bytes, &[part(a, b, &new)], 997)?,
             "seed {seed}, turn {turn}"

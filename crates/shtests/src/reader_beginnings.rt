@@ -4,7 +4,7 @@ use crate::dump::Judge;
 use crate::reader_lines::judge_lines;
 use shread::Reader;
 use shtext::Flat;
-use shtreetests::table::rows;
+use shtreetests::table::counted;
 use std::alloc::Global;
 use std::test::Fail;
 
@@ -117,7 +117,7 @@ fn judge_some(
 fn beginnings(rt: HostRuntime) -> Result<(), Fail> {
     let mut judge = Judge::new(rt.alloc());
     let mut len = 0;
-    for row in &rows(rt.alloc(), FAULTS)? {
+    for row in &counted(rt.alloc(), FAULTS, 35)? {
         let [fault] = row.as_slice() else {
             return Err(Fail::from("no row"));
         };

@@ -1,7 +1,7 @@
 //! Each byte in each place where bytes differ, with the dumps of the scripts that have it there.
 use crate::dump::Judge;
 use shtreetests::cell::Cell;
-use shtreetests::table::rows;
+use shtreetests::table::counted;
 use std::alloc::Global;
 use std::test::Fail;
 
@@ -137,7 +137,7 @@ fn judge_byte(judge: &mut Judge, alloc: Global, row: &[Cell], byte: u8) -> Resul
 #[test]
 fn bytes(rt: HostRuntime) -> Result<(), Fail> {
     let mut judge = Judge::new(rt.alloc());
-    for row in &rows(rt.alloc(), BYTES)? {
+    for row in &counted(rt.alloc(), BYTES, 41)? {
         for byte in 0..=255u8 {
             judge_byte(&mut judge, rt.alloc(), row, byte)?;
         }

@@ -3,7 +3,7 @@ use crate::dump::Judge;
 use shtext::Flat;
 use shtreetests::cell::{Cell, joined};
 use shtreetests::in_pieces::InPieces;
-use shtreetests::table::{rows, split};
+use shtreetests::table::{counted, split};
 use std::alloc::Global;
 use std::test::Fail;
 
@@ -68,7 +68,7 @@ fn judge_parts(judge: &mut Judge, alloc: Global, row: &[Cell]) -> Result<(), Fai
 #[test]
 fn repeated(rt: HostRuntime) -> Result<(), Fail> {
     let mut judge = Judge::new(rt.alloc());
-    for row in &rows(rt.alloc(), REPEATED)? {
+    for row in &counted(rt.alloc(), REPEATED, 61)? {
         judge_parts(&mut judge, rt.alloc(), row)?;
     }
     judge.verdict()
@@ -230,7 +230,7 @@ fn judge_fault(judge: &mut Judge, alloc: Global, row: &[Cell]) -> Result<(), Fai
 #[test]
 fn deep(rt: HostRuntime) -> Result<(), Fail> {
     let mut judge = Judge::new(rt.alloc());
-    for row in &rows(rt.alloc(), DEEP)? {
+    for row in &counted(rt.alloc(), DEEP, 136)? {
         judge_fault(&mut judge, rt.alloc(), row)?;
     }
     judge.verdict()

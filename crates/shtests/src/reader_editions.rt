@@ -4,7 +4,7 @@ use shpass::faultless_front;
 use shread::{Edition, Reader};
 use shtext::Flat;
 use shtreetests::cell::Cell;
-use shtreetests::table::rows;
+use shtreetests::table::counted;
 use std::test::Fail;
 
 /// A reader is one by POSIX.1-2017 if nothing else is said.
@@ -107,7 +107,7 @@ fn scripts(rt: HostRuntime) -> Result<(), Fail> {
     let alloc = rt.alloc();
     let mut old = Judge::new(alloc);
     let mut new = Judge::of(alloc, Reader::for_edition(alloc, Edition::Y2024));
-    for row in &rows(alloc, ROWS)? {
+    for row in &counted(alloc, ROWS, 54)? {
         judge_row(&mut old, &mut new, row)?;
     }
     old.verdict()?;

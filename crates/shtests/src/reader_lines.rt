@@ -10,7 +10,7 @@ use shtext::Flat;
 use shtree::make::list_of;
 use shtree::{Command, Content, List};
 use shtreetests::cell::{Cell, joined};
-use shtreetests::table::{rows, split};
+use shtreetests::table::{counted, split};
 use std::alloc::Global;
 use std::test::Fail;
 
@@ -99,7 +99,7 @@ fn lines(rt: HostRuntime) -> Result<(), Fail> {
     let mut judge = Judge::new(rt.alloc());
     let mut reader = Reader::new(rt.alloc());
     let mut meter = 0usize;
-    for row in &rows(rt.alloc(), LINES)? {
+    for row in &counted(rt.alloc(), LINES, 69)? {
         meter = meter.wrapping_add(judge_line(&mut judge, &mut reader, row)?);
         assert!(rt; reader.meter() == meter as u64);
     }
@@ -129,7 +129,7 @@ const FRONTS: &[u8] = br###"
 
 #[test]
 fn fronts(rt: HostRuntime) -> Result<(), Fail> {
-    for row in &rows(rt.alloc(), FRONTS)? {
+    for row in &counted(rt.alloc(), FRONTS, 20)? {
         for script in row {
             let count = faultless_front(rt.alloc(), Edition::Y2017, &Flat::new(&script.bytes))?;
             assert!(rt; count == script.number, "{count} of {:?}", script.bytes);
@@ -166,7 +166,7 @@ fn judge_whole(judge: &mut Judge, alloc: Global, row: &[Cell]) -> Result<(), Fai
 #[test]
 fn whole_lines(rt: HostRuntime) -> Result<(), Fail> {
     let mut judge = Judge::new(rt.alloc());
-    for row in &rows(rt.alloc(), WHOLE)? {
+    for row in &counted(rt.alloc(), WHOLE, 8)? {
         judge_whole(&mut judge, rt.alloc(), row)?;
     }
     judge.verdict()
@@ -200,7 +200,7 @@ fn judge_outer(judge: &mut Judge, alloc: Global, row: &[Cell]) -> Result<(), Fai
 #[test]
 fn outer_lines(rt: HostRuntime) -> Result<(), Fail> {
     let mut judge = Judge::new(rt.alloc());
-    for row in &rows(rt.alloc(), OUTER)? {
+    for row in &counted(rt.alloc(), OUTER, 6)? {
         judge_outer(&mut judge, rt.alloc(), row)?;
     }
     judge.verdict()
@@ -336,7 +336,7 @@ fn judge_long(judge: &mut Judge, alloc: Global, row: &[Cell]) -> Result<(), Fail
 #[test]
 fn long_lines(rt: HostRuntime) -> Result<(), Fail> {
     let mut judge = Judge::new(rt.alloc());
-    for row in &rows(rt.alloc(), LONG)? {
+    for row in &counted(rt.alloc(), LONG, 7)? {
         judge_long(&mut judge, rt.alloc(), row)?;
     }
     judge.verdict()

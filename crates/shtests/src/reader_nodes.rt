@@ -7,7 +7,7 @@ use shtext::Flat;
 use shtree::laws::greater_limit;
 use shtree::{NodeLine, nodes_at, outline_of};
 use shtreetests::cell::Cell;
-use shtreetests::table::rows;
+use shtreetests::table::counted;
 use std::alloc::Global;
 use std::test::Fail;
 
@@ -126,7 +126,7 @@ fn pair(row: &[Cell]) -> Result<(&Cell, &Cell), Fail> {
 fn outlines(rt: HostRuntime) -> Result<(), Fail> {
     let mut judge = Judge::new(rt.alloc());
     let mut reader = Reader::new(rt.alloc());
-    for row in &rows(rt.alloc(), OUTLINES)? {
+    for row in &counted(rt.alloc(), OUTLINES, 28)? {
         let (script, wanted) = pair(row)?;
         let found = outlined(rt.alloc(), &mut reader, &script.bytes)?;
         judge.text(&script.bytes, found.as_str(), &wanted.bytes)?;
@@ -138,7 +138,7 @@ fn outlines(rt: HostRuntime) -> Result<(), Fail> {
 fn at_a_byte(rt: HostRuntime) -> Result<(), Fail> {
     let mut judge = Judge::new(rt.alloc());
     let mut reader = Reader::new(rt.alloc());
-    for row in &rows(rt.alloc(), AT)? {
+    for row in &counted(rt.alloc(), AT, 30)? {
         let (script, wanted) = pair(row)?;
         let found = found_at(
             rt.alloc(),

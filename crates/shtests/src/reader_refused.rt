@@ -11,7 +11,7 @@ use shtext::{Flat, Source};
 use shtree::laws::greater_limit;
 use shtree::{List, NodeKind, NodeLine};
 use shtreetests::growths::Growths;
-use shtreetests::table::rows;
+use shtreetests::table::counted;
 use std::alloc::{AllocError, Global};
 use std::process::Abort;
 use std::test::Fail;
@@ -319,7 +319,7 @@ fn asks(rt: &impl Abort, alloc: Global, script: &[u8], at: usize) -> Result<(), 
 
 #[test]
 fn scripts(rt: HostRuntime) -> Result<(), Fail> {
-    for row in &rows(rt.alloc(), SCRIPTS)? {
+    for row in &counted(rt.alloc(), SCRIPTS, 4)? {
         let [script] = row.as_slice() else {
             return Err(Fail::from("no row"));
         };

@@ -1,6 +1,6 @@
 //! Lines that are read into vectors which earlier lines gave back: they have what they have without.
 use crate::reader_trees::all_rows;
-use shast::{Entry, Spare};
+use shast::Entry;
 use shline::{ParsedLine, Stop};
 use shmake::Spare;
 use shpass::{LinesBefore, ScriptLines};

@@ -6,7 +6,7 @@ use shtree::List;
 use shtree::make::list_of;
 use shtreetests::growths::Growths;
 use shtreetests::shown::shown;
-use shtreetests::table::rows;
+use shtreetests::table::counted;
 use std::alloc::Global;
 use std::process::Abort;
 use std::test::Fail;
@@ -109,7 +109,7 @@ const TEXTS: &[u8] = br#"
 #[test]
 fn each_growth(rt: HostRuntime) -> Result<(), Fail> {
     appends(&rt, rt.alloc(), LINES)?;
-    for row in &rows(rt.alloc(), TEXTS)? {
+    for row in &counted(rt.alloc(), TEXTS, 4)? {
         let [text] = row.as_slice() else {
             return Err(Fail::from("no row"));
         };

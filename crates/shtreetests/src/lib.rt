@@ -2,9 +2,9 @@
 //! of the libraries do, since the gate proves a crate that has tests twice; and beside those of the reader
 //! (`shtests`), since they need not wait for its proof.
 //!
-//! Start with the module of what is tested: `texts` is the tests of `shtext`, `tree_bodies`,
-//! `tree_documents`, `tree_moved` and `tree_normal` are those of `shtree`, and `tree_spare` is that of the
-//! room that `shmake` keeps; `text_refused` refuses each growth of memory in turn. The others help, here and
+//! Start with the module of what is tested: `texts` is the tests of `shtext`, `tree_documents`, `tree_moved`
+//! and `tree_normal` are those of `shtree`, `tree_bodies` and `tree_spare` those of the bodies and the room
+//! that `shmake` has; `text_refused` refuses each growth of memory in turn. The others help, here and
 //! in the other crates of tests: [`both`] edits a buffer and a vector alike, by [`spliced`], the model of an
 //! edit, [`devices`] has readers and writers that fail, [`dice`] throws numbers, [`growths`] asks for
 //! refusals, [`in_pieces`] cuts a text, [`table`] reads tables of rows, whose cells [`cell`] joins,

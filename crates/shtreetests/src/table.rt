@@ -1,9 +1,12 @@
 //! Tables of rows. A table is one text, which a check passes over: an array would take it minutes.
 //!
 //! A row stands in round brackets, as `("a\n" * 10, "[0-1]")`. Its cells are texts with escapes
-//! as in Rust; a number after a text belongs to it. Between rows a comment begins with `//` and
+//! as in Rust; a number after a text belongs to it. Outside of texts a comment begins with `//` and
 //! ends with its line. Other marks are for the eye alone.
 use crate::cell::Cell;
+use crate::dice::Dice;
+use crate::spliced::part;
+use shtext::Splice;
 use std::alloc::Global;
 use std::test::Fail;
 
@@ -13,6 +16,8 @@ enum State {
     Comment,
     /// Outside of texts.
     Outside,
+    /// Outside of texts, after one `/`.
+    Slash,
     /// Inside a text.
     Inside,
     /// After a backslash.
@@ -24,21 +29,32 @@ enum State {
 }
 
 /// The value of a hexadecimal digit.
-fn digit(byte: u8) -> u8 {
+fn digit(byte: u8) -> Option<u8> {
     match byte {
-        b'0'..=b'9' => byte - b'0',
-        b'a'..=b'f' => byte - b'a' + 10,
-        _ => 0,
+        b'0'..=b'9' => Some(byte - b'0'),
+        b'a'..=b'f' => Some(byte - b'a' + 10),
+        b'A'..=b'F' => Some(byte - b'A' + 10),
+        _ => None,
+    }
+}
+
+/// The state after a backslash and a byte, which have to be an escape.
+fn after_backslash(byte: u8) -> Result<State, Fail> {
+    match byte {
+        b'x' => Ok(State::First),
+        b'n' | b'r' | b't' | b'\\' | b'"' => Ok(State::Inside),
+        _ => Err(Fail::from("no escape")),
     }
 }
 
 /// The state after a byte.
-fn state_after(state: State, byte: u8) -> State {
-    match state {
+fn state_after(state: State, byte: u8) -> Result<State, Fail> {
+    Ok(match state {
         State::Comment if byte != b'\n' => State::Comment,
-        State::Comment | State::Outside => match byte {
+        State::Slash if byte == b'/' => State::Comment,
+        State::Comment | State::Outside | State::Slash => match byte {
             b'"' => State::Inside,
-            b'/' => State::Comment,
+            b'/' => State::Slash,
             _ => State::Outside,
         },
         State::Inside => match byte {
@@ -46,10 +62,13 @@ fn state_after(state: State, byte: u8) -> State {
             b'\\' => State::Escaped,
             _ => State::Inside,
         },
-        State::Escaped if byte == b'x' => State::First,
-        State::First => State::Second(digit(byte)),
-        State::Escaped | State::Second(_) => State::Inside,
-    }
+        State::Escaped => after_backslash(byte)?,
+        State::First => State::Second(digit(byte).ok_or("no digit after \\x")?),
+        State::Second(_) => {
+            let _ = digit(byte).ok_or("one digit after \\x")?;
+            State::Inside
+        }
+    })
 }
 
 /// The byte of a text that ends with a byte of the table.
@@ -63,9 +82,14 @@ fn meant(state: State, byte: u8) -> Option<u8> {
             b't' => Some(b'\t'),
             other => Some(other),
         },
-        State::Second(value) => Some(value.wrapping_mul(16).wrapping_add(digit(byte))),
+        State::Second(value) => Some(value.wrapping_mul(16).wrapping_add(digit(byte)?)),
         _ => None,
     }
+}
+
+/// Whether this is outside of texts and of comments.
+fn is_outside(state: State) -> bool {
+    matches!(state, State::Outside | State::Slash)
 }
 
 /// Takes a byte of the table into the last cell.
@@ -73,8 +97,8 @@ fn take(cell: &mut Cell, state: State, byte: u8) -> Result<(), Fail> {
     if let Some(byte) = meant(state, byte) {
         cell.bytes.push(byte)?;
     }
-    if let (State::Outside, b'0'..=b'9') = (state, byte) {
-        let value = digit(byte) as usize;
+    if is_outside(state) && byte.is_ascii_digit() {
+        let value = byte.wrapping_sub(b'0') as usize;
         cell.number = cell.number.wrapping_mul(10).wrapping_add(value);
     }
     Ok(())
@@ -107,10 +131,10 @@ pub fn rows(alloc: Global, table: &[u8]) -> Result<Vec<Vec<Cell>>, Fail> {
         if let Some(cell) = row.last_mut() {
             take(cell, state, *byte)?;
         }
-        if let State::Outside = state {
+        if is_outside(state) {
             mark(alloc, &mut rows, &mut row, *byte)?;
         }
-        state = state_after(state, *byte);
+        state = state_after(state, *byte)?;
     }
     if rows.is_empty() || !row.is_empty() {
         return Err(Fail::from("no rows, or one that does not end"));
@@ -118,10 +142,61 @@ pub fn rows(alloc: Global, table: &[u8]) -> Result<Vec<Vec<Cell>>, Fail> {
     Ok(rows)
 }
 
+/// The rows of a table, which are so many: where a lost quote merges rows, they are fewer.
+pub fn counted(alloc: Global, table: &[u8], count: usize) -> Result<Vec<Vec<Cell>>, Fail> {
+    let rows = rows(alloc, table)?;
+    if rows.len() != count {
+        return Err(Fail::from("another number of rows"));
+    }
+    Ok(rows)
+}
+
+/// The cells of a table of one row, which are so many.
+pub fn one_row(alloc: Global, table: &[u8], count: usize) -> Result<Vec<Cell>, Fail> {
+    let row = counted(alloc, table, 1)?.pop().ok_or("no row")?;
+    if row.len() != count {
+        return Err(Fail::from("another number of cells"));
+    }
+    Ok(row)
+}
+
+/// The cells of a row of so many as are asked for: `let [script, text] = cells::<2>(row)?`.
+pub fn cells<const N: usize>(row: &[Cell]) -> Result<&[Cell; N], Fail> {
+    Ok(row.as_array().ok_or("no row")?)
+}
+
 /// The cells of a row but the last, and the last.
 pub fn split(row: &[Cell]) -> Result<(&[Cell], &Cell), Fail> {
     match row {
         [cells @ .., last] => Ok((cells, last)),
         _ => Err(Fail::from("no row")),
+    }
+}
+
+/// The splices that pairs of cells tell, as `"from" 1, "x" to 3` does: the begin stands after `from`, the
+/// end after the bytes that come.
+pub fn splices(alloc: Global, cells: &[Cell]) -> Result<Vec<Splice<'_>>, Fail> {
+    let mut splices = Vec::new(alloc);
+    let mut begin = None;
+    for cell in cells {
+        if let Some(a) = begin.take() {
+            splices.push(part(a, cell.number, &cell.bytes))?;
+        } else if cell.bytes.as_slice() == b"from".as_slice() {
+            begin = Some(cell.number);
+        } else {
+            return Err(Fail::from("no splices"));
+        }
+    }
+    match begin {
+        None => Ok(splices),
+        Some(_) => Err(Fail::from("a splice that does not end")),
+    }
+}
+
+/// The text of a cell that the dice pick.
+pub fn picked<'a>(cells: &'a [Cell], dice: &mut Dice) -> &'a [u8] {
+    match cells.get(dice.below(cells.len())) {
+        Some(cell) => &cell.bytes,
+        None => b"",
     }
 }

@@ -1,10 +1,12 @@
 //! What no clause says: that calls succeed where nothing fails, that a failure of a
 //! device is told, and the numbers of the errors.
 use crate::both::Both;
+use crate::cell::Cell;
 use crate::devices::{PAGE, Page, Tape};
 use crate::dice::Dice;
 use crate::in_pieces::InPieces;
 use crate::spliced::part;
+use crate::table::{cells, counted, splices};
 use shtext::{
     Buffer, CHUNK, Change, Failed, Flat, Input, Output, Source, Splice, TextError, line_col_of,
 };
@@ -36,26 +38,32 @@ fn runs(rt: HostRuntime) {
     assert!(rt; tells(&text, b"ab\nc") && !tells(&text, b"ab\nd") && !tells(&text, b"ab\ncd"));
 }
 
+/// Whether a text has the runs of a table, whose rows are a run and its place.
+fn has_runs<S: Source>(alloc: Global, text: &S, table: &[u8], count: usize) -> Result<bool, Fail> {
+    for row in &counted(alloc, table, count)? {
+        let [run] = cells::<1>(row)?;
+        if text.run(run.number) != run.bytes.as_slice() {
+            return Ok(false);
+        }
+    }
+    Ok(true)
+}
+
+/// The runs of `abcdefg` that is cut once, and of one that is cut anew from each place on.
+const CUT: &[u8] = br#"("ab" at 0) ("b" at 1) ("cde" at 2) ("e" at 4) ("fg" at 5) ("" at 7)"#;
+
+const EACH: &[u8] = br#"("abc" at 0) ("bcd" at 1) ("g" at 6) ("" at 7)"#;
+
 /// A text in pieces is cut where it is told to be.
 #[test]
-fn pieces(rt: HostRuntime) {
+fn pieces(rt: HostRuntime) -> Result<(), Fail> {
     let bytes = b"abcdefg";
     let cut = InPieces::cut(bytes, 2, 2);
-    for (at, run) in [
-        (0, b"ab".as_slice()),
-        (1, b"b"),
-        (2, b"cde"),
-        (4, b"e"),
-        (5, b"fg"),
-        (7, b""),
-    ] {
-        assert!(rt; cut.run(at) == run);
-    }
+    assert!(rt; has_runs(rt.alloc(), &cut, CUT, 6)?);
     let each = InPieces::from_each(bytes, 2);
-    for (at, run) in [(0, b"abc".as_slice()), (1, b"bcd"), (6, b"g"), (7, b"")] {
-        assert!(rt; each.run(at) == run);
-    }
+    assert!(rt; has_runs(rt.alloc(), &each, EACH, 4)?);
     assert!(rt; tells(&cut, bytes) && tells(&each, bytes));
+    Ok(())
 }
 
 /// A newline alone ends a line: in the text of all bytes the eleventh.
@@ -87,32 +95,29 @@ fn places_of_lines(rt: HostRuntime) -> Result<(), Fail> {
     Ok(())
 }
 
-/// The offset at which a line of a text begins.
-fn start_of(alloc: Global, text: &[u8], n: usize) -> Result<Option<usize>, TextError> {
-    Ok(Buffer::from_slice(alloc, text)?.line_start(n))
+/// Texts, the number of a line of each, and where that begins, if there is one.
+const STARTS: &[u8] = br#"
+("" line 0, "none") ("" line 1, "at" 0) ("" line 2, "none")
+("ab" line 1, "at" 0) ("ab" line 2, "none")
+("\n" line 1, "at" 0) ("\n" line 2, "at" 1) ("\n" line 3, "none")
+("ab\n\nc\n" line 0, "none") ("ab\n\nc\n" line 1, "at" 0) ("ab\n\nc\n" line 2, "at" 3)
+("ab\n\nc\n" line 3, "at" 4) ("ab\n\nc\n" line 4, "at" 6) ("ab\n\nc\n" line 5, "none")
+("ab\n\nc\n" line 18446744073709551615, "none")
+"#;
+
+/// Whether a line of a text begins where the row says.
+fn starts(alloc: Global, row: &[Cell]) -> Result<bool, Fail> {
+    let [text, start] = cells::<2>(row)?;
+    let buffer = Buffer::from_slice(alloc, &text.bytes)?;
+    let wanted = (start.bytes.as_slice() == b"at".as_slice()).then_some(start.number);
+    Ok(buffer.line_start(text.number) == wanted)
 }
 
 /// A text has a line more than newlines.
 #[test]
 fn starts_of_lines(rt: HostRuntime) -> Result<(), Fail> {
-    for (text, n, start) in [
-        (b"".as_slice(), 0, None),
-        (b"", 1, Some(0)),
-        (b"", 2, None),
-        (b"ab", 1, Some(0)),
-        (b"ab", 2, None),
-        (b"\n", 1, Some(0)),
-        (b"\n", 2, Some(1)),
-        (b"\n", 3, None),
-        (b"ab\n\nc\n", 0, None),
-        (b"ab\n\nc\n", 1, Some(0)),
-        (b"ab\n\nc\n", 2, Some(3)),
-        (b"ab\n\nc\n", 3, Some(4)),
-        (b"ab\n\nc\n", 4, Some(6)),
-        (b"ab\n\nc\n", 5, None),
-        (b"ab\n\nc\n", usize::MAX, None),
-    ] {
-        assert!(rt; start_of(rt.alloc(), text, n)? == start);
+    for row in &counted(rt.alloc(), STARTS, 15)? {
+        assert!(rt; starts(rt.alloc(), row)?);
     }
     Ok(())
 }
@@ -133,24 +138,22 @@ fn edits(
     Ok(tells(&buffer, edited))
 }
 
-/// A text, two offsets in it, the bytes that are to stand between them, and the edited text.
+/// A text, the bytes that are to stand between two offsets in it, and the edited text.
+const EDITED: &[u8] = br#"
+("" from 0, "" to 0, "") ("" from 0, "ab" to 0, "ab")
+("abc" from 0, "" to 3, "") ("abc" from 0, "d" to 3, "d")
+("abc" from 0, "de" to 0, "deabc") ("abc" from 3, "de" to 3, "abcde")
+("abc" from 1, "" to 1, "abc") ("abc" from 1, "defgh" to 1, "adefghbc")
+("abcdef" from 1, "x" to 4, "axef") ("abcdef" from 1, "xy" to 3, "axydef")
+("abcdef" from 4, "xyz" to 6, "abcdxyz") ("a\nb\nc\n" from 2, "bb" to 3, "a\nbb\nc\n")
+"#;
+
 #[test]
 fn edited(rt: HostRuntime) -> Result<(), Fail> {
-    for (old, places, new, edited) in [
-        (b"".as_slice(), (0, 0), b"".as_slice(), b"".as_slice()),
-        (b"", (0, 0), b"ab", b"ab"),
-        (b"abc", (0, 3), b"", b""),
-        (b"abc", (0, 3), b"d", b"d"),
-        (b"abc", (0, 0), b"de", b"deabc"),
-        (b"abc", (3, 3), b"de", b"abcde"),
-        (b"abc", (1, 1), b"", b"abc"),
-        (b"abc", (1, 1), b"defgh", b"adefghbc"),
-        (b"abcdef", (1, 4), b"x", b"axef"),
-        (b"abcdef", (1, 3), b"xy", b"axydef"),
-        (b"abcdef", (4, 6), b"xyz", b"abcdxyz"),
-        (b"a\nb\nc\n", (2, 3), b"bb", b"a\nbb\nc\n"),
-    ] {
-        assert!(rt; edits(rt.alloc(), (old, places.0, places.1), new, edited)?);
+    for row in &counted(rt.alloc(), EDITED, 12)? {
+        let [old, new, edited] = cells::<3>(row)?;
+        let places = (old.bytes.as_slice(), old.number, new.number);
+        assert!(rt; edits(rt.alloc(), places, &new.bytes, &edited.bytes)?);
     }
     Ok(())
 }
@@ -174,41 +177,36 @@ fn edits_all(
     Ok(tells(&buffer, edited))
 }
 
-/// A text, splices that are made together, and the edited text: far apart, one at the end of another, at one
-/// place in the order given, and of no bytes.
+/// A text, the edited text, and the splices that are made together: far apart, one at the end of another, at
+/// one place in the order given, and of no bytes.
+const TOGETHER: &[u8] = br#"
+("a\nb\nc\nd\n" -> "xyz\nb\nc\n\n": "from" 0, "xyz" to 1; "from" 6, "" to 7)
+("abcdef" -> "axyzef": "from" 1, "x" to 3; "from" 3, "yz" to 4)
+("abc" -> "axyzbc": "from" 1, "x" to 1; "from" 1, "yz" to 1)
+("abc" -> "axyzc": "from" 1, "x" to 1; "from" 1, "yz" to 2)
+("abc" -> "axyzc": "from" 1, "x" to 2; "from" 2, "yz" to 2)
+("abc" -> "": "from" 0, "" to 1; "from" 1, "" to 2; "from" 2, "" to 3)
+("abc" -> "bcde": "from" 0, "" to 1; "from" 3, "de" to 3)
+("abc" -> "abcde": "from" 3, "d" to 3; "from" 3, "" to 3; "from" 3, "e" to 3)
+("abcd" -> "xcy": "from" 0, "x" to 2; "from" 2, "" to 2; "from" 3, "y" to 4)
+("abc" -> "abc": "from" 1, "" to 1; "from" 2, "" to 2)
+("" -> "ba": "from" 0, "b" to 0; "from" 0, "a" to 0)
+("abcdef" -> "axyef": "from" 1, "xy" to 4)
+"#;
+
+/// Whether the splices of a row make the edited text.
+fn edits_together(alloc: Global, row: &[Cell]) -> Result<bool, Fail> {
+    let [old, edited, pairs @ ..] = row else {
+        return Err(Fail::from("no row"));
+    };
+    let splices = splices(alloc, pairs)?;
+    Ok(edits_all(alloc, &old.bytes, &splices, &edited.bytes)?)
+}
+
 #[test]
 fn edited_together(rt: HostRuntime) -> Result<(), Fail> {
-    for (old, splices, edited) in [
-        (
-            b"a\nb\nc\nd\n".as_slice(),
-            [part(0, 1, b"xyz"), part(6, 7, b"")].as_slice(),
-            b"xyz\nb\nc\n\n".as_slice(),
-        ),
-        (b"abcdef", &[part(1, 3, b"x"), part(3, 4, b"yz")], b"axyzef"),
-        (b"abc", &[part(1, 1, b"x"), part(1, 1, b"yz")], b"axyzbc"),
-        (b"abc", &[part(1, 1, b"x"), part(1, 2, b"yz")], b"axyzc"),
-        (b"abc", &[part(1, 2, b"x"), part(2, 2, b"yz")], b"axyzc"),
-        (
-            b"abc",
-            &[part(0, 1, b""), part(1, 2, b""), part(2, 3, b"")],
-            b"",
-        ),
-        (b"abc", &[part(0, 1, b""), part(3, 3, b"de")], b"bcde"),
-        (
-            b"abc",
-            &[part(3, 3, b"d"), part(3, 3, b""), part(3, 3, b"e")],
-            b"abcde",
-        ),
-        (
-            b"abcd",
-            &[part(0, 2, b"x"), part(2, 2, b""), part(3, 4, b"y")],
-            b"xcy",
-        ),
-        (b"abc", &[part(1, 1, b""), part(2, 2, b"")], b"abc"),
-        (b"", &[part(0, 0, b"b"), part(0, 0, b"a")], b"ba"),
-        (b"abcdef", &[part(1, 4, b"xy")], b"axyef"),
-    ] {
-        assert!(rt; edits_all(rt.alloc(), old, splices, edited)?, "{edited:?}");
+    for (at, row) in counted(rt.alloc(), TOGETHER, 12)?.iter().enumerate() {
+        assert!(rt; edits_together(rt.alloc(), row)?, "row {at}");
     }
     Ok(())
 }
@@ -231,24 +229,41 @@ fn letters(alloc: Global, count: usize) -> Result<Vec<u8>, AllocError> {
     vec![in alloc; b'x'; count]
 }
 
+/// The error of this name.
+fn error_of(name: &[u8]) -> Result<TextError, Fail> {
+    match name {
+        b"Range" => Ok(TextError::Range),
+        b"TooLarge" => Ok(TextError::TooLarge),
+        b"Order" => Ok(TextError::Order),
+        _ => Err(Fail::from("no error")),
+    }
+}
+
+/// Edits of `abc` that are refused: the two offsets, how many letters come, and the error.
+const REFUSED: &[u8] = br#"
+("from" 2, "to" 1, "letters" 0, "Range") ("from" 0, "to" 4, "letters" 0, "Range")
+("from" 4, "to" 4, "letters" 0, "Range")
+("from" 18446744073709551615, "to" 18446744073709551615, "letters" 0, "Range")
+("from" 2, "to" 1, "letters" 16_777_217, "Range") ("from" 3, "to" 4, "letters" 16_777_217, "Range")
+("from" 0, "to" 3, "letters" 16_777_217, "TooLarge") ("from" 0, "to" 2, "letters" 16_777_216, "TooLarge")
+"#;
+
+/// Whether a buffer of `abc` refuses the edit of a row, and leaves its bytes.
+fn refuses(alloc: Global, buffer: &mut Buffer, row: &[Cell]) -> Result<bool, Fail> {
+    let [from, to, new, name] = cells::<4>(row)?;
+    let new = letters(alloc, new.number)?;
+    let error = buffer.prepare(from.number, to.number, &new).err();
+    Ok(error == Some(error_of(&name.bytes)?) && tells(buffer, b"abc"))
+}
+
 /// A refused edit leaves the bytes. What is out of range is told first, then what is too large.
 #[test]
 fn refusals(rt: HostRuntime) -> Result<(), Fail> {
     let most = letters(rt.alloc(), 16_777_216)?;
     let large = letters(rt.alloc(), 16_777_217)?;
     let mut buffer = Buffer::from_slice(rt.alloc(), b"abc")?;
-    for (a, b, new, refusal) in [
-        (2, 1, b"".as_slice(), TextError::Range),
-        (0, 4, b"", TextError::Range),
-        (4, 4, b"", TextError::Range),
-        (usize::MAX, usize::MAX, b"", TextError::Range),
-        (2, 1, &large, TextError::Range),
-        (3, 4, &large, TextError::Range),
-        (0, 3, &large, TextError::TooLarge),
-        (0, 2, &most, TextError::TooLarge),
-    ] {
-        assert!(rt; buffer.prepare(a, b, new).err() == Some(refusal));
-        assert!(rt; tells(&buffer, b"abc"));
+    for row in &counted(rt.alloc(), REFUSED, 8)? {
+        assert!(rt; refuses(rt.alloc(), &mut buffer, row)?);
     }
     let change = buffer.prepare(0, 3, &most)?;
     buffer.commit(change);
@@ -273,30 +288,33 @@ fn is_refused(buffer: &mut Buffer, splices: &[Splice<'_>], error: TextError) -> 
     buffer.prepare_all(splices).err() == Some(error) && tells(buffer, b"abc")
 }
 
+/// Splices that are refused, after their error.
+const REFUSED_TOGETHER: &[u8] = br#"
+("Range": "from" 1, "" to 0; "from" 1, "" to 2)
+("Range": "from" 0, "" to 1; "from" 3, "" to 4)
+("Range": "from" 0, "" to 1; "from" 2, "" to 18446744073709551615)
+("Range": "from" 1, "x" to 3; "from" 0, "" to 4)
+("Order": "from" 0, "" to 2; "from" 1, "" to 3)
+("Order": "from" 1, "" to 2; "from" 0, "" to 0)
+("Order": "from" 0, "" to 2; "from" 1, "" to 1; "from" 2, "" to 3)
+"#;
+
+/// Whether a buffer of `abc` refuses the splices of a row.
+fn refuses_together(alloc: Global, buffer: &mut Buffer, row: &[Cell]) -> Result<bool, Fail> {
+    let [name, pairs @ ..] = row else {
+        return Err(Fail::from("no row"));
+    };
+    let splices = splices(alloc, pairs)?;
+    Ok(is_refused(buffer, &splices, error_of(&name.bytes)?))
+}
+
 /// Splices that are refused leave the bytes. That one is out of range is told first, then that they are out
 /// of order.
 #[test]
 fn refused_together(rt: HostRuntime) -> Result<(), Fail> {
     let mut buffer = Buffer::from_slice(rt.alloc(), b"abc")?;
-    for (splices, error) in [
-        (
-            [part(1, 0, b""), part(1, 2, b"")].as_slice(),
-            TextError::Range,
-        ),
-        (&[part(0, 1, b""), part(3, 4, b"")], TextError::Range),
-        (
-            &[part(0, 1, b""), part(2, usize::MAX, b"")],
-            TextError::Range,
-        ),
-        (&[part(1, 3, b"x"), part(0, 4, b"")], TextError::Range),
-        (&[part(0, 2, b""), part(1, 3, b"")], TextError::Order),
-        (&[part(1, 2, b""), part(0, 0, b"")], TextError::Order),
-        (
-            &[part(0, 2, b""), part(1, 1, b""), part(2, 3, b"")],
-            TextError::Order,
-        ),
-    ] {
-        assert!(rt; is_refused(&mut buffer, splices, error));
+    for row in &counted(rt.alloc(), REFUSED_TOGETHER, 7)? {
+        assert!(rt; refuses_together(rt.alloc(), &mut buffer, row)?);
     }
     Ok(())
 }
@@ -354,32 +372,24 @@ fn fits(
     Ok(Buffer::from_slice(alloc, other)?.fits(&change))
 }
 
+/// A text, the bytes that are to stand between two offsets in it, another text, and whether the change fits
+/// that.
+const FITTING: &[u8] = br#"
+("abc" from 1, "x" to 2, "abc": "fits") ("abc" from 1, "" to 2, "dbef": "fits")
+("abc" from 1, "x" to 2, "aac": "not") ("abc" from 1, "x" to 2, "a": "not")
+("abc" from 1, "x" to 2, "": "not") ("abc" from 3, "" to 3, "ab": "not")
+("abc" from 1, "0123456789012345678901234567890123456789" to 2, "abc": "not")
+"#;
+
 /// A change fits where its places are there, with the bytes between them that it was
 /// prepared for, and there is room.
 #[test]
 fn fitting(rt: HostRuntime) -> Result<(), Fail> {
-    for (old, places, new, other, is_fit) in [
-        (
-            b"abc".as_slice(),
-            (1, 2),
-            b"x".as_slice(),
-            b"abc".as_slice(),
-            true,
-        ),
-        (b"abc", (1, 2), b"", b"dbef", true),
-        (b"abc", (1, 2), b"x", b"aac", false),
-        (b"abc", (1, 2), b"x", b"a", false),
-        (b"abc", (1, 2), b"x", b"", false),
-        (b"abc", (3, 3), b"", b"ab", false),
-        (
-            b"abc",
-            (1, 2),
-            b"0123456789012345678901234567890123456789",
-            b"abc",
-            false,
-        ),
-    ] {
-        assert!(rt; fits(rt.alloc(), (old, places.0, places.1), new, other)? == is_fit);
+    for row in &counted(rt.alloc(), FITTING, 7)? {
+        let [old, new, other, is_fit] = cells::<4>(row)?;
+        let places = (old.bytes.as_slice(), old.number, new.number);
+        let found = fits(rt.alloc(), places, &new.bytes, &other.bytes)?;
+        assert!(rt; found == (is_fit.bytes.as_slice() == b"fits".as_slice()));
     }
     Ok(())
 }
@@ -533,26 +543,22 @@ fn makes_of(
     Ok(edits_all_alike(&mut both, splices)? && has_places(&both, dice))
 }
 
+/// Splices where chunks end.
+const AT_SEAMS: &[u8] = br#"
+("from" 4096, "x" to 4096; "from" 8192, "y" to 8192)
+("from" 4095, "" to 4096; "from" 4096, "" to 4097)
+("from" 0, "" to 4096; "from" 4096, "" to 8192; "from" 8192, "" to 12_288)
+("from" 1, "" to 4095; "from" 4097, "" to 8191; "from" 8193, "" to 12_287)
+"#;
+
 /// Splices at the seams of chunks, each time of the same text.
 #[test]
 fn spliced_at_seams(rt: HostRuntime) -> Result<(), Fail> {
     let mut dice = Dice(17);
     let text = lines(rt.alloc(), &mut dice, 3 * 4096 + 5)?;
-    for splices in [
-        [part(4096, 4096, b"x"), part(8192, 8192, b"y")].as_slice(),
-        &[part(4095, 4096, b""), part(4096, 4097, b"")],
-        &[
-            part(0, 4096, b""),
-            part(4096, 8192, b""),
-            part(8192, 12_288, b""),
-        ],
-        &[
-            part(1, 4095, b""),
-            part(4097, 8191, b""),
-            part(8193, 12_287, b""),
-        ],
-    ] {
-        assert!(rt; makes_of(rt.alloc(), &mut dice, &text, splices)?);
+    for row in &counted(rt.alloc(), AT_SEAMS, 4)? {
+        let splices = splices(rt.alloc(), row)?;
+        assert!(rt; makes_of(rt.alloc(), &mut dice, &text, &splices)?);
     }
     Ok(())
 }
@@ -587,36 +593,34 @@ fn chunks_spliced_at_seams(rt: HostRuntime) -> Result<(), Fail> {
     Ok(())
 }
 
+/// Two offsets, the second at most the end of the text, and how many bytes are to stand between them.
+const SEAMS: &[u8] = br#"
+("from" 4096, "to" 4096, "bytes" 1) ("from" 0, "to" 4096, "bytes" 0)
+("from" 4096, "to" 4096, "bytes" 4095) ("from" 4095, "to" 4097, "bytes" 8192)
+("from" 2048, "to" 2048, "bytes" 2048) ("from" 0, "to" 0, "bytes" 4096)
+("from" 0, "to" 0, "bytes" 1) ("from" 1, "to" 4097, "bytes" 0)
+("from" 1, "to" 1, "bytes" 4097) ("from" 100, "to" 12_000, "bytes" 1)
+("from" 0, "to" 18446744073709551615, "bytes" 0) ("from" 0, "to" 0, "bytes" 20_480)
+("from" 0, "to" 18446744073709551615, "bytes" 20_479)
+("from" 0, "to" 18446744073709551615, "bytes" 3)
+("from" 0, "to" 18446744073709551615, "bytes" 0)
+("from" 0, "to" 18446744073709551615, "bytes" 0)
+("from" 0, "to" 18446744073709551615, "bytes" 2047)
+("from" 0, "to" 18446744073709551615, "bytes" 20_480)
+"#;
+
 /// Edits at the seams of chunks, of chunks that are full, and of all of them.
 #[test]
 fn seams(rt: HostRuntime) -> Result<(), Fail> {
     let mut dice = Dice(11);
     let mut both = Both::of(rt.alloc(), &lines(rt.alloc(), &mut dice, 3 * 4096 + 5)?)?;
     let large = lines(rt.alloc(), &mut dice, 5 * 4096)?;
-    for ((a, b), count) in [
-        ((4096, 4096), 1),
-        ((0, 4096), 0),
-        ((4096, 4096), 4095),
-        ((4095, 4097), 8192),
-        ((2048, 2048), 2048),
-        ((0, 0), 4096),
-        ((0, 0), 1),
-        ((1, 4097), 0),
-        ((1, 1), 4097),
-        ((100, 12_000), 1),
-        ((0, usize::MAX), 0),
-        ((0, 0), 5 * 4096),
-        ((0, usize::MAX), 5 * 4096 - 1),
-        ((0, usize::MAX), 3),
-        ((0, usize::MAX), 0),
-        ((0, usize::MAX), 0),
-        ((0, usize::MAX), 2047),
-        ((0, usize::MAX), 5 * 4096),
-    ] {
-        let b = b.min(both.bytes.len());
-        let new = large.get(..count).unwrap_or(b"");
-        assert!(rt; edits_alike(&mut both, (a, b), new)?, "{a} {b} {count}");
-        assert!(rt; has_places(&both, &mut dice), "{a} {b} {count}");
+    for (at, row) in counted(rt.alloc(), SEAMS, 18)?.iter().enumerate() {
+        let [from, to, count] = cells::<3>(row)?;
+        let places = (from.number, to.number.min(both.bytes.len()));
+        let new = large.get(..count.number).unwrap_or(b"");
+        assert!(rt; edits_alike(&mut both, places, new)?, "row {at}");
+        assert!(rt; has_places(&both, &mut dice), "row {at}");
     }
     Ok(())
 }
