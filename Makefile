@@ -1,7 +1,8 @@
 # make             proves and builds the program, if it is older than its sources
 # make test        the gate: proves every crate from nothing, runs every test; then the scripts over what the
 #                  gate has built
-# make scripts     those scripts alone, over what the last gate has left
+# make scripts     those scripts alone, over what the last gate has left: all of them, and then it names those
+#                  that failed
 # make bench       times the program beside dash and cat, and prints a table
 # make install     installs the program, its language server, its manual page and its completions for bash,
 #                  zsh and fish below PREFIX, itself below DESTDIR where that is given
@@ -11,6 +12,9 @@ PROGRAM = crates/shform/out/shform
 SHARE = $(DESTDIR)$(PREFIX)/share
 TESTS = crates/shtreetests/out/shtreetests_tests crates/shtests/out/shtests_tests \
 	crates/shlivetests/out/shlivetests_tests crates/shform/out/shform_tests
+SCRIPTS = tests/run tests/examples tests/session tests/soak tests/lsp tests/terminal tests/refused-growths \
+	tests/leaks tests/stack tests/second-reader tests/launcher tests/install tests/completions \
+	tests/git-hook tests/pre-commit tests/columns tests/names
 
 .PHONY: all test scripts bench install
 
@@ -22,23 +26,9 @@ test:
 	$(MAKE) scripts
 
 scripts: $(PROGRAM) $(TESTS)
-	tests/run
-	tests/examples
-	tests/session
-	tests/soak
-	tests/lsp
-	tests/terminal
-	tests/refused-growths
-	tests/leaks
-	tests/stack
-	tests/second-reader
-	tests/launcher
-	tests/install
-	tests/completions
-	tests/git-hook
-	tests/pre-commit
-	tests/columns
-	tests/names
+	@failed=; for script in $(SCRIPTS); do \
+		echo "$$script"; "$$script" || failed="$$failed $$script"; \
+	done; [ -z "$$failed" ] || { echo "make scripts: FAILED:$$failed" >&2; exit 1; }
 
 $(PROGRAM) $(TESTS):
 	@echo "make scripts: there is no $@: run make test, whose gate leaves it" >&2; exit 1
