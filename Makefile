@@ -14,7 +14,7 @@ TESTS = crates/shtreetests/out/shtreetests_tests crates/shtests/out/shtests_test
 	crates/shlivetests/out/shlivetests_tests crates/shform/out/shform_tests
 SCRIPTS = tests/run tests/examples tests/session tests/soak tests/lsp tests/terminal tests/refused-growths \
 	tests/leaks tests/stack tests/second-reader tests/launcher tests/install tests/completions \
-	tests/git-hook tests/pre-commit tests/columns tests/names
+	tests/git-hook tests/pre-commit tests/columns tests/names tests/imports
 
 .PHONY: all test scripts bench install
 
