@@ -18,8 +18,8 @@ use Rattle.shast.specs.Tree.{ACommand, ASubst, AnItem, AWord}
 use Rattle.shgrammar.specs.Sights.{Given, the_piece, Move}
 use Rattle.shgrammar.specs.HereDocuments.{ADelimiter}
 use Rattle.shgrammar.specs.Form.{Spelled, Telling, move, token, step_if}
-use Rattle.shgrammar.specs.Words.{single, escaped_turn, backquoted_text, Inner, WordSoFar, having, opened, piece_row, a_piece, contents, a_word, dollar_single}
-use Rattle.shgrammar.specs.Commands.{is_newline_token, is_semicolon, a_semicolon, a_join_of, is_pipe, is_bang, begins_simple, begins_word, begins_redirect, opener_of, compound_by, and_or_operator_of, next_token, Items, so_many, breaks, after_word, is_number_token, redirect_operator_of, takes_here, is_long, is_strip, document_by, a_document, none_waits, nothing_waits, a_number, an_operator, operator_by, a_target, one_redirect, after_redirect, redirect_turn, with_redirect_list, an_item, item_by, item_turn, a_simple, comment_by, a_comment, a_newline, what_is_wrong, unexpected, JoinSo, join_so, with_comment, join_turn, a_join, a_command, a_bang, Piped, piped, one_command, pipe_turn, a_pipeline, Joined, joined_so, one_pipeline, joined_by, and_or_turn, an_and_or, separator_of, separator_by, a_separator, Entered, an_entry, a_word_command, is_word, is_paren, named_function, ASeparator, past_separator}
+use Rattle.shgrammar.specs.Words.{single, escaped_turn, backquoted_text, Inner, WordSoFar, word_so_far, opened, piece_row, a_piece, contents, a_word, dollar_single}
+use Rattle.shgrammar.specs.Commands.{is_newline_token, is_semicolon, a_semicolon, a_join_of, is_pipe, is_bang, begins_simple, begins_word, begins_redirect, opener_of, compound_by, and_or_operator_of, next_token, ItemsSoFar, items_so_far, breaks, after_word, is_number_token, redirect_operator_of, takes_here, is_long, is_strip, document_by, a_document, none_waits, nothing_waits, a_number, an_operator, operator_by, a_target, one_redirect, after_redirect, redirect_turn, with_redirect_list, an_item, item_by, item_turn, a_simple, comment_by, a_comment, a_newline, what_is_wrong, unexpected, JoinSoFar, join_so_far, with_comment, join_turn, a_join, a_command, a_bang, PipesSoFar, pipes_so_far, one_command, pipe_turn, a_pipeline, AndOrSoFar, and_or_so_far, one_pipeline, joined_by, and_or_turn, an_and_or, separator_of, separator_by, a_separator, Entered, an_entry, a_word_command, is_word, is_paren, named_function, ASeparator, past_separator}
 use Rattle.shgrammar.specs.Compounds.{a_linebreak}
 use Rattle.shast.specs.Nodes.{word_span}
 use Rattle.shgrammar.proofs.Alike.{SameStep, SameHeld, All, Alike, alike_give, alike_push, alike_move, alike_stop_at, alike_stop, alike_then, alike_see, alike_same, alike_on, alike_pushed, alike_pick, alike_at, alike_when, alike_token, alike_change, alike_with_bytes, alike_many}
@@ -35,7 +35,7 @@ abbrev pub SamePlace : AWord → AWord → Type 0
 SamePlace w v = word_span w ≡ word_span v
 
 -- the same position and the same token, whatever items were read
-abbrev pub SameItems : Items → Items → Type 0
+abbrev pub SameItems : ItemsSoFar → ItemsSoFar → Type 0
 SameItems i j = (i.position ≡ j.position) × (i.next ≡ j.next)
 
 -- words at the same place, of the same bytes
@@ -43,30 +43,30 @@ abbrev pub SameTarget : AWord × Spelled → AWord × Spelled → Type 0
 SameTarget x y = SamePlace x.0 y.0 × (x.1 ≡ y.1)
 
 -- both break their line or both do not, and the same token comes after
-abbrev pub SameJoin : JoinSo → JoinSo → Type 0
+abbrev pub SameJoin : JoinSoFar → JoinSoFar → Type 0
 SameJoin j k = (j.join.broken ≡ k.join.broken) × (j.next ≡ k.next)
 
-abbrev pub SamePiped : Piped → Piped → Type 0
-SamePiped p q = p.next ≡ q.next
+abbrev pub SamePipes : PipesSoFar → PipesSoFar → Type 0
+SamePipes p q = p.next ≡ q.next
 
-abbrev pub SameJoined : Joined → Joined → Type 0
-SameJoined a b = a.next ≡ b.next
+abbrev pub SameAndOrs : AndOrSoFar → AndOrSoFar → Type 0
+SameAndOrs a b = a.next ≡ b.next
 
 -- both are ended by a separator or both are not, and the same token comes after
 abbrev pub SameEntered : Entered → Entered → Type 0
 SameEntered e f = (e.parted ≡ f.parted) × (e.next ≡ f.next)
 
-join_step : (p : Bool) (j k : JoinSo) → SameJoin j k → SameStep SameJoin (step_if p j) (step_if p k)
+join_step : (p : Bool) (j k : JoinSoFar) → SameJoin j k → SameStep SameJoin (step_if p j) (step_if p k)
 join_step true j k same = same
 join_step false j k same = same
 
 join_steps : (l m : Bool × Next) → l ≡ m → (broken pale : Bool) → broken ≡ pale → (cs ds : Row Span)
-    → SameStep SameJoin (step_if l.0 (join_so (a_join_of (broken || l.0) cs) l.1))
-    (step_if m.0 (join_so (a_join_of (pale || m.0) ds) m.1))
+    → SameStep SameJoin (step_if l.0 (join_so_far (a_join_of (broken || l.0) cs) l.1))
+    (step_if m.0 (join_so_far (a_join_of (pale || m.0) ds) m.1))
 join_steps l m is broken pale same cs ds =
-    subst (λ (z : Bool × Next). SameStep SameJoin (step_if l.0 (join_so (a_join_of (broken || l.0) cs) l.1))
-    (step_if z.0 (join_so (a_join_of (pale || z.0) ds) z.1))) is
-    (join_step l.0 (join_so (a_join_of (broken || l.0) cs) l.1) (join_so (a_join_of (pale || l.0) ds) l.1)
+    subst (λ (z : Bool × Next). SameStep SameJoin (step_if l.0 (join_so_far (a_join_of (broken || l.0) cs) l.1))
+    (step_if z.0 (join_so_far (a_join_of (pale || z.0) ds) z.1))) is
+    (join_step l.0 (join_so_far (a_join_of (broken || l.0) cs) l.1) (join_so_far (a_join_of (pale || l.0) ds) l.1)
     (ap (λ b. b || l.0) same, refl))
 
 -- a join is broken where its operator's token is, or what follows it
@@ -162,7 +162,7 @@ module _ {g : Given} where
   alike_with cs ds (Some c) = alike_push tt
   alike_with cs ds None = alike_give tt
 
-  alike_join_turn : (j k : JoinSo) → SameJoin j k → Alike g (SameStep SameJoin) (join_turn j) (join_turn k)
+  alike_join_turn : (j k : JoinSoFar) → SameJoin j k → Alike g (SameStep SameJoin) (join_turn j) (join_turn k)
   unfolding join_turn
   alike_join_turn j k same =
       alike_then (alike_comment j.next k.next same.1)
@@ -269,8 +269,9 @@ module _ {g : Given} {inner : Inner} (fits : Fits g inner) where
       Alike g All (contents inner mode b ss) (contents inner mode b zs)
   unfolding contents
   alike_contents mode b ss zs =
-      alike_then (alike_many SameHeld (a_piece inner mode b) (a_piece inner mode b) (alike_piece mode b) (having 0 ss)
-      (having 0 zs) refl) (λ x y so. alike_give tt)
+      alike_then (alike_many SameHeld (a_piece inner mode b) (a_piece inner mode b) (alike_piece mode b)
+      (word_so_far 0 ss)
+      (word_so_far 0 zs) refl) (λ x y so. alike_give tt)
 
   pub alike_word : Alike g SamePlace (a_word inner) (a_word inner)
   unfolding a_word
@@ -291,7 +292,7 @@ module _ {g : Given} {inner : Inner} (fits : Fits g inner) where
       Alike g S (unexpected inner n) (unexpected inner n)
   alike_unexpected n = alike_then (alike_wrong n) (λ w v so. rw (← so) alike_stop)
 
-  pub alike_item : (i j : Items) (position : Position) →
+  pub alike_item : (i j : ItemsSoFar) (position : Position) →
       Alike g (SameStep SameItems) (an_item inner i position) (an_item inner j position)
   unfolding an_item
   alike_item i j position =
@@ -319,7 +320,7 @@ module _ {g : Given} {inner : Inner} (fits : Fits g inner) where
       → Alike g (SameStep SameItems) (one_redirect inner broken p is n) (one_redirect inner pale q js m)
   alike_redirect_at broken pale p q is js n m one two = rw (← one, ← two) (alike_redirect broken pale p is js n)
 
-  alike_item_by : (i j : Items) (position : Option Position) → SameItems i j →
+  alike_item_by : (i j : ItemsSoFar) (position : Option Position) → SameItems i j →
       Alike g (SameStep SameItems) (item_by inner i position) (item_by inner j position)
   alike_item_by i j (Some position) same = alike_item i j position
   alike_item_by i j None same =
@@ -328,19 +329,20 @@ module _ {g : Given} {inner : Inner} (fits : Fits g inner) where
       (after_redirect j.position) i.items j.items i.next j.next (ap after_redirect same.0) same.1)
       (alike_give same)
 
-  alike_item_turn : (i j : Items) → SameItems i j → Alike g (SameStep SameItems) (item_turn inner i) (item_turn inner j)
+  alike_item_turn : (i j : ItemsSoFar) → SameItems i j →
+      Alike g (SameStep SameItems) (item_turn inner i) (item_turn inner j)
   unfolding item_turn
   alike_item_turn i j same = subst
       (λ (n : Next). Alike g (SameStep SameItems) (item_by inner i (after_word i.next.token))
       (item_by inner j (after_word n.token))) same.1 (alike_item_by i j (after_word i.next.token) same)
 
-  alike_simple : (i j : Items) → SameItems i j → Alike g SameNext (a_simple inner i) (a_simple inner j)
+  alike_simple : (i j : ItemsSoFar) → SameItems i j → Alike g SameNext (a_simple inner i) (a_simple inner j)
   unfolding a_simple
   alike_simple i j same = alike_then
       (alike_many SameItems (item_turn inner) (item_turn inner) alike_item_turn i j same)
       (λ is js so. alike_give so.1)
 
-  alike_redirect_turn : (i j : Items) → SameItems i j →
+  alike_redirect_turn : (i j : ItemsSoFar) → SameItems i j →
       Alike g (SameStep SameItems) (redirect_turn inner i) (redirect_turn inner j)
   unfolding redirect_turn
   alike_redirect_turn i j same =
@@ -352,7 +354,7 @@ module _ {g : Given} {inner : Inner} (fits : Fits g inner) where
   unfolding with_redirect_list
   alike_with_redirect_list c d same =
       alike_then (alike_many SameItems (redirect_turn inner) (redirect_turn inner) alike_redirect_turn
-      (so_many [] Command c.1) (so_many [] Command d.1) (refl, same)) (λ i j so. alike_give so.1)
+      (items_so_far [] Command c.1) (items_so_far [] Command d.1) (refl, same)) (λ i j so. alike_give so.1)
 
   pub alike_compound_by : (n : Next) (o : Option Opener) →
       Alike g SameNext (compound_by inner n o) (compound_by inner n o)
@@ -370,14 +372,14 @@ module _ {g : Given} {inner : Inner} (fits : Fits g inner) where
   alike_word_command =
       alike_see (λ good. alike_then alike_word (λ w v so. alike_then (alike_next _) (λ n m same.
       alike_pick _ _ (ap (λ (z : Next). is_paren z.token) same) (alike_named_function good w v so)
-      (alike_pushed (alike_simple (so_many _ Suffix n) (so_many _ Suffix m) (refl, same))))))
+      (alike_pushed (alike_simple (items_so_far _ Suffix n) (items_so_far _ Suffix m) (refl, same))))))
 
   alike_command : (n : Next) → Alike g SameNext (a_command inner n) (a_command inner n)
   unfolding a_command
   alike_command n =
       alike_pick (is_word n.token) _ refl alike_word_command
       (alike_pick (begins_simple n.token) _ refl
-      (alike_simple (so_many [] Command n) (so_many [] Command n) (refl, refl))
+      (alike_simple (items_so_far [] Command n) (items_so_far [] Command n) (refl, refl))
       (alike_compound_by n (opener_of n.token)))
 
   -- ---- pipelines, and-or lists and entries
@@ -389,8 +391,8 @@ module _ {g : Given} {inner : Inner} (fits : Fits g inner) where
       (alike_then alike_mark (λ x y so. alike_then (alike_next _) (λ m k same. alike_give same)))
       (alike_give refl)
 
-  alike_one_command : (p q : Piped) → SamePiped p q →
-      Alike g (SameStep SamePiped) (one_command inner p) (one_command inner q)
+  alike_one_command : (p q : PipesSoFar) → SamePipes p q →
+      Alike g (SameStep SamePipes) (one_command inner p) (one_command inner q)
   unfolding one_command
   alike_one_command p q same =
       alike_then alike_mark (λ x y all. alike_then
@@ -398,7 +400,8 @@ module _ {g : Given} {inner : Inner} (fits : Fits g inner) where
       (λ j k so. alike_then (alike_at (a_command inner) alike_command j.1 k.1 so)
       (λ c d so'. alike_pushed (alike_give so'))))
 
-  alike_pipe_turn : (p q : Piped) → SamePiped p q → Alike g (SameStep SamePiped) (pipe_turn inner p) (pipe_turn inner q)
+  alike_pipe_turn : (p q : PipesSoFar) → SamePipes p q →
+      Alike g (SameStep SamePipes) (pipe_turn inner p) (pipe_turn inner q)
   unfolding pipe_turn
   alike_pipe_turn p q same = alike_pick _ _ (ap (λ (n : Next). is_pipe n.token) same) (alike_one_command p q same)
       (alike_give same)
@@ -407,11 +410,12 @@ module _ {g : Given} {inner : Inner} (fits : Fits g inner) where
   unfolding a_pipeline
   alike_pipeline n =
       alike_then (alike_bang n) (λ b d so. alike_then (alike_at (a_command inner) alike_command b.1 d.1 so)
-      (λ c e so'. alike_then (alike_many SamePiped (pipe_turn inner) (pipe_turn inner) alike_pipe_turn (piped [] c.1)
-      (piped [] e.1) so') (λ p q so''. alike_give so'')))
+      (λ c e so'. alike_then (alike_many SamePipes (pipe_turn inner) (pipe_turn inner) alike_pipe_turn
+      (pipes_so_far [] c.1)
+      (pipes_so_far [] e.1) so') (λ p q so''. alike_give so'')))
 
-  alike_one_pipeline : (a b : Joined) (o : AndOrOperator) → SameJoined a b →
-      Alike g (SameStep SameJoined) (one_pipeline inner a o) (one_pipeline inner b o)
+  alike_one_pipeline : (a b : AndOrSoFar) (o : AndOrOperator) → SameAndOrs a b →
+      Alike g (SameStep SameAndOrs) (one_pipeline inner a o) (one_pipeline inner b o)
   unfolding one_pipeline
   alike_one_pipeline a b o same =
       alike_then (alike_token {R = All} (alike_on (alike_move {S = All} tt)) (λ x y z so. tt))
@@ -419,16 +423,16 @@ module _ {g : Given} {inner : Inner} (fits : Fits g inner) where
       (λ j k so. alike_then (alike_at (a_pipeline inner) alike_pipeline j.1 k.1 so)
       (λ p q so'. alike_pushed (alike_give so'))))
 
-  alike_joined_by : (a b : Joined) (o : Option AndOrOperator) → SameJoined a b →
-      Alike g (SameStep SameJoined) (joined_by inner a o) (joined_by inner b o)
+  alike_joined_by : (a b : AndOrSoFar) (o : Option AndOrOperator) → SameAndOrs a b →
+      Alike g (SameStep SameAndOrs) (joined_by inner a o) (joined_by inner b o)
   alike_joined_by a b (Some o) same = alike_one_pipeline a b o same
   alike_joined_by a b None same = alike_give same
 
-  alike_and_or_turn : (a b : Joined) → SameJoined a b →
-      Alike g (SameStep SameJoined) (and_or_turn inner a) (and_or_turn inner b)
+  alike_and_or_turn : (a b : AndOrSoFar) → SameAndOrs a b →
+      Alike g (SameStep SameAndOrs) (and_or_turn inner a) (and_or_turn inner b)
   unfolding and_or_turn
   alike_and_or_turn a b same =
-      subst (λ (n : Next). Alike g (SameStep SameJoined) (joined_by inner a (and_or_operator_of a.next.token))
+      subst (λ (n : Next). Alike g (SameStep SameAndOrs) (joined_by inner a (and_or_operator_of a.next.token))
       (joined_by inner b (and_or_operator_of n.token))) same
       (alike_joined_by a b (and_or_operator_of a.next.token) same)
 
@@ -436,8 +440,8 @@ module _ {g : Given} {inner : Inner} (fits : Fits g inner) where
   unfolding an_and_or
   alike_and_or n =
       alike_then (alike_pipeline n)
-      (λ p q same. alike_then (alike_many SameJoined (and_or_turn inner)
-      (and_or_turn inner) alike_and_or_turn (joined_so [] p.1) (joined_so [] q.1) same)
+      (λ p q same. alike_then (alike_many SameAndOrs (and_or_turn inner)
+      (and_or_turn inner) alike_and_or_turn (and_or_so_far [] p.1) (and_or_so_far [] q.1) same)
       (λ a b so. alike_give so))
 
   pub alike_entry : (blank pale : Bool) (n : Next) →

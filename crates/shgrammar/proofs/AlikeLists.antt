@@ -15,10 +15,10 @@ use Rattle.shgrammar.specs.Form.{Spelled, give, ◌>>=◌, step_if}
 use Rattle.shgrammar.specs.Words.{Inner}
 use Rattle.shgrammar.specs.Levels.{level}
 use Rattle.shgrammar.specs.Tokens.{is_end}
-use Rattle.shgrammar.specs.Commands.{is_newline_token, a_semicolon, is_pipe, begins_word, begins_pipeline, opener_of, compound_by, Items, so_many, a_newline, unexpected, is_word, is_paren, ends_item, falls_through}
+use Rattle.shgrammar.specs.Commands.{is_newline_token, a_semicolon, is_pipe, begins_word, begins_pipeline, opener_of, compound_by, ItemsSoFar, items_so_far, a_newline, unexpected, is_word, is_paren, ends_item, falls_through}
 use Rattle.shgrammar.specs.Lines.{end_of_line, an_open_line, a_line}
-use Rattle.shgrammar.specs.Lists.{Listed, ListSo, list_so, none_listed, with_command, next_line, one_entry, entry_turn, remark_by, a_remark, on_line, list_turn, a_list}
-use Rattle.shgrammar.specs.Compounds.{is_closing, is_open_paren, is_close_paren, reserved_or_paren, closing, Closed, closed, a_branch, Branched, branched, elif_turn, an_else, an_if, a_loop, a_group, a_for_name, a_sequential_sep, Headed, word_turn, for_words, a_for_head, a_for, a_form, a_compound, a_function, a_case_word, begins_pattern, Patterned, a_pattern, one_pattern, pattern_turn, a_pattern_list, an_open_bracket, a_body, ItemEnd, an_ender, an_item_end, CasesSo, cases_so, one_case, case_turn, a_case_head, a_case}
+use Rattle.shgrammar.specs.Lists.{Listed, ListSoFar, list_so_far, none_listed, with_command, next_line, one_entry, entry_turn, remark_by, a_remark, on_line, list_turn, a_list}
+use Rattle.shgrammar.specs.Compounds.{is_closing, is_open_paren, is_close_paren, reserved_or_paren, closing, Closed, closed, a_branch, BranchesSoFar, branches_so_far, elif_turn, an_else, an_if, a_loop, a_group, a_for_name, a_sequential_sep, Headed, word_turn, for_words, a_for_head, a_for, a_form, a_compound, a_function, a_case_word, begins_pattern, PatternsSoFar, a_pattern, one_pattern, pattern_turn, a_pattern_list, an_open_bracket, a_body, ItemEnd, an_ender, an_item_end, CasesSoFar, cases_so_far, one_case, case_turn, a_case_head, a_case}
 use Rattle.shgrammar.specs.Substitutions.{substitution_list, a_substitution, one_substitution}
 use Rattle.shgrammar.proofs.Alike.{SameEnd, SameStep, All, Alike, alike_give, alike_push, alike_move, alike_stop, alike_then, alike_see, alike_on, alike_pushed, alike_pick, alike_at, alike_token, alike_ending, alike_change, alike_level_of, alike_inside, alike_many}
 use Rattle.shgrammar.proofs.AlikeCommands.{SameNext, SameItems, SameJoin, Fits, alike_contents, alike_word, alike_unexpected, alike_item, alike_compound_by, alike_entry, alike_mark, alike_place, alike_next, alike_comment, alike_newline, alike_nothing_waits, alike_semicolon, alike_linebreak}
@@ -28,51 +28,53 @@ module _ {g : Given} {inner : Inner} (fits : Fits g inner) where
 
   -- Both lists have a command so far, or none has, and the same token comes after them.
 
-  abbrev SameList : ListSo → ListSo → Type 0
+  abbrev SameList : ListSoFar → ListSoFar → Type 0
   SameList l m = (l.list.commands ≡ m.list.commands) × (l.next ≡ m.next)
 
-  same_step : (p : Bool) (l m : ListSo) → SameList l m → SameStep SameList (step_if p l) (step_if p m)
+  same_step : (p : Bool) (l m : ListSoFar) → SameList l m → SameStep SameList (step_if p l) (step_if p m)
   same_step true l m same = same
   same_step false l m same = same
 
-  alike_one_entry : (l m : ListSo) → SameList l m → Alike g (SameStep SameList) (one_entry inner l) (one_entry inner m)
+  alike_one_entry : (l m : ListSoFar) → SameList l m →
+      Alike g (SameStep SameList) (one_entry inner l) (one_entry inner m)
   unfolding one_entry
   alike_one_entry l m same =
       rw (← same.1) (alike_then (alike_entry fits _ _ l.next)
       (λ e f so. alike_pushed (alike_give
-      (rw (← so.0) (same_step (is_some e.parted) (list_so (with_command l.list _ e.parted) e.next)
-      (list_so (with_command m.list _ e.parted) f.next) (refl, so.1))))))
+      (rw (← so.0) (same_step (is_some e.parted) (list_so_far (with_command l.list _ e.parted) e.next)
+      (list_so_far (with_command m.list _ e.parted) f.next) (refl, so.1))))))
 
-  alike_entry_turn : (l m : ListSo) → SameList l m →
+  alike_entry_turn : (l m : ListSoFar) → SameList l m →
       Alike g (SameStep SameList) (entry_turn inner l) (entry_turn inner m)
   unfolding entry_turn
   alike_entry_turn l m same = alike_pick _ _ (ap (λ (n : Next). begins_pipeline n.token) same.1)
       (alike_one_entry l m same) (alike_give same)
 
-  alike_remark_by : (l m : ListSo) (x : Option Span × Next) → l.list.commands ≡ m.list.commands →
+  alike_remark_by : (l m : ListSoFar) (x : Option Span × Next) → l.list.commands ≡ m.list.commands →
       Alike g SameList (remark_by l x) (remark_by m x)
   alike_remark_by l m (Some c, n) same = alike_pushed (alike_give (same, refl))
   alike_remark_by l m (None, n) same = alike_give (same, refl)
 
-  alike_remark : (l m : ListSo) → SameList l m → Alike g SameList (a_remark l) (a_remark m)
+  alike_remark : (l m : ListSoFar) → SameList l m → Alike g SameList (a_remark l) (a_remark m)
   unfolding a_remark
   alike_remark l m same = alike_then (alike_comment l.next m.next same.1)
       (λ x y so. rw (← so) (alike_remark_by l m x same.0))
 
-  alike_on_line : (l m : ListSo) → SameList l m → Alike g SameList (on_line inner l) (on_line inner m)
+  alike_on_line : (l m : ListSoFar) → SameList l m → Alike g SameList (on_line inner l) (on_line inner m)
   unfolding on_line
   alike_on_line l m same = alike_then
       (alike_many SameList (entry_turn inner) (entry_turn inner) alike_entry_turn l m same)
       (λ j k so. alike_remark j k so)
 
   line_steps : (x y : Bool × Next) → x ≡ y → (l m : Listed) → l.commands ≡ m.commands →
-      SameStep SameList (step_if x.0 (list_so (next_line l) x.1)) (step_if y.0 (list_so (next_line m) y.1))
+      SameStep SameList (step_if x.0 (list_so_far (next_line l) x.1)) (step_if y.0 (list_so_far (next_line m) y.1))
   line_steps x y is l m same =
-      subst (λ (z : Bool × Next). SameStep SameList (step_if x.0 (list_so (next_line l) x.1))
-      (step_if z.0 (list_so (next_line m) z.1))) is
-      (same_step x.0 (list_so (next_line l) x.1) (list_so (next_line m) x.1) (same, refl))
+      subst (λ (z : Bool × Next). SameStep SameList (step_if x.0 (list_so_far (next_line l) x.1))
+      (step_if z.0 (list_so_far (next_line m) z.1))) is
+      (same_step x.0 (list_so_far (next_line l) x.1) (list_so_far (next_line m) x.1) (same, refl))
 
-  alike_list_turn : (l m : ListSo) → SameList l m → Alike g (SameStep SameList) (list_turn inner l) (list_turn inner m)
+  alike_list_turn : (l m : ListSoFar) → SameList l m →
+      Alike g (SameStep SameList) (list_turn inner l) (list_turn inner m)
   unfolding list_turn
   alike_list_turn l m same =
       alike_then (alike_on_line l m same)
@@ -83,7 +85,7 @@ module _ {g : Given} {inner : Inner} (fits : Fits g inner) where
   unfolding a_list
   alike_list n =
       alike_then (alike_many SameList (list_turn inner) (list_turn inner) alike_list_turn
-      (list_so (none_listed false) n) (list_so (none_listed false) n) (refl, refl))
+      (list_so_far (none_listed false) n) (list_so_far (none_listed false) n) (refl, refl))
       (λ l m same. alike_pick _ _ same.0 (alike_give same.1)
       (alike_at (unexpected inner) (alike_unexpected fits) l.next m.next same.1))
 
@@ -122,11 +124,11 @@ module _ {g : Given} {inner : Inner} (fits : Fits g inner) where
       (λ t u so. alike_then (alike_at (a_list inner) alike_list t.1 u.1 (ap (λ (z : Span × Next). z.1) so))
       (λ b e so'. alike_give so')))
 
-  abbrev SameBranched : Branched → Branched → Type 0
-  SameBranched b c = b.next ≡ c.next
+  abbrev SameBranches : BranchesSoFar → BranchesSoFar → Type 0
+  SameBranches b c = b.next ≡ c.next
 
-  alike_elif : (b c : Branched) → SameBranched b c →
-      Alike g (SameStep SameBranched) (elif_turn inner b) (elif_turn inner c)
+  alike_elif : (b c : BranchesSoFar) → SameBranches b c →
+      Alike g (SameStep SameBranches) (elif_turn inner b) (elif_turn inner c)
   unfolding elif_turn
   alike_elif b c same =
       alike_pick _ _ (ap (λ (n : Next). is_closing closings.Elif n.token) same)
@@ -148,8 +150,8 @@ module _ {g : Given} {inner : Inner} (fits : Fits g inner) where
   unfolding an_if
   alike_if n =
       alike_then (alike_branch n) (λ f g same. alike_then
-      (alike_many SameBranched (elif_turn inner) (elif_turn inner) alike_elif (branched [] f.1)
-      (branched [] g.1) same)
+      (alike_many SameBranches (elif_turn inner) (elif_turn inner) alike_elif (branches_so_far [] f.1)
+      (branches_so_far [] g.1) same)
       (λ b c so. alike_then (alike_at (an_else inner) alike_else b.next c.next so)
       (λ e d so'. alike_closed _ _ closings.Fi e.1 d.1 so')))
 
@@ -185,7 +187,8 @@ module _ {g : Given} {inner : Inner} (fits : Fits g inner) where
   abbrev SameHead : Headed → Headed → Type 0
   SameHead h k = h.next ≡ k.next
 
-  alike_word_turn : (i j : Items) → SameItems i j → Alike g (SameStep SameItems) (word_turn inner i) (word_turn inner j)
+  alike_word_turn : (i j : ItemsSoFar) → SameItems i j →
+      Alike g (SameStep SameItems) (word_turn inner i) (word_turn inner j)
   unfolding word_turn
   alike_word_turn i j same = alike_pick _ _ (ap (λ (n : Next). is_word n.token) same.1) (alike_item fits i j Suffix)
       (alike_give same)
@@ -195,7 +198,7 @@ module _ {g : Given} {inner : Inner} (fits : Fits g inner) where
   alike_for_words cs ds =
       alike_then (alike_reserved_or_paren _ false _)
       (λ i j so. alike_then (alike_many SameItems (word_turn inner) (word_turn inner) alike_word_turn
-      (so_many [] Suffix i.1) (so_many [] Suffix j.1) (refl, ap (λ (z : Span × Next). z.1) so))
+      (items_so_far [] Suffix i.1) (items_so_far [] Suffix j.1) (refl, ap (λ (z : Span × Next). z.1) so))
       (λ ws vs same. alike_then (alike_sep cs ds ws.next vs.next same.1) (λ l k is. alike_give is.1)))
 
   alike_for_head : (n : Next) → Alike g SameHead (a_for_head inner n) (a_for_head inner n)
@@ -219,35 +222,35 @@ module _ {g : Given} {inner : Inner} (fits : Fits g inner) where
       (alike_then (alike_word fits) (λ w v so. alike_then (alike_next _) (λ m k same. alike_give same)))
       (alike_unexpected fits n)
 
-  abbrev SamePatterned : Patterned → Patterned → Type 0
-  SamePatterned p q = p.next ≡ q.next
+  abbrev SamePatterns : PatternsSoFar → PatternsSoFar → Type 0
+  SamePatterns p q = p.next ≡ q.next
 
-  alike_pattern : (ws vs : Row AWord) → Alike g SamePatterned (a_pattern inner ws) (a_pattern inner vs)
+  alike_pattern : (ws vs : Row AWord) → Alike g SamePatterns (a_pattern inner ws) (a_pattern inner vs)
   unfolding a_pattern
   alike_pattern ws vs = alike_then (alike_word fits)
       (λ w v so. alike_pushed (alike_then (alike_next _) (λ n m same. alike_give same)))
 
   alike_one_pattern : (ws vs : Row AWord) →
-      Alike g (SameStep SamePatterned) (one_pattern inner ws) (one_pattern inner vs)
+      Alike g (SameStep SamePatterns) (one_pattern inner ws) (one_pattern inner vs)
   unfolding one_pattern
   alike_one_pattern ws vs =
       alike_then alike_mark (λ x y all. alike_then (alike_next _) (λ n m same. rw (← same)
       (alike_pick (begins_word n.token) _ refl (alike_then (alike_pattern ws vs) (λ p q so. alike_give so))
       (alike_unexpected fits n))))
 
-  alike_pattern_turn : (p q : Patterned) → SamePatterned p q →
-      Alike g (SameStep SamePatterned) (pattern_turn inner p) (pattern_turn inner q)
+  alike_pattern_turn : (p q : PatternsSoFar) → SamePatterns p q →
+      Alike g (SameStep SamePatterns) (pattern_turn inner p) (pattern_turn inner q)
   unfolding pattern_turn
   alike_pattern_turn p q same =
       alike_pick _ _ (ap (λ (n : Next). is_pipe n.token) same) (alike_one_pattern p.patterns q.patterns)
       (alike_give same)
 
-  alike_patterns : (n : Next) → Alike g SamePatterned (a_pattern_list inner n) (a_pattern_list inner n)
+  alike_patterns : (n : Next) → Alike g SamePatterns (a_pattern_list inner n) (a_pattern_list inner n)
   unfolding a_pattern_list
   alike_patterns n =
       alike_pick (begins_pattern n.token) _ refl
       (alike_then (alike_pattern [] [])
-      (λ p q so. alike_many SamePatterned (pattern_turn inner) (pattern_turn inner) alike_pattern_turn p q so))
+      (λ p q so. alike_many SamePatterns (pattern_turn inner) (pattern_turn inner) alike_pattern_turn p q so))
       (alike_unexpected fits n)
 
   alike_bracket : (n : Next) → Alike g (λ m k. m ≡ k) (an_open_bracket n) (an_open_bracket n)
@@ -257,7 +260,7 @@ module _ {g : Given} {inner : Inner} (fits : Fits g inner) where
   alike_body : (n : Next) → Alike g SameList (a_body inner n) (a_body inner n)
   unfolding a_body
   alike_body n = alike_many SameList (list_turn inner) (list_turn inner) alike_list_turn
-      (list_so (none_listed false) n) (list_so (none_listed false) n) (refl, refl)
+      (list_so_far (none_listed false) n) (list_so_far (none_listed false) n) (refl, refl)
 
   abbrev SameItemEnd : ItemEnd → ItemEnd → Type 0
   SameItemEnd e f = e.next ≡ f.next
@@ -275,10 +278,11 @@ module _ {g : Given} {inner : Inner} (fits : Fits g inner) where
       rw (← same) (alike_pick (ends_item n.token) _ refl (alike_ender (falls_through n.token))
       (alike_pick (is_closing closings.Esac n.token) _ refl (alike_give refl) (alike_unexpected fits n)))
 
-  abbrev SameCases : CasesSo → CasesSo → Type 0
+  abbrev SameCases : CasesSoFar → CasesSoFar → Type 0
   SameCases c d = c.next ≡ d.next
 
-  alike_one_case : (c d : CasesSo) → SameCases c d → Alike g (SameStep SameCases) (one_case inner c) (one_case inner d)
+  alike_one_case : (c d : CasesSoFar) → SameCases c d →
+      Alike g (SameStep SameCases) (one_case inner c) (one_case inner d)
   unfolding one_case
   alike_one_case c d same =
       alike_see (λ p. alike_then (alike_at an_open_bracket alike_bracket c.next d.next same)
@@ -289,7 +293,7 @@ module _ {g : Given} {inner : Inner} (fits : Fits g inner) where
       (λ b e both. alike_then (alike_item_end _ _ b.next e.next both.1)
       (λ f h last. alike_pushed (alike_give last)))))))
 
-  alike_case_turn : (c d : CasesSo) → SameCases c d →
+  alike_case_turn : (c d : CasesSoFar) → SameCases c d →
       Alike g (SameStep SameCases) (case_turn inner c) (case_turn inner d)
   unfolding case_turn
   alike_case_turn c d same = alike_pick _ _ (ap (λ (n : Next). is_closing closings.Esac n.token) same)
@@ -311,7 +315,7 @@ module _ {g : Given} {inner : Inner} (fits : Fits g inner) where
   alike_case n =
       alike_then (alike_case_head n)
       (λ h k same. alike_then (alike_many SameCases (case_turn inner) (case_turn inner) alike_case_turn
-      (cases_so [] h.1 h.2) (cases_so [] k.1 k.2) same)
+      (cases_so_far [] h.1 h.2) (cases_so_far [] k.1 k.2) same)
       (λ c d so. alike_closed _ _ closings.Esac c.next d.next so))
 
   alike_form : (o : Opener) (n : Next) → Alike g SameClosed (a_form inner o n) (a_form inner o n)
@@ -336,8 +340,8 @@ module _ {g : Given} {inner : Inner} (fits : Fits g inner) where
   unfolding substitution_list
   alike_substitution_list =
       alike_then (alike_next _) (λ n m same. alike_then
-      (alike_many SameList (list_turn inner) (list_turn inner) alike_list_turn (list_so (none_listed false) n)
-      (list_so (none_listed false) m) (refl, same))
+      (alike_many SameList (list_turn inner) (list_turn inner) alike_list_turn (list_so_far (none_listed false) n)
+      (list_so_far (none_listed false) m) (refl, same))
       (λ l k so. alike_pick _ _ (ap (λ (x : Next). is_closing closings.Paren x.token) so.1)
       (alike_then alike_nothing_waits (λ u v so. alike_on (alike_give tt)))
       (alike_at (unexpected inner) (alike_unexpected fits) l.next k.next so.1)))
@@ -372,7 +376,7 @@ module _ {g : Given} {inner : Inner} (fits : Fits g inner) where
   unfolding an_open_line
   alike_open_line blank pale =
       alike_then (alike_next _) (λ n m same. alike_then
-      (alike_on_line (list_so (none_listed blank) n) (list_so (none_listed pale) m) (refl, same))
+      (alike_on_line (list_so_far (none_listed blank) n) (list_so_far (none_listed pale) m) (refl, same))
       (λ j i so. alike_then (alike_at (end_of_line inner) alike_end j.next i.next so.1) (λ x y so'. alike_give so')))
 
   pub alike_line : (blank pale : Bool) → Alike g SameEnd (a_line inner blank) (a_line inner pale)

@@ -14,7 +14,7 @@ use Rattle.shgrammar.specs.Bytes.{ends, ends_word, byte_at, stands}
 use Rattle.shast.specs.Tree.{ASubst, AWord, AWordOf, word, substs_of}
 use Rattle.shgrammar.specs.Sights.{Sight, seen, Move, Given, given, State, standing}
 use Rattle.shgrammar.specs.Form.{moved_on, many, Spelled, as_it_stands, Read, ◌▸◌, Form, give, see, move, both, token, Step, again, done, does, Comes, may, raw, Just, just, Then, and_then, or_stops, OneToken, whole, broken_off}
-use Rattle.shgrammar.specs.Words.{WordSoFar, having, opened, piece_row, a_piece, single, escaped_turn, backquoted_text, Inner, contents, a_word, dollar_single}
+use Rattle.shgrammar.specs.Words.{WordSoFar, word_so_far, opened, piece_row, a_piece, single, escaped_turn, backquoted_text, Inner, contents, a_word, dollar_single}
 use Rattle.shgrammar.specs.Levels.{level, ReadsWord}
 use Rattle.shgrammar.proofs.Stretches.{get_drop}
 use Rattle.shgrammar.proofs.Holds.{tells_seen, tells_many, tells_level, tells_any, Holds, holds_then, Tells, Turned, tells_so, tells_then, tells_when, tells_token, AtOrAfter, no_form_goes_back, tells_inside}
@@ -321,7 +321,7 @@ module _ (g : Given) where
 
     contents_still : (mode : Mode) (b : ℕ) (ss : Row ASubst) (s : State) → W (contents inner mode b ss) s
     unfolding contents a_piece
-    contents_still mode b ss s = goes (turns_still _ (λ h t. sees (piece_still mode b h _ t)) (having 0 ss) s)
+    contents_still mode b ss s = goes (turns_still _ (λ h t. sees (piece_still mode b h _ t)) (word_so_far 0 ss) s)
         (λ h t. still)
 
     word_still : (s : State) → W (a_word inner) s

@@ -14,7 +14,7 @@ use Rattle.shast.specs.Shape.{shape_of_here, bare, bare_at, text_at, shape_of_en
 use Rattle.shgrammar.specs.Sights.{here, is_a_name, the_delimiter}
 use Rattle.shgrammar.specs.Form.{change, Form, Spelled}
 use Rattle.shgrammar.specs.Words.{Inner, a_word}
-use Rattle.shgrammar.specs.Commands.{is_strip, document, document_by, a_document, is_pipe, is_bang, begins_simple, begins_redirect, opener_of, compound_by, and_or_operator_of, Items, so_many, breaks, after_word, is_number_token, redirect_operator_of, takes_here, is_long, a_number, an_operator, operator_by, a_target, one_redirect, after_redirect, redirect_turn, with_redirect_list, as_item, an_item, item_by, item_turn, a_simple, a_command, a_bang, Piped, piped, one_command, pipe_turn, a_pipeline, Joined, joined_so, one_pipeline, joined_by, and_or_turn, an_and_or, is_background, ASeparator, past_separator, Entered, an_entry, is_word, is_paren, named_function, a_word_command}
+use Rattle.shgrammar.specs.Commands.{is_strip, document, document_by, a_document, is_pipe, is_bang, begins_simple, begins_redirect, opener_of, compound_by, and_or_operator_of, ItemsSoFar, items_so_far, breaks, after_word, is_number_token, redirect_operator_of, takes_here, is_long, a_number, an_operator, operator_by, a_target, one_redirect, after_redirect, redirect_turn, with_redirect_list, as_item, an_item, item_by, item_turn, a_simple, a_command, a_bang, PipesSoFar, pipes_so_far, one_command, pipe_turn, a_pipeline, AndOrSoFar, and_or_so_far, one_pipeline, joined_by, and_or_turn, an_and_or, is_background, ASeparator, past_separator, Entered, an_entry, is_word, is_paren, named_function, a_word_command}
 use Rattle.shgrammar.proofs.Alike.{SameStep}
 use Rattle.shgrammar.proofs.Ahead.{ListEnds, same_name}
 use Rattle.shgrammar.specs.HereDocuments.{ADelimiter, waits}
@@ -65,7 +65,7 @@ module _ (B B2 : List ℕ) where
   SameCommand x y = (shape_of_command B x.0 ≡ shape_of_command B2 y.0) × (x.1 ≡ y.1)
 
   -- items of the same shapes, at the same position, and the same token after them
-  abbrev pub SameItems : Items → Items → Type 0
+  abbrev pub SameItems : ItemsSoFar → ItemsSoFar → Type 0
   SameItems i j = (map (shape_of_item B) i.items ≡ map (shape_of_item B2) j.items)
       × ((i.position ≡ j.position) × (i.next ≡ j.next))
 
@@ -75,7 +75,7 @@ module _ (B B2 : List ℕ) where
       × ((is_some e.parted ≡ is_some f.parted) × (e.next ≡ f.next))
 
   -- their rows have the same shape
-  pub items_same : (i j : Items) → SameItems i j →
+  pub items_same : (i j : ItemsSoFar) → SameItems i j →
       shape_of_items B (items_of i.items) ≡ shape_of_items B2 (items_of j.items)
   items_same i j same = items_shape B i.items ∙ ap items_of same.0 ∙ sym (items_shape B2 j.items)
 
@@ -108,10 +108,10 @@ module _ {edition : Edition} {T U : List ℕ} {a M : ℕ} {to : ℕ → ℕ} {li
   item_same Suffix b c w v one two = rw (one, two) refl
 
   -- both items break the line, or none does
-  breaks_same : (i j : Items) → SameItems B B2 i j → breaks i ≡ breaks j
+  breaks_same : (i j : ItemsSoFar) → SameItems B B2 i j → breaks i ≡ breaks j
   breaks_same i j same = rw (rows_empty (shape_of_item B) (shape_of_item B2) i.items j.items same.0, same.1.1) refl
 
-  pub one_item : (i j : Items) (position : Position) → SameItems B B2 i j →
+  pub one_item : (i j : ItemsSoFar) (position : Position) → SameItems B B2 i j →
       Goes2 (SameStep (SameItems B B2)) (an_item inner i position) (an_item inner j position)
   unfolding an_item
   one_item i j position same =
@@ -223,7 +223,7 @@ module _ {edition : Edition} {T U : List ℕ} {a M : ℕ} {to : ℕ → ℕ} {li
   redirect_at broken pale p q is js n m one two three four =
       rw (← three, ← four) (redirect_same broken pale p is js n one two)
 
-  item_by_same : (i j : Items) (position : Option Position) → SameItems B B2 i j →
+  item_by_same : (i j : ItemsSoFar) (position : Option Position) → SameItems B B2 i j →
       Goes2 (SameStep (SameItems B B2)) (item_by inner i position) (item_by inner j position)
   item_by_same i j (Some position) same = one_item i j position same
   item_by_same i j None same =
@@ -232,7 +232,7 @@ module _ {edition : Edition} {T U : List ℕ} {a M : ℕ} {to : ℕ → ℕ} {li
       (after_redirect j.position) i.items j.items i.next j.next (breaks_same i j same) same.0
       (ap after_redirect same.1.0) same.1.1) (gives same)
 
-  item_on : (i j : Items) → SameItems B B2 i j →
+  item_on : (i j : ItemsSoFar) → SameItems B B2 i j →
       Goes2 (SameStep (SameItems B B2)) (item_turn inner i) (item_turn inner j)
   unfolding item_turn
   item_on i j same =
@@ -243,12 +243,12 @@ module _ {edition : Edition} {T U : List ℕ} {a M : ℕ} {to : ℕ → ℕ} {li
 
   -- A word's shape has its text, so that a name is the same there; compound commands are read as `Fine` says.
 
-  simple_same : (i j : Items) → SameItems B B2 i j → Goes2 (SameCommand B B2) (a_simple inner i) (a_simple inner j)
+  simple_same : (i j : ItemsSoFar) → SameItems B B2 i j → Goes2 (SameCommand B B2) (a_simple inner i) (a_simple inner j)
   unfolding a_simple
   simple_same i j same = then (repeats (SameItems B B2) (item_turn inner) (item_turn inner) item_on i j same)
       (λ k l so. gives (rw (items_same B B2 k l so) refl, so.1.1))
 
-  redirect_on : (i j : Items) → SameItems B B2 i j →
+  redirect_on : (i j : ItemsSoFar) → SameItems B B2 i j →
       Goes2 (SameStep (SameItems B B2)) (redirect_turn inner i) (redirect_turn inner j)
   unfolding redirect_turn
   redirect_on i j same =
@@ -275,8 +275,9 @@ module _ {edition : Edition} {T U : List ℕ} {a M : ℕ} {to : ℕ → ℕ} {li
       Goes2 (SameCommand B B2) (with_redirect_list inner c) (with_redirect_list inner d)
   unfolding with_redirect_list
   with_redirect_list_same c d same =
-      then (repeats (SameItems B B2) (redirect_turn inner) (redirect_turn inner) redirect_on (so_many [] Command c.1)
-      (so_many [] Command d.1) (refl, (refl, same.1)))
+      then (repeats (SameItems B B2) (redirect_turn inner) (redirect_turn inner) redirect_on
+      (items_so_far [] Command c.1)
+      (items_so_far [] Command d.1) (refl, (refl, same.1)))
       (λ k l so. gives (
         with_same c.0 d.0 (items_of k.items) (items_of l.items) same.0
             (items_same B B2 k l so),
@@ -307,7 +308,7 @@ module _ {edition : Edition} {T U : List ℕ} {a M : ℕ} {to : ℕ → ℕ} {li
       (then (pushes {S = λ is js. map (shape_of_item B) is ≡ map (shape_of_item B2) js}
       (rows_more (shape_of_item B) (shape_of_item B2) [] (item false (as_item Suffix w)) []
       (item false (as_item Suffix v)) refl (item_same Suffix false false w v refl so)))
-      (λ is js all. simple_same (so_many is Suffix n) (so_many js Suffix m) (all, (refl, same)))))))
+      (λ is js all. simple_same (items_so_far is Suffix n) (items_so_far js Suffix m) (all, (refl, same)))))))
 
   command : (n m : Next) → n ≡ m → Goes2 (SameCommand B B2) (a_command inner n) (a_command inner m)
   unfolding a_command
@@ -317,7 +318,7 @@ module _ {edition : Edition} {T U : List ℕ} {a M : ℕ} {to : ℕ → ℕ} {li
       one n =
           picks (is_word n.token) _ refl word_command_same
           (picks (begins_simple n.token) _ refl
-          (simple_same (so_many [] Command n) (so_many [] Command n) (refl, (refl, refl)))
+          (simple_same (items_so_far [] Command n) (items_so_far [] Command n) (refl, (refl, refl)))
           (compound_by_same n (opener_of n.token)))
 
   -- ---- pipelines, and-or lists and entries
@@ -329,11 +330,11 @@ module _ {edition : Edition} {T U : List ℕ} {a M : ℕ} {to : ℕ → ℕ} {li
   bang n = picks (is_bang n.token) _ refl
       (then marks (λ x y all. then (next Command) (λ m k same. gives (refl, same)))) (gives (refl, refl))
 
-  abbrev SamePiped : Piped → Piped → Type 0
-  SamePiped p q = (map (pipe_shape B) p.parts ≡ map (pipe_shape B2) q.parts) × (p.next ≡ q.next)
+  abbrev SamePipes : PipesSoFar → PipesSoFar → Type 0
+  SamePipes p q = (map (pipe_shape B) p.parts ≡ map (pipe_shape B2) q.parts) × (p.next ≡ q.next)
 
-  one_more_command : (p q : Piped) → SamePiped p q →
-      Goes2 (SameStep SamePiped) (one_command inner p) (one_command inner q)
+  one_more_command : (p q : PipesSoFar) → SamePipes p q →
+      Goes2 (SameStep SamePipes) (one_command inner p) (one_command inner q)
   unfolding one_command
   one_more_command p q same =
       then marks (λ x y all. then (join p.next.broken q.next.broken (ap (λ (n : Next). n.broken) same.1))
@@ -342,7 +343,7 @@ module _ {edition : Edition} {T U : List ℕ} {a M : ℕ} {to : ℕ → ℕ} {li
       (rows_more (pipe_shape B) (pipe_shape B2) p.parts _ q.parts _ same.0 (rw (so.0, is.0) refl)))
       (λ ps qs row. gives (row, is.1)))))
 
-  pipe_on : (p q : Piped) → SamePiped p q → Goes2 (SameStep SamePiped) (pipe_turn inner p) (pipe_turn inner q)
+  pipe_on : (p q : PipesSoFar) → SamePipes p q → Goes2 (SameStep SamePipes) (pipe_turn inner p) (pipe_turn inner q)
   unfolding pipe_turn
   pipe_on p q same = picks _ _ (ap (λ (n : Next). is_pipe n.token) same.1) (one_more_command p q same) (gives same)
 
@@ -352,7 +353,7 @@ module _ {edition : Edition} {T U : List ℕ} {a M : ℕ} {to : ℕ → ℕ} {li
   unfolding a_pipeline
   pipeline_same n m same = at_same (a_pipeline inner) (a_pipeline inner) one n m same
     where
-      pipes_same : (p q : Piped) → SamePiped p q →
+      pipes_same : (p q : PipesSoFar) → SamePipes p q →
           shape_of_pipes B (pipeline_parts_of p.parts) ≡ shape_of_pipes B2 (pipeline_parts_of q.parts)
       pipes_same p q same = pipes_shape B p.parts ∙ ap pipeline_parts_of same.0 ∙ sym (pipes_shape B2 q.parts)
 
@@ -360,14 +361,14 @@ module _ {edition : Edition} {T U : List ℕ} {a M : ℕ} {to : ℕ → ℕ} {li
           (a_pipeline inner n) (a_pipeline inner n)
       one n =
           then (bang n) (λ b d so. then (command b.1 d.1 so.1)
-          (λ c e is. then (repeats SamePiped (pipe_turn inner) (pipe_turn inner) pipe_on (piped [] c.1)
-          (piped [] e.1) (refl, is.1))
+          (λ c e is. then (repeats SamePipes (pipe_turn inner) (pipe_turn inner) pipe_on (pipes_so_far [] c.1)
+          (pipes_so_far [] e.1) (refl, is.1))
           (λ p q same. gives (rw (so.0, is.0, pipes_same p q same) refl, same.1))))
 
-  abbrev SameParts : Joined → Joined → Type 0
+  abbrev SameParts : AndOrSoFar → AndOrSoFar → Type 0
   SameParts x y = (map (part_shape B) x.parts ≡ map (part_shape B2) y.parts) × (x.next ≡ y.next)
 
-  one_more_pipeline : (x y : Joined) (c : AndOrOperator) → SameParts x y →
+  one_more_pipeline : (x y : AndOrSoFar) (c : AndOrOperator) → SameParts x y →
       Goes2 (SameStep SameParts) (one_pipeline inner x c) (one_pipeline inner y c)
   unfolding one_pipeline
   one_more_pipeline x y c same =
@@ -377,12 +378,12 @@ module _ {edition : Edition} {T U : List ℕ} {a M : ℕ} {to : ℕ → ℕ} {li
       (rows_more (part_shape B) (part_shape B2) x.parts _ y.parts _ same.0 (rw (so.0, is.0) refl)))
       (λ ps qs row. gives (row, is.1)))))
 
-  joined_by_same : (x y : Joined) (c : Option AndOrOperator) → SameParts x y →
+  joined_by_same : (x y : AndOrSoFar) (c : Option AndOrOperator) → SameParts x y →
       Goes2 (SameStep SameParts) (joined_by inner x c) (joined_by inner y c)
   joined_by_same x y (Some c) same = one_more_pipeline x y c same
   joined_by_same x y None same = gives same
 
-  part_on : (x y : Joined) → SameParts x y →
+  part_on : (x y : AndOrSoFar) → SameParts x y →
       Goes2 (SameStep SameParts) (and_or_turn inner x) (and_or_turn inner y)
   unfolding and_or_turn
   part_on x y same =
@@ -396,7 +397,7 @@ module _ {edition : Edition} {T U : List ℕ} {a M : ℕ} {to : ℕ → ℕ} {li
   unfolding an_and_or
   and_or_same n m same = at_same (an_and_or inner) (an_and_or inner) one n m same
     where
-      parts_same : (x y : Joined) → SameParts x y →
+      parts_same : (x y : AndOrSoFar) → SameParts x y →
           shape_of_and_or_parts B (and_or_parts_of x.parts) ≡ shape_of_and_or_parts B2 (and_or_parts_of y.parts)
       parts_same x y same = parts_shape B x.parts ∙ ap and_or_parts_of same.0 ∙ sym (parts_shape B2 y.parts)
 
@@ -405,7 +406,7 @@ module _ {edition : Edition} {T U : List ℕ} {a M : ℕ} {to : ℕ → ℕ} {li
       one n =
           then (pipeline_same n n refl)
           (λ p q so. then (repeats SameParts (and_or_turn inner) (and_or_turn inner) part_on
-          (joined_so [] p.1) (joined_so [] q.1) (refl, so.1))
+          (and_or_so_far [] p.1) (and_or_so_far [] q.1) (refl, so.1))
           (λ x y same. gives (rw (so.0, parts_same x y same) refl, same.1)))
 
   pub entry_same : (blank pale : Bool) (n m : Next) → blank ≡ pale → n ≡ m →

@@ -171,7 +171,7 @@ module _ (P R : Span → Type 0) (Q S : Items → Type 0) (p : (s : Span) → P 
     form_so (while_do b) so = branch_so b so
     form_so (until_do b) so = branch_so b so
     form_so (for_in name words body) so = (word_so name so.0, for_words_so words so.1, throughout_so body so.2)
-    form_so (case_in w cases tail) so = (word_so w so.0, cases_so cases so.1, each_so tail so.2)
+    form_so (case_in w cases tail) so = (word_so w so.0, cases_so_far cases so.1, each_so tail so.2)
 
     branch_so : (b : ABranch) → InBranch P Q b → InBranch R S b
     branch_so (branch condition body) so = (throughout_so condition so.0, throughout_so body so.1)
@@ -188,9 +188,9 @@ module _ (P R : Span → Type 0) (Q S : Items → Type 0) (p : (s : Span) → P 
     for_words_so no_in so = tt
     for_words_so (in_words items) so = items_so items so
 
-    cases_so : (cs : CaseItems) → InCases P Q cs → InCases R S cs
-    cases_so no_case so = tt
-    cases_so (more_cases c cs) so = (case_so c so.0, cases_so cs so.1)
+    cases_so_far : (cs : CaseItems) → InCases P Q cs → InCases R S cs
+    cases_so_far no_case so = tt
+    cases_so_far (more_cases c cs) so = (case_so c so.0, cases_so_far cs so.1)
 
     case_so : (c : ACaseItem) → InCase P Q c → InCase R S c
     case_so (case_item comments patterns body mark) so =

@@ -20,7 +20,7 @@ use Rattle.shgrammar.specs.Plain.{is_plain}
 use Rattle.shgrammar.specs.Tokens.{Spelling, is_word_at, first_of_words, reserved_words, reserved_at, begins_assignment, is_name_at, is_number, word_by, token_of, token_at}
 use Rattle.shgrammar.specs.Sights.{Given, given, State, standing}
 use Rattle.shgrammar.specs.Form.{Read, again, as_it_stands, token, loop, many, leads_on, does}
-use Rattle.shgrammar.specs.Words.{WordSoFar, having, a_piece, contents, a_word}
+use Rattle.shgrammar.specs.Words.{WordSoFar, word_so_far, a_piece, contents, a_word}
 use Rattle.shgrammar.specs.Levels.{level, ReadsWord}
 use Rattle.shgrammar.specs.Commands.{after_word}
 use Rattle.shgrammar.proofs.Stretches.{place_low, past_more, past_none, stands_in_low, raw_stays}
@@ -121,14 +121,15 @@ module _ {edition : Edition} {T U : List ℕ} {a L : ℕ} {to : ℕ → ℕ} (K 
       (does (token as_it_stands (contents (level room) Plain (o + p) [])) Whole (given edition T o) (standing p)) _
       (holds_then (Begins p) (Begins p)
       (does (contents (level room) Plain (o + p) []) Whole (given edition T o) (standing p)) _
-      (holds_then (λ x t. does (loop (a_piece (level room) Plain (o + p)) (having 0 [])) Whole (given edition T o)
+      (holds_then (λ x t. does (loop (a_piece (level room) Plain (o + p)) (word_so_far 0 [])) Whole (given edition T o)
       (standing p) ≡ Ok (x, t)) (Begins p)
-      (does (loop (a_piece (level room) Plain (o + p)) (having 0 [])) Whole (given edition T o) (standing p)) _
-      (self (does (loop (a_piece (level room) Plain (o + p)) (having 0 [])) Whole (given edition T o) (standing p)))
+      (does (loop (a_piece (level room) Plain (o + p)) (word_so_far 0 [])) Whole (given edition T o) (standing p)) _
+      (self (does (loop (a_piece (level room) Plain (o + p)) (word_so_far 0 [])) Whole (given edition T o)
+      (standing p)))
       (λ x t is at. record {
         low = low;
         opener = o + p;
-        start = having 0 [];
+        start = word_so_far 0 [];
         found = x;
         last = t;
         goes = is;

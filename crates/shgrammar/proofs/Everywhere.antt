@@ -19,9 +19,9 @@ use Rattle.shgrammar.specs.Sights.{Given, given, State, standing}
 use Rattle.shgrammar.specs.HereDocuments.{own_level}
 use Rattle.shgrammar.specs.Form.{Spelled, does}
 use Rattle.shgrammar.specs.Words.{Inner}
-use Rattle.shgrammar.specs.Commands.{is_pipe, begins_word, opener_of, Items, so_many, is_word, ends_item, falls_through}
-use Rattle.shgrammar.specs.Lists.{list_so, none_listed, Listed}
-use Rattle.shgrammar.specs.Compounds.{held_apart, Branched, branched, Closed, is_closing, is_open_paren, is_close_paren, reserved_or_paren, closing, a_branch, elif_turn, an_else, an_if, a_loop, a_group, a_for_name, a_sequential_sep, Headed, word_turn, for_words, a_for_head, after_remarks, a_for, a_form, a_compound, a_function, under_name, a_case_word, begins_pattern, Patterned, a_pattern, one_pattern, pattern_turn, a_pattern_list, a_body, body_end, ItemEnd, an_ender, an_item_end, CasesSo, cases_so, one_case, case_turn, a_case_head, a_case}
+use Rattle.shgrammar.specs.Commands.{is_pipe, begins_word, opener_of, ItemsSoFar, items_so_far, is_word, ends_item, falls_through}
+use Rattle.shgrammar.specs.Lists.{list_so_far, none_listed, Listed}
+use Rattle.shgrammar.specs.Compounds.{held_apart, BranchesSoFar, branches_so_far, Closed, is_closing, is_open_paren, is_close_paren, reserved_or_paren, closing, a_branch, elif_turn, an_else, an_if, a_loop, a_group, a_for_name, a_sequential_sep, Headed, word_turn, for_words, a_for_head, after_remarks, a_for, a_form, a_compound, a_function, under_name, a_case_word, begins_pattern, PatternsSoFar, a_pattern, one_pattern, pattern_turn, a_pattern_list, a_body, body_end, ItemEnd, an_ender, an_item_end, CasesSoFar, cases_so_far, one_case, case_turn, a_case_head, a_case}
 use Rattle.shgrammar.specs.Substitutions.{substitution_list, a_substitution, one_substitution}
 use Rattle.shgrammar.specs.Levels.{most_open, level}
 use Rattle.shgrammar.specs.Lines.{AKind, an_open_line, a_line, ALine, IsLine, blank_line, entries_line, end_line, faulty_line, line_read, line_stops, kind_of, EntrySpansWithin}
@@ -52,10 +52,10 @@ module _ {g : Given} {limit : ℕ} where
     branch_in n s = first (list_in fine n s)
         (λ c t one. after (λ k u. first (list_in fine k.1 u) (λ b v two. gives (one, two))))
 
-    abbrev BranchesIn : Branched → Type 0
+    abbrev BranchesIn : BranchesSoFar → Type 0
     BranchesIn b = All (BranchIn limit) b.branches
 
-    elif_in : (b : Branched) (s : State) → BranchesIn b → UpTo g limit (elif_turn inner b) (Stepped BranchesIn) s
+    elif_in : (b : BranchesSoFar) (s : State) → BranchesIn b → UpTo g limit (elif_turn inner b) (Stepped BranchesIn) s
     unfolding elif_turn
     elif_in b s so =
         picks (is_closing closings.Elif b.next.token)
@@ -75,7 +75,8 @@ module _ {g : Given} {limit : ℕ} where
     unfolding an_if
     if_in n s =
         first (branch_in n s)
-        (λ f t one. first (repeats BranchesIn (elif_turn inner) elif_in (branched [] f.1) t (All-nil (BranchIn limit)))
+        (λ f t one. first (repeats BranchesIn (elif_turn inner) elif_in (branches_so_far [] f.1) t
+        (All-nil (BranchIn limit)))
         (λ b u all. first (else_in b.next u)
         (λ e v other. first (closing_in closings.Fi e.1 v)
         (λ c w last. gives ((one, branches_in limit b.branches all, other), last)))))
@@ -107,7 +108,7 @@ module _ {g : Given} {limit : ℕ} where
     abbrev HeadIn : Headed → Type 0
     HeadIn h = ForWordsIn limit h.words × AreIn limit h.comments
 
-    word_turn_in : (i : Items) (s : State) → ItemsIn limit i →
+    word_turn_in : (i : ItemsSoFar) (s : State) → ItemsIn limit i →
         UpTo g limit (word_turn inner i) (Stepped (ItemsIn limit)) s
     unfolding word_turn
     word_turn_in i s so = picks (is_word i.next.token)
@@ -117,7 +118,7 @@ module _ {g : Given} {limit : ℕ} where
     for_words_in : (cs : Row Span) (s : State) → AreIn limit cs → UpTo g limit (for_words inner cs) HeadIn s
     unfolding for_words
     for_words_in cs s all =
-        after (λ i t. first (repeats (ItemsIn limit) (word_turn inner) word_turn_in (so_many [] Suffix i.1) t
+        after (λ i t. first (repeats (ItemsIn limit) (word_turn inner) word_turn_in (items_so_far [] Suffix i.1) t
         (All-nil (ItemIn limit)))
         (λ ws u items. first (sep_in cs ws.next u all) (λ l v so. gives (items_in limit ws.items items, so))))
 
@@ -146,7 +147,7 @@ module _ {g : Given} {limit : ℕ} where
     case_word_in n s = picks (begins_word n.token) (first (word_in fine s) (λ w t one. after (λ m u. gives one)))
         (stopped inner n)
 
-    abbrev PatternsIn : Patterned → Type 0
+    abbrev PatternsIn : PatternsSoFar → Type 0
     PatternsIn p = All (WordIn limit) p.patterns
 
     pattern_in : (ws : Row AWord) (s : State) → All (WordIn limit) ws → UpTo g limit (a_pattern inner ws) PatternsIn s
@@ -161,7 +162,7 @@ module _ {g : Given} {limit : ℕ} where
         (λ x t. after (λ n u. picks (begins_word n.token) (first (pattern_in ws u all) (λ p v so. gives so))
         (stopped inner n)))
 
-    pattern_turn_in : (p : Patterned) (s : State) → PatternsIn p →
+    pattern_turn_in : (p : PatternsSoFar) (s : State) → PatternsIn p →
         UpTo g limit (pattern_turn inner p) (Stepped PatternsIn) s
     unfolding pattern_turn
     pattern_turn_in p s so = picks (is_pipe p.next.token) (one_pattern_in p.patterns s so) (gives so)
@@ -204,10 +205,10 @@ module _ {g : Given} {limit : ℕ} where
         (picks (is_closing closings.Esac n.token) (gives (low, All-nil (IsSpanWithin limit))) (stopped inner n))
 
     -- the items so far, and the comments after them
-    abbrev CasesIn : CasesSo → Type 0
+    abbrev CasesIn : CasesSoFar → Type 0
     CasesIn c = All (CaseIn limit) c.items × AreIn limit c.comments
 
-    one_case_in : (c : CasesSo) (s : State) → CasesIn c → UpTo g limit (one_case inner c) (Stepped CasesIn) s
+    one_case_in : (c : CasesSoFar) (s : State) → CasesIn c → UpTo g limit (one_case inner c) (Stepped CasesIn) s
     unfolding one_case
     one_case_in c s so =
         first stands (λ p t begin. after
@@ -222,7 +223,7 @@ module _ {g : Given} {limit : ℕ} where
         ))
         (λ is z all. gives (all, end.1))))))))
 
-    case_turn_in : (c : CasesSo) (s : State) → CasesIn c → UpTo g limit (case_turn inner c) (Stepped CasesIn) s
+    case_turn_in : (c : CasesSoFar) (s : State) → CasesIn c → UpTo g limit (case_turn inner c) (Stepped CasesIn) s
     unfolding case_turn
     case_turn_in c s so = picks (is_closing closings.Esac c.next.token) (gives so) (one_case_in c s so)
 
@@ -237,7 +238,7 @@ module _ {g : Given} {limit : ℕ} where
     unfolding a_case
     case_in n s =
         first (case_head_in n s) (λ h t one. first
-        (repeats CasesIn (case_turn inner) case_turn_in (cases_so [] h.1 h.2) t (All-nil (CaseIn limit), one.1))
+        (repeats CasesIn (case_turn inner) case_turn_in (cases_so_far [] h.1 h.2) t (All-nil (CaseIn limit), one.1))
         (λ c u all. first (closing_in closings.Esac c.next u)
         (λ e v last. gives ((one.0, cases_in limit c.items all.0, spans_in limit c.comments all.1), last))))
 
@@ -297,7 +298,7 @@ module _ {g : Given} {limit : ℕ} where
     open_line_in : (blank : Bool) (s : State) → UpTo g limit (an_open_line inner blank) (λ x. All (EntryIn limit) x.0) s
     unfolding an_open_line
     open_line_in blank s = after (λ n t. first
-        (on_line_in fine (list_so (none_listed blank) n) t (All-nil (EntryIn limit), tt))
+        (on_line_in fine (list_so_far (none_listed blank) n) t (All-nil (EntryIn limit), tt))
         (λ l u all. after (λ newline v. gives all.0)))
 
     line_in : (blank : Bool) (s : State) → UpTo g limit (a_line inner blank) (λ x. EntriesIn limit (entries_of x.0)) s

@@ -6,7 +6,7 @@ use Rattle.shast.specs.Tree.{AnEntry}
 use Rattle.shgrammar.specs.Sights.{State, given, standing}
 use Rattle.shgrammar.specs.Form.{Read}
 use Rattle.shgrammar.specs.Levels.{most_open}
-use Rattle.shgrammar.specs.Scripts.{AScript, SoFar, is_blank_line, with_line, line_from, script_by, script_below, script_on, nothing_yet, first_fault_from}
+use Rattle.shgrammar.specs.Scripts.{AScript, LinesSoFar, is_blank_line, with_line, line_from, script_by, script_below, script_on, nothing_yet, first_fault_from}
 use Rattle.shgrammar.proofs.Alike.{Like, SameEnd}
 use Rattle.shgrammar.proofs.AlikeLists.{alike_level, alike_line}
 use Rattle.shgrammar.proofs.Lined.{line_more, line_last, line_faulty}
@@ -17,7 +17,7 @@ module _ (edition : Edition) (B : List ℕ) where
   like : (blank : Bool) (p : ℕ) → Like SameEnd (line_from edition B Whole blank p) (line_from edition B Nothing false p)
   like blank p = (alike_line (alike_level (given edition (drop p B) p) most_open) blank false).like (standing 0)
 
-  module _ (f h : SoFar → ℕ → AScript) (so to : SoFar) (p : ℕ)
+  module _ (f h : LinesSoFar → ℕ → AScript) (so to : LinesSoFar) (p : ℕ)
       (rest : (es fs : Row AnEntry) (t : State) →
       (f (with_line so es) (p + t.at)).fault ≡ (h (with_line to fs) (p + t.at)).fault) where
     same_by : (x y z : Read (Row AnEntry × Bool)) → Like SameEnd x z → Like SameEnd y z →
@@ -36,7 +36,7 @@ module _ (edition : Edition) (B : List ℕ) where
     same_by (Err e) (Err e') (Err e'') one two = ap Some (one ∙ sym two)
 
   -- the first fault does not depend on what the lines before gave
-  whatever : (n : ℕ) (so to : SoFar) (p : ℕ) →
+  whatever : (n : ℕ) (so to : LinesSoFar) (p : ℕ) →
       (script_below edition B n so p).fault ≡ (script_below edition B n to p).fault
   unfolding script_below
   whatever zero so to p = refl
@@ -46,7 +46,7 @@ module _ (edition : Edition) (B : List ℕ) where
       (line_from edition B Whole (is_blank_line so) p) (line_from edition B Whole (is_blank_line to) p)
       (line_from edition B Nothing false p) (like (is_blank_line so) p) (like (is_blank_line to) p)
 
-  whatever_on : (so to : SoFar) (p : ℕ) → (script_on edition B so p).fault ≡ (script_on edition B to p).fault
+  whatever_on : (so to : LinesSoFar) (p : ℕ) → (script_on edition B so p).fault ≡ (script_on edition B to p).fault
   unfolding script_on
   whatever_on so to p = whatever (suc (length B - p)) so to p
 

@@ -10,7 +10,7 @@ use Rattle.shgrammar.specs.Form.{Read, does}
 use Rattle.shgrammar.specs.Commands.{is_empty}
 use Rattle.shgrammar.specs.Sights.{State, given, standing}
 use Rattle.shgrammar.specs.Lines.{ALine, IsLine, kind_of}
-use Rattle.shgrammar.specs.Scripts.{AScript, Outcome, SoFar, as_line, is_blank_line, line_from, line_of_text, line_told, nothing_yet, script_at, script_on, the_line, with_line}
+use Rattle.shgrammar.specs.Scripts.{AScript, Outcome, LinesSoFar, as_line, is_blank_line, line_from, line_of_text, line_told, nothing_yet, script_at, script_on, the_line, with_line}
 use Rattle.shgrammar.specs.Moved.{Same}
 use Rattle.shgrammar.specs.Joined.{AreLines, blanked, has_entry, lines_joined, line_joined_by, last_of, more_of}
 use Rattle.shgrammar.proofs.Lined.{line_faulty, line_last, line_more, nothing}
@@ -37,7 +37,7 @@ abbrev there : ℕ → Bool → Row AnEntry → Row AnEntry
 there p blank es = blanked_row blank (map (moved_entry p) es)
 
 -- what a line adds
-added : (p : ℕ) (so : SoFar) (es : Row AnEntry)
+added : (p : ℕ) (so : LinesSoFar) (es : Row AnEntry)
     → appended (entries_of so.entries) (blanked (so.gap && has_entry (entries_of so.entries)) (moved p (entries_of es)))
     ≡ entries_of (so.entries ++ there p (is_blank_line so) es)
 added p so es =
@@ -46,7 +46,7 @@ added p so es =
 
 module _ (edition : Edition) (B : List ℕ) where
   -- after the last byte nothing is read
-  at_end : (so : SoFar) (p : ℕ) → length B ≤ p →
+  at_end : (so : LinesSoFar) (p : ℕ) → length B ≤ p →
       script_on edition B so p ≡ record { entries = entries_of so.entries; fault = None }
   at_end so p le =
       line_last edition B so p (is_blank_line so) refl [] (standing 0) (with_line so [])
@@ -57,14 +57,14 @@ module _ (edition : Edition) (B : List ℕ) where
   -- ---- one line
 
   -- what the lines give, by the line as it is read by itself
-  abbrev Joins : ℕ → SoFar → Row ALine → Type 0
+  abbrev Joins : ℕ → LinesSoFar → Row ALine → Type 0
   Joins p so ls = script_on edition B so p ≡ lines_joined ls (entries_of so.entries) so.gap p
 
   abbrev Rest : ℕ → Row ALine → Type 0
-  Rest q ls = (so : SoFar) → Joins q so ls
+  Rest q ls = (so : LinesSoFar) → Joins q so ls
 
   -- a line that a newline token ended, and what the lines after it give
-  line_on : (p : ℕ) (so : SoFar) (es : Row AnEntry) (rest : Entries → Bool → AScript) (y : AScript) →
+  line_on : (p : ℕ) (so : LinesSoFar) (es : Row AnEntry) (rest : Entries → Bool → AScript) (y : AScript) →
       y ≡ rest (entries_of (so.entries ++ there p (is_blank_line so) es)) (is_empty es)
       → y ≡ line_joined_by rest (kind_of es true) (entries_of so.entries) so.gap p
   line_on p so [] rest y is = is ∙ ap (λ es. rest (entries_of es) true) (append-nil so.entries)
@@ -74,13 +74,13 @@ module _ (edition : Edition) (B : List ℕ) where
   empty_there p blank [] = refl
   empty_there p blank (e ∷ es) = refl
 
-  line_at_last : (p : ℕ) (so : SoFar) (es : Row AnEntry) (q : ℕ)
+  line_at_last : (p : ℕ) (so : LinesSoFar) (es : Row AnEntry) (q : ℕ)
       → record { entries = entries_of (so.entries ++ there p (is_blank_line so) es); fault = None }
       ≡ line_joined_by (λ es gap. lines_joined [] es gap q) (kind_of es false) (entries_of so.entries) so.gap p
   line_at_last p so [] q = ap (λ es. record { entries = entries_of es; fault = None }) (append-nil so.entries)
   line_at_last p so (e ∷ es) q = ap (λ es. record { entries = es; fault = None }) (sym (added p so (e ∷ es)))
 
-  module _ (p : ℕ) (so : SoFar) where
+  module _ (p : ℕ) (so : LinesSoFar) where
     abbrev blank : Bool
     blank = is_blank_line so
 
@@ -90,7 +90,7 @@ module _ (edition : Edition) (B : List ℕ) where
         → script_on edition B so p ≡ line_joined_by (λ es gap. lines_joined ls es gap (p + u.at)) (kind_of fs true)
         (entries_of so.entries) so.gap p
     goes fs u es t entries_are at_is read ls rest =
-        let next : SoFar = record { entries = so.entries ++ there p blank fs; gap = is_empty fs } in
+        let next : LinesSoFar = record { entries = so.entries ++ there p blank fs; gap = is_empty fs } in
         let same : next ≡ with_line so es = rw (entries_are, empty_there p blank fs) refl in
         let on : script_on edition B so p ≡ script_on edition B next (p + u.at) =
         line_more edition B so p blank refl es t next read same

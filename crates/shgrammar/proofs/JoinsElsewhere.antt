@@ -17,7 +17,7 @@ use Rattle.shgrammar.specs.Comments.{span, comment_at, past_comment}
 use Rattle.shgrammar.specs.Sights.{Given, given, State, Move, a_comment_on}
 use Rattle.shgrammar.specs.Form.{Telling, Read, Form, give, move, push, token, many, ◌>>=◌, ◌>>◌, Step, step_if, does}
 use Rattle.shgrammar.specs.Words.{Inner}
-use Rattle.shgrammar.specs.Commands.{is_empty, pick, next_token, is_newline_token, is_semicolon, a_semicolon, a_join_of, comment_by, a_comment, a_newline, unexpected, JoinSo, join_so, with_comment, join_turn, a_join, separator_of, separator_by, a_separator, is_background, ASeparator, past_separator}
+use Rattle.shgrammar.specs.Commands.{is_empty, pick, next_token, is_newline_token, is_semicolon, a_semicolon, a_join_of, comment_by, a_comment, a_newline, unexpected, JoinSoFar, join_so_far, with_comment, join_turn, a_join, separator_of, separator_by, a_separator, is_background, ASeparator, past_separator}
 use Rattle.shgrammar.specs.Compounds.{a_linebreak}
 use Rattle.shgrammar.proofs.Holds.{Holds, move_low}
 use Rattle.shgrammar.proofs.Within.{before_blanks_low}
@@ -68,7 +68,7 @@ module _ (B B2 : List ℕ) where
   SameComments cs ds = map (text_at B) cs ≡ map (text_at B2) ds
 
   -- both break the line or none does, with comments of the same texts and the same token after them
-  abbrev pub SameJoin : JoinSo → JoinSo → Type 0
+  abbrev pub SameJoin : JoinSoFar → JoinSoFar → Type 0
   SameJoin j k = (j.join.broken ≡ k.join.broken) × (SameComments j.join.comments k.join.comments × (j.next ≡ k.next))
 
   -- joins of the same shape, and the same token after them
@@ -76,25 +76,25 @@ module _ (B B2 : List ℕ) where
   SameJoined x y = (shape_of_join B x.0 ≡ shape_of_join B2 y.0) × (x.1 ≡ y.1)
 
   -- a join that goes on, or ends, by a test
-  join_step : (p : Bool) (j k : JoinSo) → SameJoin j k → SameStep SameJoin (step_if p j) (step_if p k)
+  join_step : (p : Bool) (j k : JoinSoFar) → SameJoin j k → SameStep SameJoin (step_if p j) (step_if p k)
   join_step true j k same = same
   join_step false j k same = same
 
   join_steps : (l m : Bool × Next) → l ≡ m → (broken pale : Bool) → broken ≡ pale → (cs ds : Row Span) →
       SameComments cs ds
-      → SameStep SameJoin (step_if l.0 (join_so (a_join_of (broken || l.0) cs) l.1))
-      (step_if m.0 (join_so (a_join_of (pale || m.0) ds) m.1))
+      → SameStep SameJoin (step_if l.0 (join_so_far (a_join_of (broken || l.0) cs) l.1))
+      (step_if m.0 (join_so_far (a_join_of (pale || m.0) ds) m.1))
   join_steps l m is broken pale same cs ds all =
-      subst (λ (z : Bool × Next). SameStep SameJoin (step_if l.0 (join_so (a_join_of (broken || l.0) cs) l.1))
-      (step_if z.0 (join_so (a_join_of (pale || z.0) ds) z.1))) is
-      (join_step l.0 (join_so (a_join_of (broken || l.0) cs) l.1) (join_so (a_join_of (pale || l.0) ds) l.1)
+      subst (λ (z : Bool × Next). SameStep SameJoin (step_if l.0 (join_so_far (a_join_of (broken || l.0) cs) l.1))
+      (step_if z.0 (join_so_far (a_join_of (pale || z.0) ds) z.1))) is
+      (join_step l.0 (join_so_far (a_join_of (broken || l.0) cs) l.1) (join_so_far (a_join_of (pale || l.0) ds) l.1)
       (ap (λ b. b || l.0) same, (all, refl)))
 
   -- both break the line so far, or have a comment, or none does
   or_same : (b c : Bool) (x y : Option Span) → b ≡ c → SameText x y → (b || is_some x) ≡ (c || is_some y)
   or_same b c x y one two = rw (one, some_same (text_at B) (text_at B2) x y two) refl
 
-  joins_same : (j k : JoinSo) → SameJoin j k → SameJoined (j.join, j.next) (k.join, k.next)
+  joins_same : (j k : JoinSoFar) → SameJoin j k → SameJoined (j.join, j.next) (k.join, k.next)
   joins_same j k same = (rw (same.0, same.1.0) refl, same.1.1)
 
 -- the offset after it does not count
@@ -348,7 +348,7 @@ module _ {edition : Edition} {T U : List ℕ} {a M : ℕ} {to : ℕ → ℕ} {li
   kept cs ds (Some c) None all one = absurd cc
   kept cs ds (Some c) (Some d) all one = pushes (rows_more (text_at B) (text_at B2) cs c ds d all cc)
 
-  join_on : (j k : JoinSo) → SameJoin B B2 j k → Goes E o o2 B B2 stands stands_there (SameStep (SameJoin B B2))
+  join_on : (j k : JoinSoFar) → SameJoin B B2 j k → Goes E o o2 B B2 stands stands_there (SameStep (SameJoin B B2))
       (join_turn j) (join_turn k)
   unfolding join_turn
   join_on j k same =

@@ -20,8 +20,8 @@ use Rattle.shgrammar.specs.Words.{Inner}
 use Rattle.shgrammar.specs.Levels.{level, most_open}
 use Rattle.shgrammar.specs.Commands.{is_newline_token, next_token, a_comment, none_waits, nothing_waits, what_is_wrong}
 use Rattle.shgrammar.specs.Lines.{line_end_by, end_of_line, an_open_line, a_line}
-use Rattle.shgrammar.specs.Lists.{list_so, none_listed, entry_turn, a_remark, on_line}
-use Rattle.shgrammar.specs.Scripts.{AScript, SoFar, is_blank_line, with_line, the_line, line_from, script_by, script_below, script_on}
+use Rattle.shgrammar.specs.Lists.{list_so_far, none_listed, entry_turn, a_remark, on_line}
+use Rattle.shgrammar.specs.Scripts.{AScript, LinesSoFar, is_blank_line, with_line, the_line, line_from, script_by, script_below, script_on}
 use Rattle.shgrammar.proofs.Places.{after_low}
 use Rattle.shgrammar.proofs.Holds.{Holds, holds_then, holds_so, Tells, AtOrAfter, change_low, tells_give, tells_level, tells_then, tells_so, no_form_goes_back}
 use Rattle.shgrammar.specs.declared.edition.Edition.{Edition}
@@ -75,7 +75,7 @@ open_ended_low : (inner : Inner) (blank : Bool) (keep : Keep) (g : Given) (s : S
 unfolding an_open_line
 open_ended_low inner blank keep g s =
     tells_then keep g (further keep g (next_token Command) s s (omega arith))
-    (λ n t one. tells_then keep g (further keep g (on_line inner (list_so (none_listed blank) n)) s t one)
+    (λ n t one. tells_then keep g (further keep g (on_line inner (list_so_far (none_listed blank) n)) s t one)
     (λ l u two. tells_then keep g (end_ended inner keep g u l.next)
     (λ newline w more. tells_give keep g (λ e. omega (arith, two, more e)))))
 
@@ -127,7 +127,7 @@ leaves_less edition B keep blank p es t is =
 
 -- ---- the lines from a place on
 
-same_by : (B : List ℕ) (f h : SoFar → ℕ → AScript) (so : SoFar) (p : ℕ) (x : Read (Row AnEntry × Bool))
+same_by : (B : List ℕ) (f h : LinesSoFar → ℕ → AScript) (so : LinesSoFar) (p : ℕ) (x : Read (Row AnEntry × Bool))
     → ((es : Row AnEntry) (t : State) → x ≡ Ok ((es, true), t) →
     f (with_line so es) (p + t.at) ≡ h (with_line so es) (p + t.at)) → script_by f so p x ≡ script_by h so p x
 same_by B f h so p (Ok ((es, true), t)) same = same es t refl
@@ -135,7 +135,7 @@ same_by B f h so p (Ok ((es, false), t)) same = refl
 same_by B f h so p (Err f') same = refl
 
 -- with enough lines, how many they are does not matter
-enough : (edition : Edition) → (B : List ℕ) (n m : ℕ) (so : SoFar) (p : ℕ) → length B - p < n → length B - p < m →
+enough : (edition : Edition) → (B : List ℕ) (n m : ℕ) (so : LinesSoFar) (p : ℕ) → length B - p < n → length B - p < m →
     script_below edition B n so p ≡ script_below edition B m so p
 unfolding script_below
 enough edition B zero m so p low_n low_m = absurd (omega arith)
@@ -147,14 +147,15 @@ enough edition B (suc n) (suc m) so p low_n low_m =
     enough edition B n m (with_line so es) (p + t.at) (omega (arith, less, low_n)) (omega (arith, less, low_m)))
 
 -- by what the next line gives, where the first entry of a line may be blank by the flag
-module _ (edition : Edition) (B : List ℕ) (so : SoFar) (p : ℕ) (blank : Bool)
+module _ (edition : Edition) (B : List ℕ) (so : LinesSoFar) (p : ℕ) (blank : Bool)
     (is_blank : blank ≡ is_blank_line so) where
   the_next : (x : Read (Row AnEntry × Bool)) → line_from edition B Whole blank p ≡ x →
       line_from edition B Whole (is_blank_line so) p ≡ x
   the_next x is = ap (λ b. line_from edition B Whole b p) (sym is_blank) ∙ is
 
   -- a line that leads on to what the lines give then
-  pub line_more : (es : Row AnEntry) (t : State) (then : SoFar) → line_from edition B Whole blank p ≡ Ok ((es, true), t)
+  pub line_more : (es : Row AnEntry) (t : State) (then : LinesSoFar) →
+      line_from edition B Whole blank p ≡ Ok ((es, true), t)
       → then ≡ with_line so es → script_on edition B so p ≡ script_on edition B then (p + t.at)
   unfolding script_on script_below
   line_more es t then is same =
@@ -163,12 +164,12 @@ module _ (edition : Edition) (B : List ℕ) (so : SoFar) (p : ℕ) (blank : Bool
       rw here (enough edition B (length B - p) (suc (length B - (p + t.at))) (with_line so es) (p + t.at) less
       (omega arith) ∙ ap (λ z. script_below edition B (suc (length B - (p + t.at))) z (p + t.at)) (sym same))
 
-  pub line_last : (es : Row AnEntry) (t : State) (then : SoFar) →
+  pub line_last : (es : Row AnEntry) (t : State) (then : LinesSoFar) →
       line_from edition B Whole blank p ≡ Ok ((es, false), t) → then ≡ with_line so es →
       script_on edition B so p ≡ record { entries = entries_of then.entries; fault = None }
   unfolding script_on script_below
   line_last es t then is same =
-      rw (the_next _ is) (ap (λ (z : SoFar). record { entries = entries_of z.entries; fault = None }) (sym same))
+      rw (the_next _ is) (ap (λ (z : LinesSoFar). record { entries = entries_of z.entries; fault = None }) (sym same))
 
   pub line_faulty : (f : Fault) → line_from edition B Whole blank p ≡ Err f →
       script_on edition B so p ≡ record { entries = entries_of so.entries; fault = Some f }

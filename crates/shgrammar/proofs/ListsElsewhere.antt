@@ -15,9 +15,9 @@ use Rattle.shast.specs.Shape.{text_at, shape_of, shape_of_entry, shape_of_comman
 use Rattle.shgrammar.specs.Sights.{here, is_a_name}
 use Rattle.shgrammar.specs.Form.{Form, many, step_if, Spelled}
 use Rattle.shgrammar.specs.Words.{Inner}
-use Rattle.shgrammar.specs.Commands.{is_pipe, begins_word, begins_pipeline, opener_of, compound_by, Items, so_many, is_word, is_paren, ends_item, falls_through}
-use Rattle.shgrammar.specs.Lists.{Listed, ListSo, list_so, none_listed, is_blank_next, with_command, next_line, one_entry, entry_turn, remark_by, a_remark, on_line, list_turn, a_list}
-use Rattle.shgrammar.specs.Compounds.{is_closing, is_open_paren, is_close_paren, reserved_or_paren, closing, Closed, a_branch, Branched, branched, elif_turn, an_else, an_if, a_loop, a_group, a_for_name, a_sequential_sep, Headed, word_turn, for_words, a_for_head, after_remarks, a_for, a_form, held_apart, a_compound, under_name, a_function, a_case_word, begins_pattern, Patterned, a_pattern, one_pattern, pattern_turn, a_pattern_list, an_open_bracket, a_body, ItemEnd, an_ender, an_item_end, CasesSo, cases_so, one_case, case_turn, a_case_head, a_case}
+use Rattle.shgrammar.specs.Commands.{is_pipe, begins_word, begins_pipeline, opener_of, compound_by, ItemsSoFar, items_so_far, is_word, is_paren, ends_item, falls_through}
+use Rattle.shgrammar.specs.Lists.{Listed, ListSoFar, list_so_far, none_listed, is_blank_next, with_command, next_line, one_entry, entry_turn, remark_by, a_remark, on_line, list_turn, a_list}
+use Rattle.shgrammar.specs.Compounds.{is_closing, is_open_paren, is_close_paren, reserved_or_paren, closing, Closed, a_branch, BranchesSoFar, branches_so_far, elif_turn, an_else, an_if, a_loop, a_group, a_for_name, a_sequential_sep, Headed, word_turn, for_words, a_for_head, after_remarks, a_for, a_form, held_apart, a_compound, under_name, a_function, a_case_word, begins_pattern, PatternsSoFar, a_pattern, one_pattern, pattern_turn, a_pattern_list, an_open_bracket, a_body, ItemEnd, an_ender, an_item_end, CasesSoFar, cases_so_far, one_case, case_turn, a_case_head, a_case}
 use Rattle.shgrammar.proofs.Alike.{SameStep}
 use Rattle.shgrammar.proofs.Ahead.{ListEnds, same_name}
 use Rattle.shgrammar.proofs.GoingOn.{Goes, go_see, go_any, go_stop}
@@ -53,11 +53,11 @@ module _ (B B2 : List ℕ) where
   SameListed l m = (map (shape_of_entry B) l.entries ≡ map (shape_of_entry B2) m.entries)
       × ((l.blank ≡ m.blank) × ((l.begun ≡ m.begun) × (l.commands ≡ m.commands)))
 
-  abbrev pub SameList : ListSo → ListSo → Type 0
+  abbrev pub SameList : ListSoFar → ListSoFar → Type 0
   SameList l m = SameListed l.list m.list × (l.next ≡ m.next)
 
   -- lists of the same shape
-  pub list_shape : (l m : ListSo) → SameList l m →
+  pub list_shape : (l m : ListSoFar) → SameList l m →
       shape_of B (entries_of l.list.entries) ≡ shape_of B2 (entries_of m.list.entries)
   list_shape l m same = entries_shape B l.list.entries ∙ ap entries_of same.0.0
       ∙ sym (entries_shape B2 m.list.entries)
@@ -80,14 +80,14 @@ module _ {edition : Edition} {T U : List ℕ} {a M : ℕ} {to : ℕ → ℕ} {li
   blank_same l m same = rw (same.1.0, same.1.1.0) refl
 
   -- both go on, or both end
-  list_step : (p q : Bool) (l m : ListSo) → p ≡ q → SameList B B2 l m →
+  list_step : (p q : Bool) (l m : ListSoFar) → p ≡ q → SameList B B2 l m →
       SameStep (SameList B B2) (step_if p l) (step_if q m)
   list_step true true l m is same = same
   list_step true false l m is same = absurd cc
   list_step false true l m is same = absurd cc
   list_step false false l m is same = same
 
-  one_more_entry : (l m : ListSo) → SameList B B2 l m →
+  one_more_entry : (l m : ListSoFar) → SameList B B2 l m →
       Goes2 (SameStep (SameList B B2)) (one_entry inner l) (one_entry inner m)
   unfolding one_entry
   one_more_entry l m same =
@@ -96,16 +96,17 @@ module _ {edition : Edition} {T U : List ℕ} {a M : ℕ} {to : ℕ → ℕ} {li
       (rows_more (shape_of_entry B)
       (shape_of_entry B2) l.list.entries e.entry m.list.entries f.entry same.0.0 so.0))
       (λ es fs all. gives (list_step (is_some e.parted) (is_some f.parted)
-      (list_so (with_command l.list es e.parted) e.next) (list_so (with_command m.list fs f.parted) f.next) so.1.0
+      (list_so_far (with_command l.list es e.parted) e.next)
+      (list_so_far (with_command m.list fs f.parted) f.next) so.1.0
       ((all, (same.0.1.0, (refl, refl))), so.1.1))))
 
-  entry_on : (l m : ListSo) → SameList B B2 l m →
+  entry_on : (l m : ListSoFar) → SameList B B2 l m →
       Goes2 (SameStep (SameList B B2)) (entry_turn inner l) (entry_turn inner m)
   unfolding entry_turn
   entry_on l m same = picks _ _ (ap (λ (n : Next). begins_pipeline n.token) same.1) (one_more_entry l m same)
       (gives same)
 
-  remark_same : (l m : ListSo) (x y : Option Span × Next) → SameListed B B2 l.list m.list → SameRemark B B2 x y →
+  remark_same : (l m : ListSoFar) (x y : Option Span × Next) → SameListed B B2 l.list m.list → SameRemark B B2 x y →
       Goes2 (SameList B B2) (remark_by l x) (remark_by m y)
   remark_same l m (None, n) (None, k) same so = gives (same, so.1)
   remark_same l m (None, n) (Some d, k) same so = let no = so.0 in absurd cc
@@ -122,7 +123,7 @@ module _ {edition : Edition} {T U : List ℕ} {a M : ℕ} {to : ℕ → ℕ} {li
           shape_of_entry B (entry (remark c) false b None) ≡ shape_of_entry B2 (entry (remark d) false z None)
       remarks_same c d b z text is = let one : text_at B c ≡ text_at B2 d = cc in rw (one, is) refl
 
-  on_line_same : (l m : ListSo) → SameList B B2 l m → Goes2 (SameList B B2) (on_line inner l) (on_line inner m)
+  on_line_same : (l m : ListSoFar) → SameList B B2 l m → Goes2 (SameList B B2) (on_line inner l) (on_line inner m)
   unfolding on_line a_remark
   on_line_same l m same =
       then (repeats (SameList B B2) (entry_turn inner) (entry_turn inner) entry_on l m same)
@@ -138,18 +139,18 @@ module _ {edition : Edition} {T U : List ℕ} {a M : ℕ} {to : ℕ → ℕ} {li
     ),
   )
 
-  line_on : (l m : ListSo) → SameList B B2 l m →
+  line_on : (l m : ListSoFar) → SameList B B2 l m →
       Goes2 (SameStep (SameList B B2)) (list_turn inner l) (list_turn inner m)
   unfolding list_turn
   line_on l m same =
       then (on_line_same l m same) (λ j k so. then (newline j.next k.next so.1)
-      (λ x y is. gives (list_step x.0 y.0 (list_so (next_line j.list) x.1) (list_so (next_line k.list) y.1)
+      (λ x y is. gives (list_step x.0 y.0 (list_so_far (next_line j.list) x.1) (list_so_far (next_line k.list) y.1)
       (ap (λ (z : Bool × Next). z.0) is) (lines_same j.list k.list so.0, ap (λ (z : Bool × Next). z.1) is))))
 
   -- what stands before the end of a list
   pub lines : (n m : Next) → n ≡ m →
-      Goes2 (SameList B B2) (many (list_turn inner) (list_so (none_listed false) n))
-      (many (list_turn inner) (list_so (none_listed false) m))
+      Goes2 (SameList B B2) (many (list_turn inner) (list_so_far (none_listed false) n))
+      (many (list_turn inner) (list_so_far (none_listed false) m))
   lines n m same = repeats (SameList B B2) (list_turn inner) (list_turn inner) line_on _ _
       ((refl, (refl, (refl, refl))), same)
 
@@ -187,11 +188,11 @@ module _ {edition : Edition} {T U : List ℕ} {a M : ℕ} {to : ℕ → ℕ} {li
       then (closing_same closings.Then c.1 d.1 so.1)
       (λ t u is. then (list_same t.1 u.1 is) (λ b e two. gives (rw (so.0, two.0) refl, two.1))))
 
-  abbrev SameBranched : Branched → Branched → Type 0
-  SameBranched b c = (map (shape_of_branch B) b.branches ≡ map (shape_of_branch B2) c.branches) × (b.next ≡ c.next)
+  abbrev SameBranches : BranchesSoFar → BranchesSoFar → Type 0
+  SameBranches b c = (map (shape_of_branch B) b.branches ≡ map (shape_of_branch B2) c.branches) × (b.next ≡ c.next)
 
-  elif_on : (b c : Branched) → SameBranched b c →
-      Goes2 (SameStep SameBranched) (elif_turn inner b) (elif_turn inner c)
+  elif_on : (b c : BranchesSoFar) → SameBranches b c →
+      Goes2 (SameStep SameBranches) (elif_turn inner b) (elif_turn inner c)
   unfolding elif_turn
   elif_on b c same =
       picks _ _ (ap (λ (n : Next). is_closing closings.Elif n.token) same.1)
@@ -216,13 +217,14 @@ module _ {edition : Edition} {T U : List ℕ} {a M : ℕ} {to : ℕ → ℕ} {li
   unfolding an_if
   if_same n =
       then (branch_same n n refl) (λ f k so.
-      then (repeats SameBranched (elif_turn inner) (elif_turn inner) elif_on (branched [] f.1) (branched [] k.1)
+      then (repeats SameBranches (elif_turn inner) (elif_turn inner) elif_on (branches_so_far [] f.1)
+      (branches_so_far [] k.1)
       (refl, so.1))
       (λ b c same. then (else_same b.next c.next same.1)
       (λ e d is. then (closing_same closings.Fi e.1 d.1 is.1)
       (λ x y last. gives (rw (so.0, branches_same b c same, is.0) refl, last)))))
     where
-      branches_same : (b c : Branched) → SameBranched b c →
+      branches_same : (b c : BranchesSoFar) → SameBranches b c →
           shape_of_branches B (branches_of b.branches) ≡ shape_of_branches B2 (branches_of c.branches)
       branches_same b c same = branches_shape B b.branches ∙ ap branches_of same.0
           ∙ sym (branches_shape B2 c.branches)
@@ -266,7 +268,7 @@ module _ {edition : Edition} {T U : List ℕ} {a M : ℕ} {to : ℕ → ℕ} {li
   SameHead x y = (shape_of_for_words B x.words ≡ shape_of_for_words B2 y.words)
       × (SameComments B B2 x.comments y.comments × (x.next ≡ y.next))
 
-  word_on : (i j : Items) → SameItems B B2 i j →
+  word_on : (i j : ItemsSoFar) → SameItems B B2 i j →
       Goes2 (SameStep (SameItems B B2)) (word_turn inner i) (word_turn inner j)
   unfolding word_turn
   word_on i j same = picks _ _ (ap (λ (k : Next). is_word k.token) same.1.1) (one_item fine i j Suffix same)
@@ -277,8 +279,8 @@ module _ {edition : Edition} {T U : List ℕ} {a M : ℕ} {to : ℕ → ℕ} {li
   unfolding for_words
   for_words_same cs ds all =
       then (reserved_or_paren_same _ false _)
-      (λ i j so. then (repeats (SameItems B B2) (word_turn inner) (word_turn inner) word_on (so_many [] Suffix i.1)
-      (so_many [] Suffix j.1) (refl, (refl, so)))
+      (λ i j so. then (repeats (SameItems B B2) (word_turn inner) (word_turn inner) word_on (items_so_far [] Suffix i.1)
+      (items_so_far [] Suffix j.1) (refl, (refl, so)))
       (λ ws vs same. then (sep_same cs ds ws.next vs.next all same.1.1)
       (λ l k is. gives (rw (items_same B B2 ws vs same) refl, is.1))))
 
@@ -326,10 +328,10 @@ module _ {edition : Edition} {T U : List ℕ} {a M : ℕ} {to : ℕ → ℕ} {li
   abbrev SameWords : Row AWord → Row AWord → Type 0
   SameWords ws vs = map (shape_of_word B) ws ≡ map (shape_of_word B2) vs
 
-  abbrev SamePatterned : Patterned → Patterned → Type 0
-  SamePatterned p q = SameWords p.patterns q.patterns × (p.next ≡ q.next)
+  abbrev SamePatterns : PatternsSoFar → PatternsSoFar → Type 0
+  SamePatterns p q = SameWords p.patterns q.patterns × (p.next ≡ q.next)
 
-  pattern_same : (ws vs : Row AWord) → SameWords ws vs → Goes2 SamePatterned (a_pattern inner ws) (a_pattern inner vs)
+  pattern_same : (ws vs : Row AWord) → SameWords ws vs → Goes2 SamePatterns (a_pattern inner ws) (a_pattern inner vs)
   unfolding a_pattern
   pattern_same ws vs same =
       then fine.word (λ w v so. then
@@ -337,25 +339,25 @@ module _ {edition : Edition} {T U : List ℕ} {a M : ℕ} {to : ℕ → ℕ} {li
       (λ xs ys all. then (next Suffix) (λ n m is. gives (all, is))))
 
   one_more_pattern : (ws vs : Row AWord) → SameWords ws vs →
-      Goes2 (SameStep SamePatterned) (one_pattern inner ws) (one_pattern inner vs)
+      Goes2 (SameStep SamePatterns) (one_pattern inner ws) (one_pattern inner vs)
   unfolding one_pattern
   one_more_pattern ws vs same =
       then marks (λ x y all. then (next Suffix)
       (λ n m is. picks _ _ (ap (λ (k : Next). begins_word k.token) is)
       (then (pattern_same ws vs same) (λ p q so. gives so)) (stopped inner n)))
 
-  pattern_on : (p q : Patterned) → SamePatterned p q →
-      Goes2 (SameStep SamePatterned) (pattern_turn inner p) (pattern_turn inner q)
+  pattern_on : (p q : PatternsSoFar) → SamePatterns p q →
+      Goes2 (SameStep SamePatterns) (pattern_turn inner p) (pattern_turn inner q)
   unfolding pattern_turn
   pattern_on p q same = picks _ _ (ap (λ (n : Next). is_pipe n.token) same.1)
       (one_more_pattern p.patterns q.patterns same.0) (gives same)
 
-  pattern_list_same : (n m : Next) → n ≡ m → Goes2 SamePatterned (a_pattern_list inner n) (a_pattern_list inner m)
+  pattern_list_same : (n m : Next) → n ≡ m → Goes2 SamePatterns (a_pattern_list inner n) (a_pattern_list inner m)
   unfolding a_pattern_list
   pattern_list_same n m same =
       picks _ _ (ap (λ (k : Next). begins_pattern k.token) same)
       (then (pattern_same [] [] refl)
-      (λ p q so. repeats SamePatterned (pattern_turn inner) (pattern_turn inner) pattern_on p q so))
+      (λ p q so. repeats SamePatterns (pattern_turn inner) (pattern_turn inner) pattern_on p q so))
       (stopped inner n)
 
   open_same : (n m : Next) → n ≡ m → Goes2 (λ x y. x ≡ y) (an_open_bracket n) (an_open_bracket m)
@@ -381,19 +383,19 @@ module _ {edition : Edition} {T U : List ℕ} {a M : ℕ} {to : ℕ → ℕ} {li
       (ap (λ (k : Next). falls_through k.token) same) (ender_same (falls_through n.token)))
       (picks _ _ (ap (λ (k : Next). is_closing closings.Esac k.token) same) (gives (refl, same)) (stopped inner n))
 
-  case_shape : (cs ds : Row Span) (p q : Patterned) (l m : ListSo) (s z : ACaseMark) → s.falls ≡ z.falls →
-      SameComments B B2 cs ds → SamePatterned p q → SameList B B2 l m
+  case_shape : (cs ds : Row Span) (p q : PatternsSoFar) (l m : ListSoFar) (s z : ACaseMark) → s.falls ≡ z.falls →
+      SameComments B B2 cs ds → SamePatterns p q → SameList B B2 l m
       → shape_of_case B (case_item cs (patterns_of p.patterns) (entries_of l.list.entries) s)
       ≡ shape_of_case B2 (case_item ds (patterns_of q.patterns) (entries_of m.list.entries) z)
   case_shape cs ds p q l m s z falling one two three =
       let patterns = patterns_shape B p.patterns ∙ ap patterns_of two.0 ∙ sym (patterns_shape B2 q.patterns) in
       rw (one, patterns, list_shape B B2 l m three, falling) refl
 
-  abbrev SameCases : CasesSo → CasesSo → Type 0
+  abbrev SameCases : CasesSoFar → CasesSoFar → Type 0
   SameCases c d = (map (shape_of_case B) c.items ≡ map (shape_of_case B2) d.items)
       × (SameComments B B2 c.comments d.comments × (c.next ≡ d.next))
 
-  one_more_case : (c d : CasesSo) → SameCases c d → Goes2 (SameStep SameCases) (one_case inner c) (one_case inner d)
+  one_more_case : (c d : CasesSoFar) → SameCases c d → Goes2 (SameStep SameCases) (one_case inner c) (one_case inner d)
   unfolding one_case a_body
   one_more_case c d same =
       then (go_any E o o2 B B2 stands stands_there {l = here})
@@ -408,7 +410,7 @@ module _ {edition : Edition} {T U : List ℕ} {a M : ℕ} {to : ℕ → ℕ} {li
       (ap (λ (n : Next). falls_through n.token) body.1) same.1.0 so body)))
       (λ is js all. gives (all, ended))))))))
 
-  case_on : (c d : CasesSo) → SameCases c d → Goes2 (SameStep SameCases) (case_turn inner c) (case_turn inner d)
+  case_on : (c d : CasesSoFar) → SameCases c d → Goes2 (SameStep SameCases) (case_turn inner c) (case_turn inner d)
   unfolding case_turn
   case_on c d same = picks _ _ (ap (λ (n : Next). is_closing closings.Esac n.token) same.1.1) (gives same)
       (one_more_case c d same)
@@ -427,12 +429,12 @@ module _ {edition : Edition} {T U : List ℕ} {a M : ℕ} {to : ℕ → ℕ} {li
   unfolding a_case
   case_same n =
       then (case_head_same n) (λ h k one.
-      then (repeats SameCases (case_turn inner) (case_turn inner) case_on (cases_so [] h.1 h.2)
-      (cases_so [] k.1 k.2) (refl, one.1))
+      then (repeats SameCases (case_turn inner) (case_turn inner) case_on (cases_so_far [] h.1 h.2)
+      (cases_so_far [] k.1 k.2) (refl, one.1))
       (λ c d two. then (closing_same closings.Esac c.next d.next two.1.1)
       (λ x y last. gives (rw (one.0, cases_same c d two, two.1.0) refl, last))))
     where
-      cases_same : (c d : CasesSo) → SameCases c d →
+      cases_same : (c d : CasesSoFar) → SameCases c d →
           shape_of_cases B (cases_of c.items) ≡ shape_of_cases B2 (cases_of d.items)
       cases_same c d same = cases_shape B c.items ∙ ap cases_of same.0 ∙ sym (cases_shape B2 d.items)
 

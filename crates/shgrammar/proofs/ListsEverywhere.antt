@@ -22,9 +22,9 @@ use Rattle.shgrammar.specs.Comments.{span, comment_at}
 use Rattle.shgrammar.specs.Sights.{Given, State}
 use Rattle.shgrammar.specs.HereDocuments.{ADelimiter}
 use Rattle.shgrammar.specs.Form.{Spelled, push, many}
-use Rattle.shgrammar.specs.Words.{Inner, WordSoFar, having, opened, piece_row, a_piece, contents, a_word}
-use Rattle.shgrammar.specs.Commands.{is_pipe, is_bang, begins_simple, begins_redirect, begins_pipeline, after_word, opener_of, compound_by, and_or_operator_of, breaks, Items, so_many, is_number_token, redirect_operator_of, is_strip, takes_here, document_by, a_document, a_number, an_operator, operator_by, a_target, one_redirect, after_redirect, redirect_turn, with_redirect_list, as_item, an_item, item_by, item_turn, a_simple, a_bang, a_comment, comment_by, unexpected, with_comment, JoinSo, join_turn, a_join, a_command, Piped, piped, one_command, pipe_turn, a_pipeline, Joined, joined_so, one_pipeline, joined_by, and_or_turn, an_and_or, an_entry, a_word_command, is_word, is_paren, separator_of, separator_by, a_separator, past_separator}
-use Rattle.shgrammar.specs.Lists.{ListSo, list_so, none_listed, one_entry, entry_turn, remark_by, a_remark, on_line, list_turn, a_list}
+use Rattle.shgrammar.specs.Words.{Inner, WordSoFar, word_so_far, opened, piece_row, a_piece, contents, a_word}
+use Rattle.shgrammar.specs.Commands.{is_pipe, is_bang, begins_simple, begins_redirect, begins_pipeline, after_word, opener_of, compound_by, and_or_operator_of, breaks, ItemsSoFar, items_so_far, is_number_token, redirect_operator_of, is_strip, takes_here, document_by, a_document, a_number, an_operator, operator_by, a_target, one_redirect, after_redirect, redirect_turn, with_redirect_list, as_item, an_item, item_by, item_turn, a_simple, a_bang, a_comment, comment_by, unexpected, with_comment, JoinSoFar, join_turn, a_join, a_command, PipesSoFar, pipes_so_far, one_command, pipe_turn, a_pipeline, AndOrSoFar, and_or_so_far, one_pipeline, joined_by, and_or_turn, an_and_or, an_entry, a_word_command, is_word, is_paren, separator_of, separator_by, a_separator, past_separator}
+use Rattle.shgrammar.specs.Lists.{ListSoFar, list_so_far, none_listed, one_entry, entry_turn, remark_by, a_remark, on_line, list_turn, a_list}
 use Rattle.shgrammar.specs.Compounds.{a_linebreak}
 use Rattle.shast.specs.Everywhere.{IsSome}
 use Rattle.shgrammar.proofs.Ahead.{past_byte_is}
@@ -39,31 +39,31 @@ module _ (limit : ℕ) where
   abbrev pub SubstsIn : WordSoFar → Type 0
   SubstsIn h = All (SubstIn limit) h.substs
 
-  abbrev pub ItemsIn : Items → Type 0
+  abbrev pub ItemsIn : ItemsSoFar → Type 0
   ItemsIn i = All (ItemIn limit) i.items
 
   -- and there is one
-  abbrev pub SomeItems : Items → Type 0
+  abbrev pub SomeItems : ItemsSoFar → Type 0
   SomeItems i = ItemsIn i × IsSome (items_of i.items)
 
   -- and there is one, or the token after them begins one
-  abbrev pub ItemsBegin : Items → Type 0
+  abbrev pub ItemsBegin : ItemsSoFar → Type 0
   ItemsBegin i = ItemsIn i × (begins_simple i.next.token ≡ false → IsSome (items_of i.items))
 
-  abbrev pub PipesIn : Piped → Type 0
+  abbrev pub PipesIn : PipesSoFar → Type 0
   PipesIn p = All (PipeIn limit) p.parts
 
-  abbrev pub PartsIn : Joined → Type 0
+  abbrev pub PartsIn : AndOrSoFar → Type 0
   PartsIn a = All (PartIn limit) a.parts
 
   -- the offset after a separator
   abbrev pub PartedIn : Option ℕ → Type 0
   PartedIn parted = MatchOption parted (Unit {0}) (λ p. p ≤ limit)
 
-  abbrev pub ListIn : ListSo → Type 0
+  abbrev pub ListIn : ListSoFar → Type 0
   ListIn l = All (EntryIn limit) l.list.entries × PartedIn l.list.parted
 
-  abbrev pub JoinIn : JoinSo → Type 0
+  abbrev pub JoinIn : JoinSoFar → Type 0
   JoinIn j = AreIn limit j.join.comments
 
 -- what may be opened, where that does not end above the limit
@@ -132,7 +132,7 @@ module _ {g : Given} {limit : ℕ} where
   with_in cs (Some c) s all one = pushes (IsSpanWithin limit) all one
   with_in cs None s all one = gives all
 
-  join_turn_in : (j : JoinSo) (s : State) → JoinIn limit j → UpTo g limit (join_turn j) (Stepped (JoinIn limit)) s
+  join_turn_in : (j : JoinSoFar) (s : State) → JoinIn limit j → UpTo g limit (join_turn j) (Stepped (JoinIn limit)) s
   unfolding join_turn
   join_turn_in j s so = first (comment_in j.next s)
       (λ c t one. first (with_in j.join.comments c.0 t so one)
@@ -163,7 +163,7 @@ module _ {g : Given} {limit : ℕ} where
   unfolding a_separator
   separator_in n s = separator_in_by n (separator_of n.token) s
 
-  remark_in_by : (l : ListSo) (x : Option Span × Next) (s : State) → ListIn limit l → SomeIn limit x.0 →
+  remark_in_by : (l : ListSoFar) (x : Option Span × Next) (s : State) → ListIn limit l → SomeIn limit x.0 →
       UpTo g limit (remark_by l x) (ListIn limit) s
   remark_in_by l (Some c, n) s so one = first (pushes (EntryIn limit) so.0 (one, tt)) (λ es t all. gives (all, so.1))
   remark_in_by l (None, n) s so one = gives so
@@ -210,7 +210,8 @@ module _ {g : Given} {limit : ℕ} where
         UpTo g limit (contents inner mode b ss) (All (SubstIn limit)) s
     unfolding contents
     contents_in mode b ss s so = first
-        (repeats (SubstsIn limit) (a_piece inner mode b) (piece_in mode b) (having 0 ss) s so) (λ h t good. gives good)
+        (repeats (SubstsIn limit) (a_piece inner mode b) (piece_in mode b) (word_so_far 0 ss) s so)
+        (λ h t good. gives good)
 
     pub word_in : (s : State) → UpTo g limit (a_word inner) (WordIn limit) s
     unfolding a_word
@@ -228,7 +229,7 @@ module _ {g : Given} {limit : ℕ} where
     item_in Prefix broken w so = so
     item_in Suffix broken w so = so
 
-    pub one_item_in : (i : Items) (position : Position) (s : State) → ItemsIn limit i →
+    pub one_item_in : (i : ItemsSoFar) (position : Position) (s : State) → ItemsIn limit i →
         UpTo g limit (an_item inner i position) (Stepped (SomeItems limit)) s
     unfolding an_item
     one_item_in i position s so =
@@ -253,7 +254,7 @@ module _ {g : Given} {limit : ℕ} where
 
     -- ---- simple commands
 
-    item_in_by : (i : Items) (o : Option Position) (s : State) → after_word i.next.token ≡ o → ItemsBegin limit i →
+    item_in_by : (i : ItemsSoFar) (o : Option Position) (s : State) → after_word i.next.token ≡ o → ItemsBegin limit i →
         UpTo g limit (item_by inner i o) (Stepped (SomeItems limit)) s
     item_in_by i (Some position) s is so = one_item_in i position s so.0
     item_in_by i None s is so =
@@ -261,12 +262,12 @@ module _ {g : Given} {limit : ℕ} where
         (λ yes. redirect_in (breaks i) (after_redirect i.position) i.items i.next s so.0)
         (λ no. gives (so.0, so.1 (none_begins i.next.token is no)))
 
-    item_turn_in : (i : Items) (s : State) → ItemsBegin limit i →
+    item_turn_in : (i : ItemsSoFar) (s : State) → ItemsBegin limit i →
         UpTo g limit (item_turn inner i) (Stepped (SomeItems limit)) s
     unfolding item_turn
     item_turn_in i s so = item_in_by i (after_word i.next.token) s refl so
 
-    simple_in : (i : Items) (s : State) → ItemsBegin limit i →
+    simple_in : (i : ItemsSoFar) (s : State) → ItemsBegin limit i →
         UpTo g limit (a_simple inner i) (λ c. CommandIn limit c.0) s
     unfolding a_simple
     simple_in i s so =
@@ -275,7 +276,7 @@ module _ {g : Given} {limit : ℕ} where
 
     -- ---- commands
 
-    redirect_turn_in : (i : Items) (s : State) → ItemsIn limit i →
+    redirect_turn_in : (i : ItemsSoFar) (s : State) → ItemsIn limit i →
         UpTo g limit (redirect_turn inner i) (Stepped (ItemsIn limit)) s
     unfolding redirect_turn
     redirect_turn_in i s so =
@@ -293,7 +294,7 @@ module _ {g : Given} {limit : ℕ} where
         UpTo g limit (with_redirect_list inner c) (λ d. CommandIn limit d.0) s
     unfolding with_redirect_list
     with_redirect_list_in c s so =
-        first (repeats (ItemsIn limit) (redirect_turn inner) redirect_turn_in (so_many [] Command c.1) s
+        first (repeats (ItemsIn limit) (redirect_turn inner) redirect_turn_in (items_so_far [] Command c.1) s
         (All-nil (ItemIn limit))) (λ r t all. gives (with_redirects_in c.0 r.items so all))
 
     pub compound_in_by : (n : Next) (o : Option Opener) (s : State) →
@@ -307,17 +308,17 @@ module _ {g : Given} {limit : ℕ} where
         after (λ good t. first (word_in t) (λ w u one. after (λ n v.
         picks (is_paren n.token) (picks good (fine.function (word_span w) v (place_in w one)) stops)
         (first (one_more (All-nil (ItemIn limit)) one)
-        (λ is x all. simple_in (so_many is Suffix n) x (all.0, λ no. all.1))))))
+        (λ is x all. simple_in (items_so_far is Suffix n) x (all.0, λ no. all.1))))))
 
     command_in : (n : Next) (s : State) → UpTo g limit (a_command inner n) (λ c. CommandIn limit c.0) s
     unfolding a_command
     command_in n s =
         picks (is_word n.token) (word_command_in s)
         (picks_by (begins_simple n.token)
-        (λ yes. simple_in (so_many [] Command n) s (All-nil (ItemIn limit), λ no. absurd (cc)))
+        (λ yes. simple_in (items_so_far [] Command n) s (All-nil (ItemIn limit), λ no. absurd (cc)))
         (λ no. compound_in_by n (opener_of n.token) s))
 
-    one_command_in : (p : Piped) (s : State) → PipesIn limit p →
+    one_command_in : (p : PipesSoFar) (s : State) → PipesIn limit p →
         UpTo g limit (one_command inner p) (Stepped (PipesIn limit)) s
     unfolding one_command
     one_command_in p s so =
@@ -325,7 +326,7 @@ module _ {g : Given} {limit : ℕ} where
         (λ j u one. first (command_in j.1 u)
         (λ c v two. first (pushes (PipeIn limit) so (one, two)) (λ ps w all. gives all))))
 
-    pipe_turn_in : (p : Piped) (s : State) → PipesIn limit p →
+    pipe_turn_in : (p : PipesSoFar) (s : State) → PipesIn limit p →
         UpTo g limit (pipe_turn inner p) (Stepped (PipesIn limit)) s
     unfolding pipe_turn
     pipe_turn_in p s so = picks (is_pipe p.next.token) (one_command_in p s so) (gives so)
@@ -334,11 +335,11 @@ module _ {g : Given} {limit : ℕ} where
     unfolding a_pipeline
     pipeline_in n s =
         first (bang_in n s) (λ b t one. first (command_in b.1 t)
-        (λ c u two. first (repeats (PipesIn limit) (pipe_turn inner) pipe_turn_in (piped [] c.1) u
+        (λ c u two. first (repeats (PipesIn limit) (pipe_turn inner) pipe_turn_in (pipes_so_far [] c.1) u
         (All-nil (PipeIn limit)))
         (λ p v all. gives (one, two, pipes_in limit p.parts all))))
 
-    one_pipeline_in : (a : Joined) (o : AndOrOperator) (s : State) → PartsIn limit a →
+    one_pipeline_in : (a : AndOrSoFar) (o : AndOrOperator) (s : State) → PartsIn limit a →
         UpTo g limit (one_pipeline inner a o) (Stepped (PartsIn limit)) s
     unfolding one_pipeline
     one_pipeline_in a o s so =
@@ -346,12 +347,12 @@ module _ {g : Given} {limit : ℕ} where
         (λ j v one. first (pipeline_in j.1 v)
         (λ p w two. first (pushes (PartIn limit) so (one, two)) (λ ps z all. gives all))))
 
-    joined_in_by : (a : Joined) (o : Option AndOrOperator) (s : State) → PartsIn limit a →
+    joined_in_by : (a : AndOrSoFar) (o : Option AndOrOperator) (s : State) → PartsIn limit a →
         UpTo g limit (joined_by inner a o) (Stepped (PartsIn limit)) s
     joined_in_by a (Some o) s so = one_pipeline_in a o s so
     joined_in_by a None s so = gives so
 
-    and_or_turn_in : (a : Joined) (s : State) → PartsIn limit a →
+    and_or_turn_in : (a : AndOrSoFar) (s : State) → PartsIn limit a →
         UpTo g limit (and_or_turn inner a) (Stepped (PartsIn limit)) s
     unfolding and_or_turn
     and_or_turn_in a s so = joined_in_by a (and_or_operator_of a.next.token) s so
@@ -360,7 +361,7 @@ module _ {g : Given} {limit : ℕ} where
     unfolding an_and_or
     and_or_in n s =
         first (pipeline_in n s) (λ p t one. first
-        (repeats (PartsIn limit) (and_or_turn inner) and_or_turn_in (joined_so [] p.1) t
+        (repeats (PartsIn limit) (and_or_turn inner) and_or_turn_in (and_or_so_far [] p.1) t
         (All-nil (PartIn limit)))
         (λ a u all. gives (one, parts_in limit a.parts all)))
 
@@ -373,32 +374,32 @@ module _ {g : Given} {limit : ℕ} where
 
     -- ---- lists
 
-    one_entry_in : (l : ListSo) (s : State) → ListIn limit l →
+    one_entry_in : (l : ListSoFar) (s : State) → ListIn limit l →
         UpTo g limit (one_entry inner l) (Stepped (ListIn limit)) s
     unfolding one_entry
     one_entry_in l s so = first (entry_in _ l.next s)
         (λ e t one. first (pushes (EntryIn limit) so.0 one.0)
         (λ es u all. gives (stepped (ListIn limit) (is_some e.parted) _ (all, one.1))))
 
-    entry_turn_in : (l : ListSo) (s : State) → ListIn limit l →
+    entry_turn_in : (l : ListSoFar) (s : State) → ListIn limit l →
         UpTo g limit (entry_turn inner l) (Stepped (ListIn limit)) s
     unfolding entry_turn
     entry_turn_in l s so = picks (begins_pipeline l.next.token) (one_entry_in l s so) (gives so)
 
-    pub on_line_in : (l : ListSo) (s : State) → ListIn limit l → UpTo g limit (on_line inner l) (ListIn limit) s
+    pub on_line_in : (l : ListSoFar) (s : State) → ListIn limit l → UpTo g limit (on_line inner l) (ListIn limit) s
     unfolding on_line a_remark
     on_line_in l s so =
         first (repeats (ListIn limit) (entry_turn inner) entry_turn_in l s so)
         (λ m t all. first (comment_in m.next t) (λ x u one. remark_in_by m x u all one))
 
-    list_turn_in : (l : ListSo) (s : State) → ListIn limit l →
+    list_turn_in : (l : ListSoFar) (s : State) → ListIn limit l →
         UpTo g limit (list_turn inner l) (Stepped (ListIn limit)) s
     unfolding list_turn
     list_turn_in l s so = first (on_line_in l s so) (λ m t all. after (λ x u. gives (stepped (ListIn limit) x.0 _ all)))
 
     pub lines_in : (n : Next) (s : State) →
-        UpTo g limit (many (list_turn inner) (list_so (none_listed false) n)) (ListIn limit) s
-    lines_in n s = repeats (ListIn limit) (list_turn inner) list_turn_in (list_so (none_listed false) n) s
+        UpTo g limit (many (list_turn inner) (list_so_far (none_listed false) n)) (ListIn limit) s
+    lines_in n s = repeats (ListIn limit) (list_turn inner) list_turn_in (list_so_far (none_listed false) n) s
         (All-nil (EntryIn limit), tt)
 
     pub list_in : (n : Next) (s : State) → UpTo g limit (a_list inner n) (λ l. EntriesIn limit l.0) s

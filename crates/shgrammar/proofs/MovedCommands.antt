@@ -16,7 +16,7 @@ use Rattle.shgrammar.specs.declared.token.Separator.{Separator}
 use Rattle.shgrammar.specs.HereDocuments.{ADelimiter}
 use Rattle.shgrammar.specs.Form.{Spelled, give, many, Step, again, done, step_if}
 use Rattle.shgrammar.specs.Words.{Inner}
-use Rattle.shgrammar.specs.Commands.{is_empty, begins_redirect, begins_simple, after_word, redirect_operator_of, Items, so_many, breaks, as_item, an_item, a_number, is_strip, an_operator, operator_by, a_target, document, document_by, a_document, one_redirect, after_redirect, item_by, item_turn, a_simple, a_newline, a_semicolon, none_waits, nothing_waits, JoinSo, join_so, a_join_of, with_comment, join_turn, a_join, redirect_turn, with_redirect_list, compound_by, opener_of, named_function, a_word_command, a_command, a_bang, Piped, piped, one_command, pipe_turn, a_pipeline, Joined, joined_so, one_pipeline, joined_by, and_or_turn, and_or_operator_of, an_and_or, ASeparator, separator_by, separator_of, a_separator}
+use Rattle.shgrammar.specs.Commands.{is_empty, begins_redirect, begins_simple, after_word, redirect_operator_of, ItemsSoFar, items_so_far, breaks, as_item, an_item, a_number, is_strip, an_operator, operator_by, a_target, document, document_by, a_document, one_redirect, after_redirect, item_by, item_turn, a_simple, a_newline, a_semicolon, none_waits, nothing_waits, JoinSoFar, join_so_far, a_join_of, with_comment, join_turn, a_join, redirect_turn, with_redirect_list, compound_by, opener_of, named_function, a_word_command, a_command, a_bang, PipesSoFar, pipes_so_far, one_command, pipe_turn, a_pipeline, AndOrSoFar, and_or_so_far, one_pipeline, joined_by, and_or_turn, and_or_operator_of, an_and_or, ASeparator, separator_by, separator_of, a_separator}
 use Rattle.shgrammar.proofs.Moved.{Place, Any, same, each, first, of_first, step, of_step, Moves, moves_give, moves_move, moves_stop, moves_so, moves_then, moves_see, moves_here, moves_see_waiting, moves_on, moves_pushed, moves_push, moves_pick_by, moves_pick, moves_token, moves_with_bytes, moves_many, moves_waits, moves_newline}
 use Rattle.shgrammar.proofs.MovedTrees.{is_empty_map, pushed_some, span_to, join_to, here_to, word_to, item_to, command_to, pipe_to, pipeline_to, part_to, and_or_to, items_row, pipes_row, parts_row, redirects_to, word_span_to, CommandEnds, simple_ends, redirects_end, PipeEnds, PipelineEnds, pipeline_ends, PartEnds, AndOrEnds, and_or_ends}
 use Rattle.shgrammar.proofs.MovedWords.{Fits, moves_next, moves_mark, moves_comment, moves_word, moves_unexpected}
@@ -53,20 +53,20 @@ module _ (z : Place) where
 
   -- ---- items
 
-  abbrev pub items_to : Items → Items
-  items_to i = so_many (map (item_to k deep) i.items) i.position i.next
+  abbrev pub items_to : ItemsSoFar → ItemsSoFar
+  items_to i = items_so_far (map (item_to k deep) i.items) i.position i.next
 
-  abbrev pub SomeItems : Items → Type 0
+  abbrev pub SomeItems : ItemsSoFar → Type 0
   SomeItems i = is_empty i.items ≡ false
 
   -- there are items, or one begins here
-  abbrev Begun : Items → Type 0
+  abbrev Begun : ItemsSoFar → Type 0
   Begun i = (not (is_empty i.items) || begins_simple i.next.token) ≡ true
 
-  some_begun : (i : Items) → SomeItems i → Begun i
+  some_begun : (i : ItemsSoFar) → SomeItems i → Begun i
   some_begun i some = ap (λ e. not e || begins_simple i.next.token) some
 
-  breaks_to : (i : Items) → breaks (items_to i) ≡ breaks i
+  breaks_to : (i : ItemsSoFar) → breaks (items_to i) ≡ breaks i
   breaks_to i = ap (λ e. not e && i.next.broken) (is_empty_map (item_to k deep) i.items)
 
   as_item_to : (b c : Bool) → b ≡ c → (position : Position) (w : AWord) →
@@ -100,17 +100,18 @@ module _ (z : Place) where
   moves_with cs (Some c) = moves_push (span_to k) refl refl tt
   moves_with cs None = moves_give refl tt
 
-  abbrev pub join_so_to : JoinSo → JoinSo
-  join_so_to j = join_so (join_to k j.join) j.next
+  abbrev pub join_so_far_to : JoinSoFar → JoinSoFar
+  join_so_far_to j = join_so_far (join_to k j.join) j.next
 
   join_is : (broken newline : Bool) (c : Option Span) (cs : Row Span) (n : Next)
-      → join_so (a_join_of ((broken || is_some (option_map (span_to k) c)) || newline) (map (span_to k) cs)) n
-      ≡ join_so_to (join_so (a_join_of ((broken || is_some c) || newline) cs) n)
+      → join_so_far (a_join_of ((broken || is_some (option_map (span_to k) c)) || newline) (map (span_to k) cs)) n
+      ≡ join_so_far_to (join_so_far (a_join_of ((broken || is_some c) || newline) cs) n)
   join_is broken newline c cs n =
-      ap (λ (e : Bool). join_so (a_join_of ((broken || e) || newline) (map (span_to k) cs)) n)
+      ap (λ (e : Bool). join_so_far (a_join_of ((broken || e) || newline) (map (span_to k) cs)) n)
       (is_some_map (span_to k) c)
 
-  moves_join_turn : (j : JoinSo) → Moves z (step join_so_to) (of_step Any) (join_turn j) (join_turn (join_so_to j))
+  moves_join_turn : (j : JoinSoFar) →
+      Moves z (step join_so_far_to) (of_step Any) (join_turn j) (join_turn (join_so_far_to j))
   unfolding join_turn
   moves_join_turn j =
       moves_then (moves_comment z j.next)
@@ -118,13 +119,14 @@ module _ (z : Place) where
       (λ cs all. moves_then (moves_line_end c.1)
       (λ l last. moves_if l.0 l.0 refl _ _ (join_is j.join.broken l.0 c.0 cs l.1) tt)))
 
-  pub moves_joins : (j : JoinSo) → Moves z join_so_to Any (many join_turn j) (many join_turn (join_so_to j))
-  moves_joins j = moves_many join_so_to Any Any join_turn join_turn (λ i so. moves_join_turn i) (λ i so. tt) j tt
+  pub moves_joins : (j : JoinSoFar) → Moves z join_so_far_to Any (many join_turn j) (many join_turn (join_so_far_to j))
+  moves_joins j = moves_many join_so_far_to Any Any join_turn join_turn (λ i so. moves_join_turn i) (λ i so. tt) j tt
 
   pub moves_join : (broken : Bool) → Moves z (first {Y = Next} (join_to k)) Any (a_join broken) (a_join broken)
   unfolding a_join
   moves_join broken = moves_then (moves_next z _)
-      (λ n so. moves_then (moves_joins (join_so (a_join_of (broken || n.broken) []) n)) (λ j all. moves_give refl tt))
+      (λ n so. moves_then (moves_joins (join_so_far (a_join_of (broken || n.broken) []) n))
+      (λ j all. moves_give refl tt))
 
   -- ---- redirections
 
@@ -186,7 +188,7 @@ module _ (z : Place) where
 
     -- ---- simple commands
 
-    pub moves_item : (i : Items) (position : Position) →
+    pub moves_item : (i : ItemsSoFar) (position : Position) →
         Moves z (step items_to) (of_step SomeItems) (an_item inner i position) (an_item inner (items_to i) position)
     unfolding an_item
     moves_item i position =
@@ -195,7 +197,7 @@ module _ (z : Place) where
         (as_item_to (breaks (items_to i)) (breaks i) (breaks_to i) position w)
         (moves_then (moves_next z position) (λ n all. moves_give refl (pushed_some i.items _))))
 
-    moves_item_by : (i : Items) → Begun i → (o : Option Position) → after_word i.next.token ≡ o →
+    moves_item_by : (i : ItemsSoFar) → Begun i → (o : Option Position) → after_word i.next.token ≡ o →
         Moves z (step items_to) (of_step SomeItems) (item_by inner i o) (item_by inner (items_to i) o)
     moves_item_by i begun (Some position) is = moves_item i position
     moves_item_by i begun None is =
@@ -204,12 +206,12 @@ module _ (z : Place) where
         (λ e. moves_give refl (begun_none (is_empty i.items) (after_word i.next.token)
         (begins_redirect i.next.token) begun is e))
 
-    moves_item_turn : (i : Items) → Begun i →
+    moves_item_turn : (i : ItemsSoFar) → Begun i →
         Moves z (step items_to) (of_step SomeItems) (item_turn inner i) (item_turn inner (items_to i))
     unfolding item_turn
     moves_item_turn i begun = moves_item_by i begun (after_word i.next.token) refl
 
-    moves_simple : (i : Items) → Begun i →
+    moves_simple : (i : ItemsSoFar) → Begun i →
         Moves z (first {Y = Next} (command_to k deep)) (of_first (CommandEnds k deep)) (a_simple inner i)
         (a_simple inner (items_to i))
     unfolding a_simple
@@ -221,7 +223,7 @@ module _ (z : Place) where
 
     -- ---- compound commands with their redirections, functions
 
-    moves_redirect_turn : (i : Items) →
+    moves_redirect_turn : (i : ItemsSoFar) →
         Moves z (step items_to) (of_step Any) (redirect_turn inner i) (redirect_turn inner (items_to i))
     unfolding redirect_turn
     moves_redirect_turn i = moves_pick _
@@ -234,7 +236,7 @@ module _ (z : Place) where
     unfolding with_redirect_list
     moves_with_redirect_list c ends =
         moves_then (moves_many items_to Any Any (redirect_turn inner) (redirect_turn inner)
-        (λ i so. moves_redirect_turn i) (λ i so. tt) (so_many [] Command c.1) tt)
+        (λ i so. moves_redirect_turn i) (λ i so. tt) (items_so_far [] Command c.1) tt)
         (λ r so. moves_give (ap (λ is. (with_redirects (command_to k deep c.0) is, r.next)) (items_row k deep r.items)
         ∙ ap (λ (d : ACommand). (d, r.next)) (redirects_to k deep c.0 (items_of r.items)))
         (redirects_end k deep c.0 (items_of r.items) ends))
@@ -261,13 +263,14 @@ module _ (z : Place) where
         (λ w so. moves_then (moves_next z _) (λ n all.
         moves_pick _ (moves_named_function good w)
         (moves_pushed (item_to k deep) refl refl
-        (moves_simple (so_many (item false (argument w) ∷ []) Suffix n) refl)))))
+        (moves_simple (items_so_far (item false (argument w) ∷ []) Suffix n) refl)))))
 
     moves_command : (n : Next) → Moves z (first {Y = Next} (command_to k deep)) (of_first (CommandEnds k deep))
         (a_command inner n) (a_command inner n)
     unfolding a_command
     moves_command n = moves_pick _ moves_word_command
-        (moves_pick_by _ (λ e. moves_simple (so_many [] Command n) e) (λ e. moves_compound_by n (opener_of n.token)))
+        (moves_pick_by _ (λ e. moves_simple (items_so_far [] Command n) e)
+        (λ e. moves_compound_by n (opener_of n.token)))
 
     -- ---- pipelines
 
@@ -276,14 +279,14 @@ module _ (z : Place) where
     moves_bang n = moves_pick _ (moves_then (moves_mark z)
         (λ x so. moves_then (moves_next z _) (λ m all. moves_give refl tt))) (moves_give refl tt)
 
-    abbrev piped_to : Piped → Piped
-    piped_to p = piped (map (pipe_to k deep) p.parts) p.next
+    abbrev pipes_so_far_to : PipesSoFar → PipesSoFar
+    pipes_so_far_to p = pipes_so_far (map (pipe_to k deep) p.parts) p.next
 
-    abbrev PipedEnd : Piped → Type 0
-    PipedEnd p = All (PipeEnds k deep) p.parts
+    abbrev PipesEnd : PipesSoFar → Type 0
+    PipesEnd p = All (PipeEnds k deep) p.parts
 
-    moves_one_command : (p : Piped) → PipedEnd p →
-        Moves z (step piped_to) (of_step PipedEnd) (one_command inner p) (one_command inner (piped_to p))
+    moves_one_command : (p : PipesSoFar) → PipesEnd p →
+        Moves z (step pipes_so_far_to) (of_step PipesEnd) (one_command inner p) (one_command inner (pipes_so_far_to p))
     unfolding one_command
     moves_one_command p all =
         moves_then (moves_mark z) (λ x so. moves_then (moves_join p.next.broken)
@@ -291,8 +294,8 @@ module _ (z : Place) where
         (λ c ends. moves_pushed (pipe_to k deep) refl refl
         (moves_give refl (All-push (PipeEnds k deep) p.parts (record { join = j.0; command = c.0 }) all ends)))))
 
-    moves_pipe_turn : (p : Piped) → PipedEnd p →
-        Moves z (step piped_to) (of_step PipedEnd) (pipe_turn inner p) (pipe_turn inner (piped_to p))
+    moves_pipe_turn : (p : PipesSoFar) → PipesEnd p →
+        Moves z (step pipes_so_far_to) (of_step PipesEnd) (pipe_turn inner p) (pipe_turn inner (pipes_so_far_to p))
     unfolding pipe_turn
     moves_pipe_turn p all = moves_pick _ (moves_one_command p all) (moves_give refl all)
 
@@ -302,21 +305,23 @@ module _ (z : Place) where
     unfolding a_pipeline
     moves_pipeline n =
         moves_then (moves_bang n) (λ b so. moves_then (moves_command b.1)
-        (λ c ends. moves_then (moves_many piped_to PipedEnd PipedEnd (pipe_turn inner) (pipe_turn inner) moves_pipe_turn
-        (λ p all. all) (piped [] c.1) (All-nil (PipeEnds k deep)))
+        (λ c ends. moves_then (moves_many pipes_so_far_to PipesEnd PipesEnd (pipe_turn inner)
+        (pipe_turn inner) moves_pipe_turn
+        (λ p all. all) (pipes_so_far [] c.1) (All-nil (PipeEnds k deep)))
         (λ p all. moves_give (ap (λ ps. (pipeline (option_map (span_to k) b.0) (command_to k deep c.0) ps, p.next))
         (pipes_row k deep p.parts)) (pipeline_ends k deep b.0 c.0 p.parts ends all))))
 
     -- ---- and-or lists
 
-    abbrev joined_to : Joined → Joined
-    joined_to a = joined_so (map (part_to k deep) a.parts) a.next
+    abbrev and_or_so_far_to : AndOrSoFar → AndOrSoFar
+    and_or_so_far_to a = and_or_so_far (map (part_to k deep) a.parts) a.next
 
-    abbrev JoinedEnd : Joined → Type 0
-    JoinedEnd a = All (PartEnds k deep) a.parts
+    abbrev AndOrEnd : AndOrSoFar → Type 0
+    AndOrEnd a = All (PartEnds k deep) a.parts
 
-    moves_one_pipeline : (a : Joined) (o : AndOrOperator) → JoinedEnd a →
-        Moves z (step joined_to) (of_step JoinedEnd) (one_pipeline inner a o) (one_pipeline inner (joined_to a) o)
+    moves_one_pipeline : (a : AndOrSoFar) (o : AndOrOperator) → AndOrEnd a →
+        Moves z (step and_or_so_far_to) (of_step AndOrEnd) (one_pipeline inner a o)
+        (one_pipeline inner (and_or_so_far_to a) o)
     unfolding one_pipeline
     moves_one_pipeline a o all =
         moves_then (moves_token (moves_on moves_move))
@@ -325,13 +330,15 @@ module _ (z : Place) where
         (moves_give refl (All-push (PartEnds k deep) a.parts
         (record { operator = o; join = j.0; pipeline = p.0 }) all ends)))))
 
-    moves_joined_by : (a : Joined) (o : Option AndOrOperator) → JoinedEnd a →
-        Moves z (step joined_to) (of_step JoinedEnd) (joined_by inner a o) (joined_by inner (joined_to a) o)
+    moves_joined_by : (a : AndOrSoFar) (o : Option AndOrOperator) → AndOrEnd a →
+        Moves z (step and_or_so_far_to) (of_step AndOrEnd) (joined_by inner a o)
+        (joined_by inner (and_or_so_far_to a) o)
     moves_joined_by a (Some o) all = moves_one_pipeline a o all
     moves_joined_by a None all = moves_give refl all
 
-    moves_and_or_turn : (a : Joined) → JoinedEnd a →
-        Moves z (step joined_to) (of_step JoinedEnd) (and_or_turn inner a) (and_or_turn inner (joined_to a))
+    moves_and_or_turn : (a : AndOrSoFar) → AndOrEnd a →
+        Moves z (step and_or_so_far_to) (of_step AndOrEnd) (and_or_turn inner a)
+        (and_or_turn inner (and_or_so_far_to a))
     unfolding and_or_turn
     moves_and_or_turn a all = moves_joined_by a (and_or_operator_of a.next.token) all
 
@@ -341,8 +348,8 @@ module _ (z : Place) where
     unfolding an_and_or
     moves_and_or n =
         moves_then (moves_pipeline n)
-        (λ p ends. moves_then (moves_many joined_to JoinedEnd JoinedEnd (and_or_turn inner)
-        (and_or_turn inner) moves_and_or_turn (λ a all. all) (joined_so [] p.1) (All-nil (PartEnds k deep)))
+        (λ p ends. moves_then (moves_many and_or_so_far_to AndOrEnd AndOrEnd (and_or_turn inner)
+        (and_or_turn inner) moves_and_or_turn (λ a all. all) (and_or_so_far [] p.1) (All-nil (PartEnds k deep)))
         (λ a all. moves_give (ap (λ ps. (and_or (pipeline_to k deep p.0) ps, a.next)) (parts_row k deep a.parts))
         (and_or_ends k deep p.0 a.parts ends all)))
 

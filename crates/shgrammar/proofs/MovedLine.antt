@@ -14,7 +14,7 @@ use Rattle.shgrammar.specs.Sights.{given, State, standing}
 use Rattle.shgrammar.specs.Form.{Form, Read, push, both, does}
 use Rattle.shgrammar.specs.Words.{Inner}
 use Rattle.shgrammar.specs.Commands.{is_empty, ASeparator, is_background, past_separator, Entered, an_entry}
-use Rattle.shgrammar.specs.Lists.{Listed, ListSo, list_so, none_listed, is_blank_next, with_command, with_remark, one_entry, entry_turn, remark_by, a_remark, on_line}
+use Rattle.shgrammar.specs.Lists.{Listed, ListSoFar, list_so_far, none_listed, is_blank_next, with_command, with_remark, one_entry, entry_turn, remark_by, a_remark, on_line}
 use Rattle.shgrammar.specs.Levels.{most_open, level}
 use Rattle.shgrammar.specs.Lines.{end_of_line, an_open_line, a_line}
 use Rattle.shgrammar.specs.Scripts.{line_told, the_line}
@@ -137,46 +137,46 @@ module _ (z : Place) (inner : Inner) (fits : Fits z inner) where
       parted = option_map (offset_to k) l.parted;
     }
 
-    abbrev list_as : ListSo → ListSo
-    list_as l = list_so (listed_as l.list) l.next
+    abbrev list_as : ListSoFar → ListSoFar
+    list_as l = list_so_far (listed_as l.list) l.next
 
     -- all entries stand on this line
-    abbrev OneLine : ListSo → Type 0
+    abbrev OneLine : ListSoFar → Type 0
     OneLine l = l.list.begun ≡ not (is_empty l.list.entries)
 
     more_begun : (xs : Row AnEntry) (x : AnEntry) → true ≡ not (is_empty (xs ++ x ∷ []))
     more_begun xs x = sym (ap not (pushed_some xs x))
 
-    one_entry_as : (l : ListSo) → OneLine l →
+    one_entry_as : (l : ListSoFar) → OneLine l →
         Moves z (step list_as) (of_step OneLine) (one_entry inner l) (one_entry inner (list_as l))
     unfolding one_entry
     one_entry_as l begins =
         moves_then (entry_as (is_blank_next l.list) (pale && not l.list.begun) l.next) (λ e is. push_on
         (moves_if (is_some e.parted) (is_some (option_map (offset_to k) e.parted))
         (is_some_map (offset_to k) e.parted) _ _
-        (ap (λ es. list_so (with_command (listed_as l.list) es (option_map (offset_to k) e.parted)) e.next)
+        (ap (λ es. list_so_far (with_command (listed_as l.list) es (option_map (offset_to k) e.parted)) e.next)
         (row_pushed k deep pale l.list.blank l.list.begun l.list.entries e.entry begins is))
         (more_begun l.list.entries e.entry)))
 
-    entry_turn_as : (l : ListSo) → OneLine l →
+    entry_turn_as : (l : ListSoFar) → OneLine l →
         Moves z (step list_as) (of_step OneLine) (entry_turn inner l) (entry_turn inner (list_as l))
     unfolding entry_turn
     entry_turn_as l begins = moves_pick _ (one_entry_as l begins) (moves_give refl begins)
 
-    remark_as : (l : ListSo) (c : Option Span) (n : Next) → OneLine l →
+    remark_as : (l : ListSoFar) (c : Option Span) (n : Next) → OneLine l →
         Moves z list_as OneLine (remark_by l (c, n)) (remark_by (list_as l) (option_map (span_to k) c, n))
     remark_as l (Some c) n begins =
         let e : AnEntry = entry (remark c) false (is_blank_next l.list) None in
-        push_on (moves_give (ap (λ es. list_so (with_remark (listed_as l.list) es) n)
+        push_on (moves_give (ap (λ es. list_so_far (with_remark (listed_as l.list) es) n)
         (row_pushed k deep pale l.list.blank l.list.begun l.list.entries e begins refl))
         (more_begun l.list.entries e))
     remark_as l None n begins = moves_give refl begins
 
-    a_remark_as : (l : ListSo) → OneLine l → Moves z list_as OneLine (a_remark l) (a_remark (list_as l))
+    a_remark_as : (l : ListSoFar) → OneLine l → Moves z list_as OneLine (a_remark l) (a_remark (list_as l))
     unfolding a_remark
     a_remark_as l begins = moves_then (moves_comment z l.next) (λ x so. remark_as l x.0 x.1 begins)
 
-    on_line_as : (l : ListSo) → OneLine l → Moves z list_as OneLine (on_line inner l) (on_line inner (list_as l))
+    on_line_as : (l : ListSoFar) → OneLine l → Moves z list_as OneLine (on_line inner l) (on_line inner (list_as l))
     unfolding on_line
     on_line_as l begins = moves_then
         (moves_many list_as OneLine OneLine (entry_turn inner) (entry_turn inner) entry_turn_as (λ m so. so) l begins)
@@ -189,7 +189,7 @@ module _ (z : Place) (inner : Inner) (fits : Fits z inner) where
         Moves z (first {Y = Bool} row_as) Any (an_open_line inner blank) (an_open_line inner pale)
     unfolding an_open_line
     open_line_as blank =
-        moves_then (moves_next z _) (λ n so. moves_then (on_line_as (list_so (none_listed blank) n) refl)
+        moves_then (moves_next z _) (λ n so. moves_then (on_line_as (list_so_far (none_listed blank) n) refl)
         (λ l all. moves_then (moves_end l.next) (λ newline so2. moves_give refl tt)))
 
     pub line_as : (blank : Bool) → Moves z (first {Y = Bool} row_as) Any (a_line inner blank) (a_line inner pale)

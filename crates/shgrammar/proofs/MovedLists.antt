@@ -17,16 +17,16 @@ use Rattle.shgrammar.specs.declared.token.Separator.{Separator}
 use Rattle.shgrammar.specs.declared.token.Separator.TheVariants.{Semicolon, Ampersand}
 use Rattle.shgrammar.specs.Form.{Spelled, many}
 use Rattle.shgrammar.specs.Words.{Inner}
-use Rattle.shgrammar.specs.Commands.{opener_of, Items, so_many, join_so, a_join_of, ASeparator, is_background, past_separator, Entered, an_entry, falls_through}
-use Rattle.shgrammar.specs.Lists.{Listed, ListSo, list_so, none_listed, is_blank_next, next_line, one_entry, entry_turn, remark_by, a_remark, on_line, list_turn, a_list}
-use Rattle.shgrammar.specs.Compounds.{is_open_paren, is_close_paren, reserved_or_paren, closing, Closed, closed, a_branch, Branched, branched, elif_turn, an_else, an_if, a_loop, a_group, a_for_name, a_linebreak, a_sequential_sep, Headed, headed, word_turn, for_words, a_for_head, a_for, a_form, a_compound, a_function, a_case_word, Patterned, patterned, a_pattern, one_pattern, pattern_turn, a_pattern_list, an_open_bracket, a_body, body_end, ItemEnd, item_end, an_ender, an_item_end, CasesSo, cases_so, one_case, case_turn, a_case_head, a_case}
+use Rattle.shgrammar.specs.Commands.{opener_of, ItemsSoFar, items_so_far, join_so_far, a_join_of, ASeparator, is_background, past_separator, Entered, an_entry, falls_through}
+use Rattle.shgrammar.specs.Lists.{Listed, ListSoFar, list_so_far, none_listed, is_blank_next, next_line, one_entry, entry_turn, remark_by, a_remark, on_line, list_turn, a_list}
+use Rattle.shgrammar.specs.Compounds.{is_open_paren, is_close_paren, reserved_or_paren, closing, Closed, closed, a_branch, BranchesSoFar, branches_so_far, elif_turn, an_else, an_if, a_loop, a_group, a_for_name, a_linebreak, a_sequential_sep, Headed, headed, word_turn, for_words, a_for_head, a_for, a_form, a_compound, a_function, a_case_word, PatternsSoFar, patterns_so_far, a_pattern, one_pattern, pattern_turn, a_pattern_list, an_open_bracket, a_body, body_end, ItemEnd, item_end, an_ender, an_item_end, CasesSoFar, cases_so_far, one_case, case_turn, a_case_head, a_case}
 use Rattle.shgrammar.specs.Substitutions.{substitution_list, one_substitution}
 use Rattle.shast.specs.Moved.{carried_patterns}
 use Rattle.shgrammar.proofs.Moved.{Place, Any, same, first, of_first, step, of_step, Moves, moves_give, moves_stop, moves_so, moves_then, moves_see, moves_here, moves_on, moves_pushed, moves_push, moves_pick, moves_level, moves_ending, moves_many, moves_token, moves_move}
 use Rattle.shgrammar.proofs.MovedBodies.{filled_moved}
 use Rattle.shgrammar.proofs.MovedTrees.{is_empty_map, span_to, body_to, offset_to, word_to, subst_to, command_to, and_or_to, entry_to, list_to, branch_to, else_to, for_words_to, case_to, form_to, items_row, entries_row, branches_row, cases_row, patterns_row, remarks_to, under_name_to, CommandEnds, compound_ends, under_name_ends, EntryEnds, entries_end}
 use Rattle.shgrammar.proofs.MovedWords.{Fits, moves_next, moves_mark, moves_comment, moves_word, moves_unexpected}
-use Rattle.shgrammar.proofs.MovedCommands.{is_some_map, moves_if, of_any, items_to, SomeItems, moves_line_end, moves_semicolon, moves_nothing_waits, join_so_to, moves_joins, moves_item, moves_compound_by, moves_and_or, parted_to, moves_separator}
+use Rattle.shgrammar.proofs.MovedCommands.{is_some_map, moves_if, of_any, items_to, SomeItems, moves_line_end, moves_semicolon, moves_nothing_waits, join_so_far_to, moves_joins, moves_item, moves_compound_by, moves_and_or, parted_to, moves_separator}
 
 module _ (z : Place) where
   abbrev k : ℕ
@@ -74,16 +74,17 @@ module _ (z : Place) where
     parted = option_map (offset_to k) l.parted;
   }
 
-  abbrev pub list_so_to : ListSo → ListSo
-  list_so_to l = list_so (listed_to l.list) l.next
+  abbrev pub list_so_far_to : ListSoFar → ListSoFar
+  list_so_far_to l = list_so_far (listed_to l.list) l.next
 
   -- where each of the commands ends is moved
-  abbrev pub ListEnds : ListSo → Type 0
+  abbrev pub ListEnds : ListSoFar → Type 0
   ListEnds l = All (EntryEnds k deep) l.list.entries
 
-  next_line_to : (l : Listed) (n : Next) → list_so (next_line (listed_to l)) n ≡ list_so_to (list_so (next_line l) n)
+  next_line_to : (l : Listed) (n : Next) →
+      list_so_far (next_line (listed_to l)) n ≡ list_so_far_to (list_so_far (next_line l) n)
   next_line_to l n =
-      ap (λ e. list_so (record {
+      ap (λ e. list_so_far (record {
         entries = map (entry_to k deep) l.entries;
         blank = not l.begun && not e;
         begun = false;
@@ -105,9 +106,9 @@ module _ (z : Place) where
   closed_to c x = record { what = c x.what; closer = span_to k x.closer; next = x.next }
 
   moves_linebreak : (cs : Row Span) (n : Next) →
-      Moves z (join_so_to z) Any (a_linebreak cs n) (a_linebreak (map (span_to k) cs) n)
+      Moves z (join_so_far_to z) Any (a_linebreak cs n) (a_linebreak (map (span_to k) cs) n)
   unfolding a_linebreak
-  moves_linebreak cs n = moves_joins z (join_so (a_join_of false cs) n)
+  moves_linebreak cs n = moves_joins z (join_so_far (a_join_of false cs) n)
 
   module _ (inner : Inner) (fits : Fits z inner) where
     moves_entry : (blank : Bool) (n : Next) →
@@ -118,8 +119,8 @@ module _ (z : Place) where
         (λ a ends. moves_then (moves_separator z a.1)
         (λ s so. moves_then (moves_comment z s.1) (λ c all. moves_give (entered_is a.0 s.0 blank c.0 c.1) ends)))
 
-    moves_one_entry : (l : ListSo) → ListEnds l →
-        Moves z (step list_so_to) (of_step ListEnds) (one_entry inner l) (one_entry inner (list_so_to l))
+    moves_one_entry : (l : ListSoFar) → ListEnds l →
+        Moves z (step list_so_far_to) (of_step ListEnds) (one_entry inner l) (one_entry inner (list_so_far_to l))
     unfolding one_entry
     moves_one_entry l all =
         moves_then (moves_entry (is_blank_next l.list) l.next) (λ e ends. moves_pushed (entry_to k deep) refl refl
@@ -127,43 +128,46 @@ module _ (z : Place) where
         (is_some_map (offset_to k) e.parted) _ _ refl
         (All-push (EntryEnds k deep) l.list.entries e.entry all ends)))
 
-    moves_entry_turn : (l : ListSo) → ListEnds l →
-        Moves z (step list_so_to) (of_step ListEnds) (entry_turn inner l) (entry_turn inner (list_so_to l))
+    moves_entry_turn : (l : ListSoFar) → ListEnds l →
+        Moves z (step list_so_far_to) (of_step ListEnds) (entry_turn inner l) (entry_turn inner (list_so_far_to l))
     unfolding entry_turn
     moves_entry_turn l all = moves_pick _ (moves_one_entry l all) (moves_give refl all)
 
-    moves_remark_by : (l : ListSo) (c : Option Span) (n : Next) → ListEnds l →
-        Moves z list_so_to ListEnds (remark_by l (c, n)) (remark_by (list_so_to l) (option_map (span_to k) c, n))
+    moves_remark_by : (l : ListSoFar) (c : Option Span) (n : Next) → ListEnds l →
+        Moves z list_so_far_to ListEnds (remark_by l (c, n))
+        (remark_by (list_so_far_to l) (option_map (span_to k) c, n))
     moves_remark_by l (Some c) n all =
         moves_pushed (entry_to k deep) refl refl
         (moves_give refl (All-push (EntryEnds k deep) l.list.entries
         (entry (remark c) false (is_blank_next l.list) None) all tt))
     moves_remark_by l None n all = moves_give refl all
 
-    moves_remark : (l : ListSo) → ListEnds l → Moves z list_so_to ListEnds (a_remark l) (a_remark (list_so_to l))
+    moves_remark : (l : ListSoFar) → ListEnds l →
+        Moves z list_so_far_to ListEnds (a_remark l) (a_remark (list_so_far_to l))
     unfolding a_remark
     moves_remark l all = moves_then (moves_comment z l.next) (λ x so. moves_remark_by l x.0 x.1 all)
 
-    pub moves_on_line : (l : ListSo) → ListEnds l →
-        Moves z list_so_to ListEnds (on_line inner l) (on_line inner (list_so_to l))
+    pub moves_on_line : (l : ListSoFar) → ListEnds l →
+        Moves z list_so_far_to ListEnds (on_line inner l) (on_line inner (list_so_far_to l))
     unfolding on_line
     moves_on_line l all = moves_then
-        (moves_many list_so_to ListEnds ListEnds (entry_turn inner) (entry_turn inner) moves_entry_turn
+        (moves_many list_so_far_to ListEnds ListEnds (entry_turn inner) (entry_turn inner) moves_entry_turn
         (λ m so. so) l all) (λ m all2. moves_remark m all2)
 
     -- ---- lists
 
-    moves_list_turn : (l : ListSo) → ListEnds l →
-        Moves z (step list_so_to) (of_step ListEnds) (list_turn inner l) (list_turn inner (list_so_to l))
+    moves_list_turn : (l : ListSoFar) → ListEnds l →
+        Moves z (step list_so_far_to) (of_step ListEnds) (list_turn inner l) (list_turn inner (list_so_far_to l))
     unfolding list_turn
     moves_list_turn l all = moves_then (moves_on_line l all)
         (λ m all2. moves_then (moves_line_end z m.next)
         (λ x so. moves_if x.0 x.0 refl _ _ (next_line_to m.list x.1) all2))
 
-    moves_lines : (n : Next) → Moves z list_so_to ListEnds (many (list_turn inner) (list_so (none_listed false) n))
-        (many (list_turn inner) (list_so (none_listed false) n))
-    moves_lines n = moves_many list_so_to ListEnds ListEnds (list_turn inner) (list_turn inner) moves_list_turn
-        (λ m so. so) (list_so (none_listed false) n) (All-nil (EntryEnds k deep))
+    moves_lines : (n : Next) → Moves z list_so_far_to ListEnds
+        (many (list_turn inner) (list_so_far (none_listed false) n))
+        (many (list_turn inner) (list_so_far (none_listed false) n))
+    moves_lines n = moves_many list_so_far_to ListEnds ListEnds (list_turn inner) (list_turn inner) moves_list_turn
+        (λ m so. so) (list_so_far (none_listed false) n) (All-nil (EntryEnds k deep))
 
     moves_list : (n : Next) → Moves z (first {Y = Next} (list_to k deep)) Any (a_list inner n) (a_list inner n)
     unfolding a_list
@@ -190,11 +194,11 @@ module _ (z : Place) where
         (λ c so. moves_then (moves_closing closings.Then c.1)
         (λ t so2. moves_then (moves_list t.1) (λ b so3. moves_give refl tt)))
 
-    abbrev branched_to : Branched → Branched
-    branched_to b = branched (map (branch_to k deep) b.branches) b.next
+    abbrev branches_so_far_to : BranchesSoFar → BranchesSoFar
+    branches_so_far_to b = branches_so_far (map (branch_to k deep) b.branches) b.next
 
-    moves_elif : (b : Branched) →
-        Moves z (step branched_to) (of_step Any) (elif_turn inner b) (elif_turn inner (branched_to b))
+    moves_elif : (b : BranchesSoFar) →
+        Moves z (step branches_so_far_to) (of_step Any) (elif_turn inner b) (elif_turn inner (branches_so_far_to b))
     unfolding elif_turn
     moves_elif b = moves_pick _ (moves_then (moves_reserved_or_paren _ false _)
         (λ e so. moves_then (moves_branch e.1)
@@ -209,8 +213,8 @@ module _ (z : Place) where
     unfolding an_if
     moves_an_if n =
         moves_then (moves_branch n) (λ f so. moves_then
-        (moves_many branched_to Any Any (elif_turn inner) (elif_turn inner) (λ b all. moves_elif b) (λ b all. tt)
-        (branched [] f.1) tt)
+        (moves_many branches_so_far_to Any Any (elif_turn inner) (elif_turn inner) (λ b all. moves_elif b) (λ b all. tt)
+        (branches_so_far [] f.1) tt)
         (λ b so2. moves_then (moves_else b.next) (λ e so3. moves_then (moves_closing closings.Fi e.1)
         (λ c so4. moves_give (ap (λ bs. closed (if_then (branch_to k deep f.0) bs (else_to k deep e.0))
         (span_to k c.0, c.1)) (branches_row k deep b.branches)) tt))))
@@ -234,7 +238,7 @@ module _ (z : Place) where
         (moves_unexpected z inner fits n)
 
     moves_sep : (cs : Row Span) (n : Next) →
-        Moves z (join_so_to z) Any (a_sequential_sep inner cs n) (a_sequential_sep inner (map (span_to k) cs) n)
+        Moves z (join_so_far_to z) Any (a_sequential_sep inner cs n) (a_sequential_sep inner (map (span_to k) cs) n)
     unfolding a_sequential_sep
     moves_sep cs n = moves_then (moves_semicolon z n)
         (λ s so. moves_then (moves_linebreak cs s.1)
@@ -243,7 +247,7 @@ module _ (z : Place) where
     abbrev headed_to : Headed → Headed
     headed_to h = record { words = for_words_to k deep h.words; comments = map (span_to k) h.comments; next = h.next }
 
-    moves_word_turn : (i : Items) →
+    moves_word_turn : (i : ItemsSoFar) →
         Moves z (step (items_to z)) (of_step Any) (word_turn inner i) (word_turn inner (items_to z i))
     unfolding word_turn
     moves_word_turn i = moves_pick _ (moves_so (of_any (SomeItems z)) (moves_item z inner fits i Suffix))
@@ -255,9 +259,9 @@ module _ (z : Place) where
     moves_for_words cs =
         moves_then (moves_reserved_or_paren _ false _)
         (λ i so. moves_then (moves_many (items_to z) Any Any (word_turn inner) (word_turn inner)
-        (λ j all. moves_word_turn j) (λ j all. tt) (so_many [] Suffix i.1) tt)
+        (λ j all. moves_word_turn j) (λ j all. tt) (items_so_far [] Suffix i.1) tt)
         (λ ws so2. moves_then (moves_sep cs ws.next)
-        (λ l so3. moves_give (ap (λ is. headed (in_words is) (join_so_to z l)) (items_row k deep ws.items)) tt)))
+        (λ l so3. moves_give (ap (λ is. headed (in_words is) (join_so_far_to z l)) (items_row k deep ws.items)) tt)))
 
     moves_for_head : (n : Next) → Moves z headed_to Any (a_for_head inner n) (a_for_head inner n)
     unfolding a_for_head
@@ -284,33 +288,35 @@ module _ (z : Place) where
         (moves_then (moves_word z inner fits) (λ w so. moves_then (moves_next z _) (λ m all. moves_give refl tt)))
         (moves_unexpected z inner fits n)
 
-    abbrev patterned_to : Patterned → Patterned
-    patterned_to p = patterned (map (word_to k deep) p.patterns) p.next
+    abbrev patterns_so_far_to : PatternsSoFar → PatternsSoFar
+    patterns_so_far_to p = patterns_so_far (map (word_to k deep) p.patterns) p.next
 
     moves_pattern : (ws : Row AWord) →
-        Moves z patterned_to Any (a_pattern inner ws) (a_pattern inner (map (word_to k deep) ws))
+        Moves z patterns_so_far_to Any (a_pattern inner ws) (a_pattern inner (map (word_to k deep) ws))
     unfolding a_pattern
     moves_pattern ws = moves_then (moves_word z inner fits)
         (λ w so. moves_pushed (word_to k deep) refl refl (moves_then (moves_next z _) (λ n all. moves_give refl tt)))
 
     moves_one_pattern : (ws : Row AWord) →
-        Moves z (step patterned_to) (of_step Any) (one_pattern inner ws) (one_pattern inner (map (word_to k deep) ws))
+        Moves z (step patterns_so_far_to) (of_step Any) (one_pattern inner ws)
+        (one_pattern inner (map (word_to k deep) ws))
     unfolding one_pattern
     moves_one_pattern ws =
         moves_then (moves_mark z) (λ x so. moves_then (moves_next z _)
         (λ n all. moves_pick _ (moves_then (moves_pattern ws) (λ p so2. moves_give refl tt))
         (moves_unexpected z inner fits n)))
 
-    moves_pattern_turn : (p : Patterned) →
-        Moves z (step patterned_to) (of_step Any) (pattern_turn inner p) (pattern_turn inner (patterned_to p))
+    moves_pattern_turn : (p : PatternsSoFar) →
+        Moves z (step patterns_so_far_to) (of_step Any) (pattern_turn inner p)
+        (pattern_turn inner (patterns_so_far_to p))
     unfolding pattern_turn
     moves_pattern_turn p = moves_pick _ (moves_one_pattern p.patterns) (moves_give refl tt)
 
-    moves_patterns : (n : Next) → Moves z patterned_to Any (a_pattern_list inner n) (a_pattern_list inner n)
+    moves_patterns : (n : Next) → Moves z patterns_so_far_to Any (a_pattern_list inner n) (a_pattern_list inner n)
     unfolding a_pattern_list
     moves_patterns n =
         moves_pick _ (moves_then (moves_pattern [])
-        (λ p so. moves_many patterned_to Any Any (pattern_turn inner) (pattern_turn inner)
+        (λ p so. moves_many patterns_so_far_to Any Any (pattern_turn inner) (pattern_turn inner)
         (λ q all. moves_pattern_turn q) (λ q all. tt) p tt))
         (moves_unexpected z inner fits n)
 
@@ -318,7 +324,7 @@ module _ (z : Place) where
     unfolding an_open_bracket
     moves_bracket n = moves_pick _ (moves_on (moves_next z _)) (moves_give refl tt)
 
-    moves_body : (n : Next) → Moves z list_so_to ListEnds (a_body inner n) (a_body inner n)
+    moves_body : (n : Next) → Moves z list_so_far_to ListEnds (a_body inner n) (a_body inner n)
     unfolding a_body
     moves_body n = moves_lines n
 
@@ -340,7 +346,7 @@ module _ (z : Place) where
     end_or None p q is = is
     end_or (Some e) p q is = refl
 
-    moves_item_end_at : (p : ℕ) (b : ListSo) → ListEnds b →
+    moves_item_end_at : (p : ℕ) (b : ListSoFar) → ListEnds b →
         Moves z item_end_to Any (an_item_end inner (body_end p b.list) b.next)
         (an_item_end inner (body_end (k + p) (listed_to b.list)) b.next)
     moves_item_end_at p b all =
@@ -349,11 +355,11 @@ module _ (z : Place) where
         (sym (end_or b.list.parted (commands_end p (entries_of b.list.entries)) _
         (entries_end k deep p b.list.entries all))) (moves_item_end (body_end p b.list) b.next)
 
-    abbrev cases_so_to : CasesSo → CasesSo
-    cases_so_to c = cases_so (map (case_to k deep) c.items) (map (span_to k) c.comments) c.next
+    abbrev cases_so_far_to : CasesSoFar → CasesSoFar
+    cases_so_far_to c = cases_so_far (map (case_to k deep) c.items) (map (span_to k) c.comments) c.next
 
-    moves_one_case : (c : CasesSo) →
-        Moves z (step cases_so_to) (of_step Any) (one_case inner c) (one_case inner (cases_so_to c))
+    moves_one_case : (c : CasesSoFar) →
+        Moves z (step cases_so_far_to) (of_step Any) (one_case inner c) (one_case inner (cases_so_far_to c))
     unfolding one_case
     moves_one_case c =
         moves_here (λ p. moves_then (moves_bracket c.next)
@@ -371,8 +377,8 @@ module _ (z : Place) where
         (entries_row k deep b.list.entries))
         (moves_give refl tt)))))))
 
-    moves_case_turn : (c : CasesSo) →
-        Moves z (step cases_so_to) (of_step Any) (case_turn inner c) (case_turn inner (cases_so_to c))
+    moves_case_turn : (c : CasesSoFar) →
+        Moves z (step cases_so_far_to) (of_step Any) (case_turn inner c) (case_turn inner (cases_so_far_to c))
     unfolding case_turn
     moves_case_turn c = moves_pick _ (moves_give refl tt) (moves_one_case c)
 
@@ -390,8 +396,8 @@ module _ (z : Place) where
     unfolding a_case
     moves_case n =
         moves_then (moves_case_head n)
-        (λ h so. moves_then (moves_many cases_so_to Any Any (case_turn inner) (case_turn inner)
-        (λ c all. moves_case_turn c) (λ c all. tt) (cases_so [] h.1 h.2) tt)
+        (λ h so. moves_then (moves_many cases_so_far_to Any Any (case_turn inner) (case_turn inner)
+        (λ c all. moves_case_turn c) (λ c all. tt) (cases_so_far [] h.1 h.2) tt)
         (λ c so2. moves_then (moves_closing closings.Esac c.next)
         (λ e so3. moves_give (ap (λ cs. closed (case_in (word_to k deep h.0) cs (map (span_to k) c.comments))
         (span_to k e.0, e.1)) (cases_row k deep c.items)) tt)))

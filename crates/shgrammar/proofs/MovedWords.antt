@@ -14,7 +14,7 @@ use Rattle.shgrammar.specs.declared.token.Opener.{Opener}
 use Rattle.shgrammar.specs.declared.token.Position.{Position}
 use Rattle.shgrammar.specs.Sights.{Move}
 use Rattle.shgrammar.specs.Form.{Telling, move, token, step_if}
-use Rattle.shgrammar.specs.Words.{single, escaped_turn, backquoted_text, Inner, WordSoFar, having, opened, piece_row, a_piece, contents, a_word, dollar_single}
+use Rattle.shgrammar.specs.Words.{single, escaped_turn, backquoted_text, Inner, WordSoFar, word_so_far, opened, piece_row, a_piece, contents, a_word, dollar_single}
 use Rattle.shgrammar.specs.Tokens.{is_end}
 use Rattle.shgrammar.specs.Commands.{next_token, comment_by, a_comment, wrong_with, what_is_wrong, unexpected}
 use Rattle.shgrammar.proofs.Moved.{Place, Any, same, each, first, of_first, step, of_step, Moves, moves_give, moves_move, moves_stop, moves_then, moves_see, moves_here, moves_byte, moves_see_comment, moves_see_waiting, moves_on, moves_pick, moves_when, moves_token, moves_many}
@@ -98,7 +98,7 @@ module _ (z : Place) where
         (inner.function (span_to k name))
 
   abbrev held_to : WordSoFar → WordSoFar
-  held_to h = having h.nested (substs_to k deep h.substs)
+  held_to h = word_so_far h.nested (substs_to k deep h.substs)
 
   module _ (inner : Inner) (fits : Fits inner) where
     moves_opened : (mode : Mode) (b : ℕ) (h : WordSoFar) →
@@ -137,7 +137,7 @@ module _ (z : Place) where
     unfolding contents
     moves_contents mode b ss = moves_then
         (moves_many held_to Any Any (a_piece inner mode b) (a_piece inner mode (k + b)) (λ h so. moves_piece mode b h)
-        (λ h so. tt) (having 0 ss) tt) (λ h so. moves_give refl tt)
+        (λ h so. tt) (word_so_far 0 ss) tt) (λ h so. moves_give refl tt)
 
     pub moves_word : Moves z (word_to k deep) Any (a_word inner) (a_word inner)
     unfolding a_word

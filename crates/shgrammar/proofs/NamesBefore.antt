@@ -20,7 +20,7 @@ use Rattle.shgrammar.specs.Plain.{is_plain}
 use Rattle.shgrammar.specs.Tokens.{Spelling, is_word_at, first_of_words, reserved_words, reserved_at, begins_assignment, is_name_at, is_number, first_word, token_of, token_at}
 use Rattle.shgrammar.specs.Sights.{Given, given, standing}
 use Rattle.shgrammar.specs.Form.{Read, again, done, many, does}
-use Rattle.shgrammar.specs.Words.{WordSoFar, having, a_piece, contents, a_word}
+use Rattle.shgrammar.specs.Words.{WordSoFar, word_so_far, a_piece, contents, a_word}
 use Rattle.shgrammar.specs.Levels.{level, ReadsWord}
 use Rattle.shast.specs.Tree.{AWord, word, no_subst}
 use Rattle.shgrammar.proofs.Stretches.{past_more, past_none, stands_in_low, raw_stays}
@@ -97,7 +97,7 @@ name_is_word : (edition : Edition) → (room : ℕ) (T : List ℕ) (o p : ℕ) �
     ≡ Ok (word (span o p (past is_name T p)) no_subst, standing (past is_name T p))
 unfolding a_word contents
 name_is_word edition room T o p e =
-    rw (names_on edition room T o (o + p) (suc (length T - p)) p (having 0 []) (omega arith) e) refl
+    rw (names_on edition room T o (o + p) (suc (length T - p)) p (word_so_far 0 []) (omega arith) e) refl
 
 -- where what was read ends
 abbrev place_in : Read AWord → ℕ

@@ -19,17 +19,17 @@ use Rattle.shast.specs.Tree.{APipelinePart, AnAndOrPart, ABranch, AForm, Entries
 use Rattle.shast.specs.Normal.{is_blank_entry, is_broken, is_command, holds_command, first_not_blank, first_not_broken, is_whole, are_normal, is_normal_entry, are_normal_items, is_normal_item, is_normal_word, are_normal_substs, is_normal_subst, is_normal_join, broken_by, is_normal_command, is_normal_pipeline, are_normal_pipes, is_normal_and_or, are_normal_and_ors, is_normal_branch, are_normal_branches, is_normal_else, are_normal_words, is_normal_form, is_normal, are_normal_patterns, is_normal_case, are_normal_cases}
 use Rattle.shgrammar.specs.Sights.{Given, given, State, standing}
 use Rattle.shgrammar.specs.Form.{Read, Form, step_if}
-use Rattle.shgrammar.specs.Words.{Inner, WordSoFar, having, opened, piece_row, a_piece, contents, a_word}
-use Rattle.shgrammar.specs.Commands.{is_empty, is_pipe, begins_simple, begins_word, begins_redirect, begins_pipeline, opener_of, compound_by, and_or_operator_of, breaks, Items, so_many, after_word, a_target, one_redirect, after_redirect, redirect_turn, with_redirect_list, as_item, an_item, item_by, item_turn, a_simple, with_comment, JoinSo, join_turn, a_join, a_command, Piped, piped, one_command, pipe_turn, a_pipeline, Joined, joined_so, one_pipeline, joined_by, and_or_turn, an_and_or, an_entry, a_word_command, is_word, is_paren}
-use Rattle.shgrammar.specs.Lists.{Listed, ListSo, list_so, none_listed, is_blank_next, with_command, with_remark, next_line, one_entry, entry_turn, remark_by, a_remark, on_line, list_turn, a_list}
-use Rattle.shgrammar.specs.Compounds.{Branched, branched, Closed, is_closing, a_branch, elif_turn, an_else, an_if, a_loop, a_group, a_for_name, word_turn, for_words, a_for_head, after_remarks, a_for, a_form, a_compound, a_function, under_name, a_case_word, begins_pattern, Patterned, a_pattern, one_pattern, pattern_turn, a_pattern_list, a_body, CasesSo, cases_so, one_case, case_turn, a_case_head, a_case}
+use Rattle.shgrammar.specs.Words.{Inner, WordSoFar, word_so_far, opened, piece_row, a_piece, contents, a_word}
+use Rattle.shgrammar.specs.Commands.{is_empty, is_pipe, begins_simple, begins_word, begins_redirect, begins_pipeline, opener_of, compound_by, and_or_operator_of, breaks, ItemsSoFar, items_so_far, after_word, a_target, one_redirect, after_redirect, redirect_turn, with_redirect_list, as_item, an_item, item_by, item_turn, a_simple, with_comment, JoinSoFar, join_turn, a_join, a_command, PipesSoFar, pipes_so_far, one_command, pipe_turn, a_pipeline, AndOrSoFar, and_or_so_far, one_pipeline, joined_by, and_or_turn, an_and_or, an_entry, a_word_command, is_word, is_paren}
+use Rattle.shgrammar.specs.Lists.{Listed, ListSoFar, list_so_far, none_listed, is_blank_next, with_command, with_remark, next_line, one_entry, entry_turn, remark_by, a_remark, on_line, list_turn, a_list}
+use Rattle.shgrammar.specs.Compounds.{BranchesSoFar, branches_so_far, Closed, is_closing, a_branch, elif_turn, an_else, an_if, a_loop, a_group, a_for_name, word_turn, for_words, a_for_head, after_remarks, a_for, a_form, a_compound, a_function, under_name, a_case_word, begins_pattern, PatternsSoFar, a_pattern, one_pattern, pattern_turn, a_pattern_list, a_body, CasesSoFar, cases_so_far, one_case, case_turn, a_case_head, a_case}
 use Rattle.shgrammar.specs.Substitutions.{substitution_list, a_substitution, one_substitution}
 use Rattle.shgrammar.specs.Levels.{most_open, level}
 use Rattle.shgrammar.specs.Lines.{an_open_line, a_line}
 use Rattle.shgrammar.specs.HereDocuments.{own_level}
 use Rattle.shast.proofs.Going.{row_filled}
 use Rattle.shast.proofs.OpenSame.{first_filled, all_filled}
-use Rattle.shgrammar.specs.Scripts.{AScript, SoFar, is_blank_line, line_from, script_by, script_below, script_on, script_at, nothing_yet}
+use Rattle.shgrammar.specs.Scripts.{AScript, LinesSoFar, is_blank_line, line_from, script_by, script_below, script_on, script_at, nothing_yet}
 use Rattle.shgrammar.proofs.Holds.{tells_with_bytes, tells_level, Holds, Tells, Turned, tells_then, tells_token, tells_many, tells_ending, tells_inside, after, gives, picked_by, pushed_on, stops}
 use Rattle.shast.specs.Nodes.{word_span}
 use Rattle.shgrammar.specs.declared.edition.Edition.{Edition}
@@ -276,7 +276,8 @@ module _ (g : Given) where
         → N (contents inner mode b ss) (λ zs t. are_normal_substs (substs_of zs) ≡ true) s
     unfolding contents
     normal_contents mode b ss s so =
-        tells_then Whole g (tells_many Whole g (a_piece inner mode b) Substs (normal_piece mode b) (having 0 ss) s so)
+        tells_then Whole g (tells_many Whole g (a_piece inner mode b) Substs (normal_piece mode b)
+        (word_so_far 0 ss) s so)
         (λ h t good. gives good)
 
     normal_word : (s : State) → N (a_word inner) (λ w t. is_normal_word w ≡ true) s
@@ -290,7 +291,7 @@ module _ (g : Given) where
 
     -- Each row of a command: where what it has so far is in normal form, so is what it gives.
 
-    abbrev ItemsSo : Items → State → Type 0
+    abbrev ItemsSo : ItemsSoFar → State → Type 0
     ItemsSo i t = NormalRow i.items
 
     normal_content : (position : Position) (broken : Bool) (w : AWord) → is_normal_word w ≡ true →
@@ -299,7 +300,7 @@ module _ (g : Given) where
     normal_content Prefix broken w good = good
     normal_content Suffix broken w good = good
 
-    normal_item : (i : Items) (position : Position) (s : State) → NormalRow i.items →
+    normal_item : (i : ItemsSoFar) (position : Position) (s : State) → NormalRow i.items →
         N (an_item inner i position) (Turned Whole g ItemsSo) s
     unfolding an_item
     normal_item i position s so =
@@ -314,17 +315,18 @@ module _ (g : Given) where
         (λ e. tells_with_bytes Whole g (normal_word t) (λ a u so. so)) (stops inner n))
 
     -- whatever holds of the items with one more in normal form
-    normal_redirect : (P : Items → State → Type 0) (broken : Bool) (position : Position) (is : Row AnItem) (n : Next)
+    normal_redirect : (P : ItemsSoFar → State → Type 0) (broken : Bool) (position : Position) (is : Row AnItem)
+        (n : Next)
         (s : State)
         → ((i : AnItem) (m : Next) (t : State) → is_normal_item i ≡ true → is_broken i ≡ broken →
-        P (so_many (is ++ i ∷ []) position m) t) → N (one_redirect inner broken position is n) (Turned Whole g P) s
+        P (items_so_far (is ++ i ∷ []) position m) t) → N (one_redirect inner broken position is n) (Turned Whole g P) s
     unfolding one_redirect
     normal_redirect P broken position is n s more =
         after (λ p t. after (λ d u. after
         (λ o v. tells_then Whole g (normal_target v) (λ w x good. after (λ h a. pushed_on (after (λ m y.
         gives (more (item broken (redirect d.0 o.0 o.1 w.0 h)) m y good refl))))))))
 
-    normal_item_by : (i : Items) (position : Option Position) (s : State) → NormalRow i.items →
+    normal_item_by : (i : ItemsSoFar) (position : Option Position) (s : State) → NormalRow i.items →
         N (item_by inner i position) (Turned Whole g ItemsSo) s
     normal_item_by i (Some position) s so = normal_item i position s so
     normal_item_by i None s so =
@@ -332,11 +334,12 @@ module _ (g : Given) where
         (λ e. normal_redirect ItemsSo (breaks i) (after_redirect i.position) i.items i.next s
         (λ x m t good is. row_more i.items x i.next.broken so good is)) (gives so)
 
-    normal_item_turn : (i : Items) (s : State) → NormalRow i.items → N (item_turn inner i) (Turned Whole g ItemsSo) s
+    normal_item_turn : (i : ItemsSoFar) (s : State) → NormalRow i.items →
+        N (item_turn inner i) (Turned Whole g ItemsSo) s
     unfolding item_turn
     normal_item_turn i s so = normal_item_by i (after_word i.next.token) s so
 
-    normal_simple : (i : Items) (s : State) → NormalRow i.items →
+    normal_simple : (i : ItemsSoFar) (s : State) → NormalRow i.items →
         N (a_simple inner i) (λ c t. is_normal_command c.0 ≡ true) s
     unfolding a_simple
     normal_simple i s so = tells_then Whole g (tells_many Whole g (item_turn inner) ItemsSo normal_item_turn i s so)
@@ -347,15 +350,15 @@ module _ (g : Given) where
     normal_with cs (Some c) broken s so = record { told = all_broken (cs ++ c ∷ []) _ (or-true broken) }
     normal_with cs None broken s so = gives (still_broken cs broken false so)
 
-    abbrev JoinHolds : JoinSo → State → Type 0
+    abbrev JoinHolds : JoinSoFar → State → Type 0
     JoinHolds j t = is_normal_join j.join ≡ true
 
-    join_holds : (p : Bool) (j : JoinSo) (t : State) → is_normal_join j.join ≡ true →
+    join_holds : (p : Bool) (j : JoinSoFar) (t : State) → is_normal_join j.join ≡ true →
         Turned Whole g JoinHolds (step_if p j) t
     join_holds true j t so = so
     join_holds false j t so = so
 
-    normal_join_turn : (j : JoinSo) (s : State) → is_normal_join j.join ≡ true →
+    normal_join_turn : (j : JoinSoFar) (s : State) → is_normal_join j.join ≡ true →
         N (join_turn j) (Turned Whole g JoinHolds) s
     unfolding join_turn
     normal_join_turn j s so =
@@ -367,10 +370,10 @@ module _ (g : Given) where
     normal_join broken s = after (λ n t. tells_then Whole g
         (tells_many Whole g join_turn JoinHolds normal_join_turn _ t refl) (λ j u good. gives good))
 
-    abbrev RedirectsSo : Items → State → Type 0
+    abbrev RedirectsSo : ItemsSoFar → State → Type 0
     RedirectsSo i t = are_normal_items (items_of i.items) ≡ true
 
-    normal_redirect_turn : (i : Items) (s : State) → RedirectsSo i s →
+    normal_redirect_turn : (i : ItemsSoFar) (s : State) → RedirectsSo i s →
         N (redirect_turn inner i) (Turned Whole g RedirectsSo) s
     unfolding redirect_turn
     normal_redirect_turn i s so =
@@ -389,7 +392,7 @@ module _ (g : Given) where
     unfolding with_redirect_list
     normal_with_redirect_list c s one =
         tells_then Whole g (tells_many Whole g (redirect_turn inner) RedirectsSo normal_redirect_turn
-        (so_many [] Command c.1) s refl)
+        (items_so_far [] Command c.1) s refl)
         (λ r t all. gives (normal_with_redirects c.0 (items_of r.items) one all))
 
     normal_compound_by : (n : Next) (o : Option Opener) (s : State) →
@@ -403,28 +406,28 @@ module _ (g : Given) where
         after (λ good t. tells_then Whole g (normal_word t) (λ w u so. after (λ n v.
         picked_by (is_paren n.token)
         (λ e. picked_by good (λ f. fine.function (word_span w) v) (record { told = tt }))
-        (pushed_on (normal_simple (so_many (item false (argument w) ∷ []) Suffix n) v
+        (pushed_on (normal_simple (items_so_far (item false (argument w) ∷ []) Suffix n) v
         (row_more [] (item false (argument w)) false no_items so refl))))))
 
     normal_command : (n : Next) (s : State) → N (a_command inner n) (λ c t. is_normal_command c.0 ≡ true) s
     unfolding a_command
     normal_command n s =
         picked_by (is_word n.token) (λ e. normal_word_command s)
-        (picked_by (begins_simple n.token) (λ e. normal_simple (so_many [] Command n) s no_items)
+        (picked_by (begins_simple n.token) (λ e. normal_simple (items_so_far [] Command n) s no_items)
         (normal_compound_by n (opener_of n.token) s))
 
-    abbrev PipedHolds : Piped → State → Type 0
-    PipedHolds p t = are_normal_pipes (pipeline_parts_of p.parts) ≡ true
+    abbrev PipesHold : PipesSoFar → State → Type 0
+    PipesHold p t = are_normal_pipes (pipeline_parts_of p.parts) ≡ true
 
-    normal_one_command : (p : Piped) (s : State) → PipedHolds p s →
-        N (one_command inner p) (Turned Whole g PipedHolds) s
+    normal_one_command : (p : PipesSoFar) (s : State) → PipesHold p s →
+        N (one_command inner p) (Turned Whole g PipesHold) s
     unfolding one_command
     normal_one_command p s so =
         after (λ x t. tells_then Whole g (normal_join p.next.broken t)
         (λ j u good. tells_then Whole g (normal_command j.1 u)
         (λ c v fine. pushed_on (gives (pipes_more p.parts _ so good fine)))))
 
-    normal_pipe_turn : (p : Piped) (s : State) → PipedHolds p s → N (pipe_turn inner p) (Turned Whole g PipedHolds) s
+    normal_pipe_turn : (p : PipesSoFar) (s : State) → PipesHold p s → N (pipe_turn inner p) (Turned Whole g PipesHold) s
     unfolding pipe_turn
     normal_pipe_turn p s so = picked_by (is_pipe p.next.token) (λ e. normal_one_command p s so)
         (gives so)
@@ -434,27 +437,27 @@ module _ (g : Given) where
     normal_pipeline n s =
         after (λ b t. tells_then Whole g (normal_command b.1 t)
         (λ c u good. tells_then Whole g
-        (tells_many Whole g (pipe_turn inner) PipedHolds normal_pipe_turn (piped [] c.1) u refl)
+        (tells_many Whole g (pipe_turn inner) PipesHold normal_pipe_turn (pipes_so_far [] c.1) u refl)
         (λ p v all. gives (and_from _ _ good all))))
 
-    abbrev JoinedHolds : Joined → State → Type 0
-    JoinedHolds a t = are_normal_and_ors (and_or_parts_of a.parts) ≡ true
+    abbrev AndOrHolds : AndOrSoFar → State → Type 0
+    AndOrHolds a t = are_normal_and_ors (and_or_parts_of a.parts) ≡ true
 
-    normal_one_pipeline : (a : Joined) (o : AndOrOperator) (s : State) → JoinedHolds a s →
-        N (one_pipeline inner a o) (Turned Whole g JoinedHolds) s
+    normal_one_pipeline : (a : AndOrSoFar) (o : AndOrOperator) (s : State) → AndOrHolds a s →
+        N (one_pipeline inner a o) (Turned Whole g AndOrHolds) s
     unfolding one_pipeline
     normal_one_pipeline a o s so =
         after (λ x u. tells_then Whole g (normal_join a.next.broken u)
         (λ j v good. tells_then Whole g (normal_pipeline j.1 v)
         (λ p w fine. pushed_on (gives (joined_more a.parts _ so good fine)))))
 
-    normal_joined_by : (a : Joined) (o : Option AndOrOperator) (s : State) → JoinedHolds a s →
-        N (joined_by inner a o) (Turned Whole g JoinedHolds) s
+    normal_joined_by : (a : AndOrSoFar) (o : Option AndOrOperator) (s : State) → AndOrHolds a s →
+        N (joined_by inner a o) (Turned Whole g AndOrHolds) s
     normal_joined_by a (Some o) s so = normal_one_pipeline a o s so
     normal_joined_by a None s so = gives so
 
-    normal_and_or_turn : (a : Joined) (s : State) → JoinedHolds a s →
-        N (and_or_turn inner a) (Turned Whole g JoinedHolds) s
+    normal_and_or_turn : (a : AndOrSoFar) (s : State) → AndOrHolds a s →
+        N (and_or_turn inner a) (Turned Whole g AndOrHolds) s
     unfolding and_or_turn
     normal_and_or_turn a s so = normal_joined_by a (and_or_operator_of a.next.token) s so
 
@@ -463,7 +466,7 @@ module _ (g : Given) where
     normal_and_or n s =
         tells_then Whole g (normal_pipeline n s)
         (λ p t good. tells_then Whole g
-        (tells_many Whole g (and_or_turn inner) JoinedHolds normal_and_or_turn (joined_so [] p.1) t refl)
+        (tells_many Whole g (and_or_turn inner) AndOrHolds normal_and_or_turn (and_or_so_far [] p.1) t refl)
         (λ a u all. gives (and_from _ _ good all)))
 
     normal_entry : (blank : Bool) (n : Next) (s : State) →
@@ -478,15 +481,15 @@ module _ (g : Given) where
     -- Each row of a list: where its entries so far are in normal form, so are those with what it adds.
 
     module _ (blank : Bool) where
-      abbrev ListHolds : ListSo → State → Type 0
+      abbrev ListHolds : ListSoFar → State → Type 0
       ListHolds l t = NormalList blank l.list
 
-      step_holds : (p : Bool) (l : ListSo) (t : State) → NormalList blank l.list →
+      step_holds : (p : Bool) (l : ListSoFar) (t : State) → NormalList blank l.list →
           Turned Whole g ListHolds (step_if p l) t
       step_holds true l t so = so
       step_holds false l t so = so
 
-      normal_one_entry : (l : ListSo) (s : State) → NormalList blank l.list →
+      normal_one_entry : (l : ListSoFar) (s : State) → NormalList blank l.list →
           N (one_entry inner l) (Turned Whole g ListHolds) s
       unfolding one_entry
       normal_one_entry l s so =
@@ -494,24 +497,24 @@ module _ (g : Given) where
           (λ e t good. pushed_on (gives
           (step_holds (is_some e.parted) _ t (command_more blank l.list e.entry e.parted so good.0 good.1 good.2))))
 
-      normal_entry_turn : (l : ListSo) (s : State) → NormalList blank l.list →
+      normal_entry_turn : (l : ListSoFar) (s : State) → NormalList blank l.list →
           N (entry_turn inner l) (Turned Whole g ListHolds) s
       unfolding entry_turn
       normal_entry_turn l s so = picked_by (begins_pipeline l.next.token) (λ e. normal_one_entry l s so)
           (gives so)
 
-      normal_remark_by : (l : ListSo) (x : Option Span × Next) (s : State) → NormalList blank l.list →
+      normal_remark_by : (l : ListSoFar) (x : Option Span × Next) (s : State) → NormalList blank l.list →
           N (remark_by l x) ListHolds s
       normal_remark_by l (Some c, n) s so = pushed_on (gives (remark_more blank l.list _ so refl refl))
       normal_remark_by l (None, n) s so = gives so
 
-      normal_on_line : (l : ListSo) (s : State) → NormalList blank l.list → N (on_line inner l) ListHolds s
+      normal_on_line : (l : ListSoFar) (s : State) → NormalList blank l.list → N (on_line inner l) ListHolds s
       unfolding on_line a_remark
       normal_on_line l s so =
           tells_then Whole g (tells_many Whole g (entry_turn inner) ListHolds normal_entry_turn l s so)
           (λ m t good. after (λ x u. normal_remark_by m x u good))
 
-      normal_list_turn : (l : ListSo) (s : State) → NormalList blank l.list →
+      normal_list_turn : (l : ListSoFar) (s : State) → NormalList blank l.list →
           N (list_turn inner l) (Turned Whole g ListHolds) s
       unfolding list_turn
       normal_list_turn l s so = tells_then Whole g (normal_on_line l s so)
@@ -522,7 +525,7 @@ module _ (g : Given) where
           (λ x t. (blank ≡ false → first_not_blank (entries_of x.0) ≡ true) × (are_normal (entries_of x.0) ≡ true)) s
       unfolding an_open_line
       normal_open_line s = after (λ n t. tells_then Whole g
-          (normal_on_line (list_so (none_listed blank) n) t (no_entries blank))
+          (normal_on_line (list_so_far (none_listed blank) n) t (no_entries blank))
           (λ l u so. after (λ newline v. gives (so.first, so.all))))
 
       -- bodies change nothing
@@ -547,7 +550,7 @@ module _ (g : Given) where
     unfolding a_list
     normal_list n s =
         tells_then Whole g (tells_many Whole g (list_turn inner) (ListHolds false) (normal_list_turn false)
-        (list_so (none_listed false) n) s (no_entries false))
+        (list_so_far (none_listed false) n) s (no_entries false))
         (λ l t so. picked_by l.list.commands
         (λ e. gives (and_from _ _ (so.command e) (so.first refl), so.all)) (stops inner l.next))
 
@@ -562,10 +565,11 @@ module _ (g : Given) where
         (λ c t one. after (λ k u. tells_then Whole g (normal_list k.1 u)
         (λ b v two. gives (and_from _ _ (and_from _ _ (and_from _ _ one.0 one.1) two.0) two.1))))
 
-    abbrev BranchesHold : Branched → State → Type 0
+    abbrev BranchesHold : BranchesSoFar → State → Type 0
     BranchesHold b t = are_normal_branches (branches_of b.branches) ≡ true
 
-    normal_elif : (b : Branched) (s : State) → BranchesHold b s → N (elif_turn inner b) (Turned Whole g BranchesHold) s
+    normal_elif : (b : BranchesSoFar) (s : State) → BranchesHold b s →
+        N (elif_turn inner b) (Turned Whole g BranchesHold) s
     unfolding elif_turn
     normal_elif b s so =
         picked_by (is_closing closings.Elif b.next.token)
@@ -589,7 +593,7 @@ module _ (g : Given) where
     normal_if n s =
         tells_then Whole g (normal_branch n s)
         (λ f t one. tells_then Whole g
-        (tells_many Whole g (elif_turn inner) BranchesHold normal_elif (branched [] f.1) t refl)
+        (tells_many Whole g (elif_turn inner) BranchesHold normal_elif (branches_so_far [] f.1) t refl)
         (λ b u all. tells_then Whole g (normal_else b.next u)
         (λ e v other. after (λ c w. gives (and_from _ _ (and_from _ _ one all) other)))))
 
@@ -613,7 +617,8 @@ module _ (g : Given) where
         (λ w v so. picked_by good (λ f. after (λ m z. gives so)) (record { told = tt })))))
         (stops inner n)
 
-    normal_word_turn : (i : Items) (s : State) → NormalRow i.items → N (word_turn inner i) (Turned Whole g ItemsSo) s
+    normal_word_turn : (i : ItemsSoFar) (s : State) → NormalRow i.items →
+        N (word_turn inner i) (Turned Whole g ItemsSo) s
     unfolding word_turn
     normal_word_turn i s so = picked_by (is_word i.next.token) (λ e. normal_item i Suffix s so)
         (gives so)
@@ -622,7 +627,7 @@ module _ (g : Given) where
     unfolding for_words
     normal_for_words cs s =
         after (λ i t. tells_then Whole g
-        (tells_many Whole g (word_turn inner) ItemsSo normal_word_turn (so_many [] Suffix i.1) t no_items)
+        (tells_many Whole g (word_turn inner) ItemsSo normal_word_turn (items_so_far [] Suffix i.1) t no_items)
         (λ ws u good. after (λ l v. gives (and_from _ _ good.first good.all))))
 
     normal_for_head : (n : Next) (s : State) → N (a_for_head inner n) (λ h t. are_normal_words h.words ≡ true) s
@@ -645,7 +650,7 @@ module _ (g : Given) where
     normal_case_word n s = picked_by (begins_word n.token)
         (λ e. tells_then Whole g (normal_word s) (λ w t so. after (λ m u. gives so))) (stops inner n)
 
-    abbrev PatternsHold : Patterned → State → Type 0
+    abbrev PatternsHold : PatternsSoFar → State → Type 0
     PatternsHold p t = are_normal_patterns (patterns_of p.patterns) ≡ true
 
     normal_pattern : (ws : Row AWord) (s : State) → are_normal_patterns (patterns_of ws) ≡ true →
@@ -661,7 +666,7 @@ module _ (g : Given) where
         after (λ x t. after (λ n u. picked_by (begins_word n.token)
         (λ e. tells_then Whole g (normal_pattern ws u all) (λ p v so. gives so)) (stops inner n)))
 
-    normal_pattern_turn : (p : Patterned) (s : State) → PatternsHold p s →
+    normal_pattern_turn : (p : PatternsSoFar) (s : State) → PatternsHold p s →
         N (pattern_turn inner p) (Turned Whole g PatternsHold) s
     unfolding pattern_turn
     normal_pattern_turn p s so = picked_by (is_pipe p.next.token) (λ e. normal_one_pattern p.patterns s so)
@@ -678,12 +683,12 @@ module _ (g : Given) where
     normal_body : (n : Next) (s : State) → N (a_body inner n) (ListHolds false) s
     unfolding a_body
     normal_body n s = tells_many Whole g (list_turn inner) (ListHolds false) (normal_list_turn false)
-        (list_so (none_listed false) n) s (no_entries false)
+        (list_so_far (none_listed false) n) s (no_entries false)
 
-    abbrev CasesHold : CasesSo → State → Type 0
+    abbrev CasesHold : CasesSoFar → State → Type 0
     CasesHold c t = are_normal_cases (cases_of c.items) ≡ true
 
-    normal_one_case : (c : CasesSo) (s : State) → CasesHold c s → N (one_case inner c) (Turned Whole g CasesHold) s
+    normal_one_case : (c : CasesSoFar) (s : State) → CasesHold c s → N (one_case inner c) (Turned Whole g CasesHold) s
     unfolding one_case
     normal_one_case c s so =
         after (λ p t. after (λ n u. tells_then Whole g (normal_patterns n u)
@@ -692,7 +697,7 @@ module _ (g : Given) where
         (gives (cases_more c.items _ so
         (and_from _ _ (and_from _ _ one (two.first refl)) two.all)))))))))
 
-    normal_case_turn : (c : CasesSo) (s : State) → CasesHold c s → N (case_turn inner c) (Turned Whole g CasesHold) s
+    normal_case_turn : (c : CasesSoFar) (s : State) → CasesHold c s → N (case_turn inner c) (Turned Whole g CasesHold) s
     unfolding case_turn
     normal_case_turn c s so = picked_by (is_closing closings.Esac c.next.token) (λ e. gives so)
         (normal_one_case c s so)
@@ -707,7 +712,7 @@ module _ (g : Given) where
     normal_case n s =
         tells_then Whole g (normal_case_head n s)
         (λ h t one. tells_then Whole g
-        (tells_many Whole g (case_turn inner) CasesHold normal_case_turn (cases_so [] h.1 h.2) t refl)
+        (tells_many Whole g (case_turn inner) CasesHold normal_case_turn (cases_so_far [] h.1 h.2) t refl)
         (λ c u all. after (λ e v. gives (and_from _ _ one all))))
 
     normal_form_by : (o : Opener) (n : Next) (s : State) → N (a_form inner o n) FormHolds s
@@ -736,7 +741,7 @@ module _ (g : Given) where
     normal_substitution_list s =
         after (λ n t. tells_then Whole g
         (tells_many Whole g (list_turn inner) (ListHolds false) (normal_list_turn false)
-        (list_so (none_listed false) n) t (no_entries false))
+        (list_so_far (none_listed false) n) t (no_entries false))
         (λ l u so. picked_by (is_closing closings.Paren l.next.token)
         (λ e. after (λ w z. after (λ x v. gives (so.first refl, so.all)))) (stops inner l.next)))
 
@@ -793,8 +798,8 @@ module _ (edition : Edition) (B : List ℕ) where
   line_so_far blank p = let g = given edition (drop p B) p in
       (normal_line g (level most_open) (normal_level g most_open) blank (standing 0)).told
 
-  script_so : (rest : SoFar → ℕ → AScript) (so : SoFar) (p : ℕ) →
-      ((to : SoFar) (q : ℕ) → is_normal (entries_of to.entries) ≡ true → is_normal (rest to q).entries ≡ true)
+  script_so : (rest : LinesSoFar → ℕ → AScript) (so : LinesSoFar) (p : ℕ) →
+      ((to : LinesSoFar) (q : ℕ) → is_normal (entries_of to.entries) ≡ true → is_normal (rest to q).entries ≡ true)
       → is_normal (entries_of so.entries) ≡ true → (x : Read (Row AnEntry × Bool)) →
       Holds (LineHolds (is_blank_line so)) x → is_normal (script_by rest so p x).entries ≡ true
   script_so rest so p more list (Ok ((es, true), t)) line =
@@ -802,7 +807,7 @@ module _ (edition : Edition) (B : List ℕ) where
   script_so rest so p more list (Ok ((es, false), t)) line = script_more so.gap so.entries es list line.0 line.1
   script_so rest so p more list (Err f) line = list
 
-  below_normal : (n : ℕ) (so : SoFar) (p : ℕ) → is_normal (entries_of so.entries) ≡ true →
+  below_normal : (n : ℕ) (so : LinesSoFar) (p : ℕ) → is_normal (entries_of so.entries) ≡ true →
       is_normal (script_below edition B n so p).entries ≡ true
   unfolding script_below
   below_normal zero so p list = list

@@ -9,7 +9,7 @@ use Rattle.shgrammar.specs.Form.{Read, may, does}
 use Rattle.shgrammar.specs.Levels.{most_open, level}
 use Rattle.shgrammar.specs.Lines.{a_line}
 use Rattle.shgrammar.specs.Moved.{Same, SameBy, moved_fault}
-use Rattle.shgrammar.specs.Scripts.{AScript, SoFar, first_fault_from, is_blank_line, line_from, line_told, nothing_yet, script_below, script_by, script_on, the_line, with_line}
+use Rattle.shgrammar.specs.Scripts.{AScript, LinesSoFar, first_fault_from, is_blank_line, line_from, line_told, nothing_yet, script_below, script_by, script_on, the_line, with_line}
 use Rattle.shgrammar.specs.Search.{ArePassed, LineBefore, MayPass, StopsAt}
 use Rattle.shgrammar.specs.Sights.{State, given, standing}
 use Rattle.shgrammar.specs.Standing.{raw_stands}
@@ -137,7 +137,7 @@ twice n p f g h one two =
     let sum : n + p + h.at ≡ n + (p + h.at) = omega arith in
     one ∙ ap (λ (at : ℕ). record { kind = h.kind; at = at }) sum ∙ sym (ap (moved_fault n) two)
 
-module _ (n : ℕ) (f h : SoFar → ℕ → AScript) (so to : SoFar) (p : ℕ)
+module _ (n : ℕ) (f h : LinesSoFar → ℕ → AScript) (so to : LinesSoFar) (p : ℕ)
     (rest : (es fs : Row AnEntry) (t : State) →
     (f (with_line so es) (n + p + t.at)).fault ≡ later n (h (with_line to fs) (p + t.at)).fault) where
   shift_by : (blank pale : Bool) (x y z : Read (Row AnEntry × Bool)) → Same (n + p) blank x z → Same p pale y z →
@@ -156,7 +156,7 @@ module _ (n : ℕ) (f h : SoFar → ℕ → AScript) (so to : SoFar) (p : ℕ)
   shift_by blank pale (Err e) (Err d) (Err c) one two = ap Some (twice n p e d c one two)
 
 module _ (edition : Edition) (n : ℕ) (B : List ℕ) where
-  shift : (m : ℕ) (so to : SoFar) (p : ℕ) →
+  shift : (m : ℕ) (so to : LinesSoFar) (p : ℕ) →
       (script_below edition B m so (n + p)).fault ≡ later n (script_below edition (drop n B) m to p).fault
   unfolding script_below
   shift zero so to p = refl

@@ -18,7 +18,7 @@ use Rattle.shast.specs.Shape.{shape_of_subst}
 use Rattle.shast.specs.Tree.{ASubst}
 use Rattle.shgrammar.specs.Sights.{Given, given, State}
 use Rattle.shgrammar.specs.Form.{Read, ◌▸◌, Form, Step, again, done, loop, many, leads_on, does}
-use Rattle.shgrammar.specs.Words.{single, backquoted_text, Inner, WordSoFar, having, opened, piece_row, a_piece, contents, dollar_single}
+use Rattle.shgrammar.specs.Words.{single, backquoted_text, Inner, WordSoFar, word_so_far, opened, piece_row, a_piece, contents, dollar_single}
 use Rattle.shgrammar.proofs.Stretches.{place_low}
 use Rattle.shgrammar.proofs.Places.{after_low, parameter_low}
 use Rattle.shgrammar.proofs.Holds.{Holds, holds_then, holds_so}
@@ -88,10 +88,10 @@ module _ {edition : Edition} {T U : List ℕ} {a L : ℕ} {to : ℕ → ℕ} (K 
         Holds (Opens mode b2 c s) (does (opened inner mode b c) Whole g s)
     opens mode closed b b2 c s from =
         holds_then (Holding (inner.construct mode b2) c.substs s) (Opens mode b2 c s)
-        (does (inner.construct mode b c.substs) Whole g s) (λ x t. Ok (again (having c.nested x), t))
+        (does (inner.construct mode b c.substs) Whole g s) (λ x t. Ok (again (word_so_far c.nested x), t))
         (local.construct mode closed b b2 c.substs s from)
         (λ x t inside le. let w = inside le in
-        (w.0, λ d so. let v = w.1 d.substs so.1 in (again (having d.nested v.0), (rw v.1.0 refl, (so.0, v.1.1)))))
+        (w.0, λ d so. let v = w.1 d.substs so.1 in (again (word_so_far d.nested v.0), (rw v.1.0 refl, (so.0, v.1.1)))))
 
   -- from where a word or a construct may go on, and where it ends
   abbrev pub From : Mode → ℕ → Type 0
@@ -217,12 +217,12 @@ module _ {edition : Edition} {T U : List ℕ} {a L : ℕ} {to : ℕ → ℕ} (K 
 
       opening : is_byte (byte_at T p) backslash ≡ false → past_continuations T p < length T →
           (Inside p → From mode q → Told pieces.Open) → Again pieces.Open
-      opening e lt told = one_byte_row e lt (λ d. having (d.nested + 1) d.substs)
+      opening e lt told = one_byte_row e lt (λ d. word_so_far (d.nested + 1) d.substs)
           (λ d so. (ap (λ m. m + 1) so.0, so.1)) pieces.Open told (λ d. refl)
 
       closing : is_byte (byte_at T p) backslash ≡ false → past_continuations T p < length T →
           (Inside p → From mode q → Told pieces.Close) → Again pieces.Close
-      closing e lt told = one_byte_row e lt (λ d. having (d.nested - 1) d.substs)
+      closing e lt told = one_byte_row e lt (λ d. word_so_far (d.nested - 1) d.substs)
           (λ d so. (ap (λ m. m - 1) so.0, so.1)) pieces.Close told (λ d. refl)
 
       -- a backslash and what it takes
@@ -346,15 +346,15 @@ module _ {edition : Edition} {T U : List ℕ} {a L : ℕ} {to : ℕ → ℕ} (K 
           let inside = placed (past_byte T q) s in
           holds_then (Holding (inner.substitution k2) c.substs inside) Turn
           (does (inner.substitution (o + past_continuations T p) c.substs) Whole g inside)
-          (λ x t. Ok (again (having c.nested x), t))
+          (λ x t. Ok (again (word_so_far c.nested x), t))
           (local.substitution (o + past_continuations T p) k2 c.substs inside q2_low)
           (λ x t holding goal. let w = holding goal.0 in
           let k = before K q q_low w.0 in
           let j = before K p from k in (
             inl j,
             λ d so. let v = w.1 d.substs so.1 in
-                row_there pieces.Subst (told j k w.0) d so (SameStep Agree (again (having c.nested x))) t
-                (again (having d.nested v.0), (rw (here_after K j, here_after K k, v.1.0) refl, (so.0, v.1.1))),
+                row_there pieces.Subst (told j k w.0) d so (SameStep Agree (again (word_so_far c.nested x))) t
+                (again (word_so_far d.nested v.0), (rw (here_after K j, here_after K k, v.1.0) refl, (so.0, v.1.1))),
           ))
 
       twice : is_byte (byte_at T q) backslash ≡ false → (Inside p → Inside q → Told pieces.Pid) → Again pieces.Pid
@@ -580,11 +580,11 @@ module _ {edition : Edition} {T U : List ℕ} {a L : ℕ} {to : ℕ → ℕ} (K 
       unfolding contents many
       construct_in mode closed b b2 ss s from =
           holds_then _ (Holding (contents inner mode b2) ss s)
-          (does (loop (a_piece inner mode b) (having 0 ss)) Whole g s) (λ c t. Ok (c.substs, t))
-          (pieces_in mode b b2 (having 0 ss) s from)
+          (does (loop (a_piece inner mode b) (word_so_far 0 ss)) Whole g s) (λ c t. Ok (c.substs, t))
+          (pieces_in mode b b2 (word_so_far 0 ss) s from)
           (λ c t ends le. let w = ends (last_of mode closed t.at le) in (
             in_of mode closed s.at w.0,
-            λ zs same. let f = w.1 (having 0 zs) (refl, same) in
+            λ zs same. let f = w.1 (word_so_far 0 zs) (refl, same) in
                 (f.0.substs, (rw f.1.0 refl, f.1.1.1)),
           ))
 
@@ -596,7 +596,7 @@ module _ {edition : Edition} {T U : List ℕ} {a L : ℕ} {to : ℕ → ℕ} (K 
       pub word_in : (b b2 : ℕ) (s : State) → a ≤ s.at → Holds (Ended b2 s) (does (contents inner Plain b []) Whole g s)
       unfolding contents many
       word_in b b2 s from =
-          holds_then _ (Ended b2 s) (does (loop (a_piece inner Plain b) (having 0 [])) Whole g s)
-          (λ c t. Ok (c.substs, t)) (pieces_in Plain b b2 (having 0 []) s from)
-          (λ c t ends is. let f = (ends (omega (arith, is), λ e. is)).1 (having 0 []) (refl, refl) in
+          holds_then _ (Ended b2 s) (does (loop (a_piece inner Plain b) (word_so_far 0 [])) Whole g s)
+          (λ c t. Ok (c.substs, t)) (pieces_in Plain b b2 (word_so_far 0 []) s from)
+          (λ c t ends is. let f = (ends (omega (arith, is), λ e. is)).1 (word_so_far 0 []) (refl, refl) in
           (f.0.substs, (rw f.1.0 refl, f.1.1.1)))

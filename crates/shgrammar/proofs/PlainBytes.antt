@@ -10,7 +10,7 @@ use Rattle.shgrammar.specs.Comments.{span}
 use Rattle.shgrammar.specs.Sights.{Given, State, Waiting, given}
 use Rattle.shast.specs.declared.tree.Span.{Span}
 use Rattle.shgrammar.specs.Form.{Read, ◌▸◌, again, done, does, many}
-use Rattle.shgrammar.specs.Words.{Inner, WordSoFar, having, a_piece, contents, a_word}
+use Rattle.shgrammar.specs.Words.{Inner, WordSoFar, word_so_far, a_piece, contents, a_word}
 use Rattle.shgrammar.specs.Levels.{level}
 use Rattle.shgrammar.specs.Plain.{is_special_in, is_plain, ArePlain}
 use Rattle.shast.specs.Tree.{ASubst, word, no_subst, substs_of}
@@ -152,7 +152,7 @@ module _ (inner : Inner) (keep : Keep) (g : Given) (mode : Mode) (b : ℕ) (ws :
 
   -- the last piece
   pub contents_done : (h : WordSoFar) (ss : Row ASubst) (vs : Row Waiting) (es : Row Span) (p s q : ℕ) →
-      all h p ≡ all_from vs es (having 0 ss) s → turn h (placed ws ds p) ≡ Ok (done h, placed ws ds q)
+      all h p ≡ all_from vs es (word_so_far 0 ss) s → turn h (placed ws ds p) ≡ Ok (done h, placed ws ds q)
       → does (contents inner mode b ss) keep g (placed vs es s) ≡ Ok (h.substs, placed ws ds q)
   unfolding contents
   contents_done h ss vs es p s q so last =
@@ -164,8 +164,8 @@ module _ (inner : Inner) (keep : Keep) (g : Given) (mode : Mode) (b : ℕ) (ws :
       → does (contents inner mode b ss) keep g (placed ws ds p) ≡ Ok (ss, placed ws ds (past_closer g.text mode q))
   unfolding contents a_piece
   plain_closed ss p q plain low high end =
-      ap given_by (plain_turns (having 0 ss) p q plain low high
-      ∙ many_done (a_piece inner mode b) keep g (having 0 ss) (having 0 ss) (placed ws ds q)
+      ap given_by (plain_turns (word_so_far 0 ss) p q plain low high
+      ∙ many_done (a_piece inner mode b) keep g (word_so_far 0 ss) (word_so_far 0 ss) (placed ws ds q)
       (placed ws ds (past_closer g.text mode q)) (rw end refl))
 
   ordinary_piece : (h : WordSoFar) (p : ℕ) → piece_in g.edition mode (piece_at g.text mode h.nested p) ≡ pieces.Ordinary
@@ -182,7 +182,7 @@ module _ (inner : Inner) (keep : Keep) (g : Given) (mode : Mode) (b : ℕ) (ws :
       ≡ does (contents inner mode b ss) keep g (placed ws ds q)
   unfolding contents
   ordinary_contents ss p q ordinary plain low high =
-      let h = having 0 ss in
+      let h = word_so_far 0 ss in
       let r = past_continuations g.text p + 1 in
       ap given_by (many_again (a_piece inner mode b) keep g h h (placed ws ds p) (placed ws ds r)
       (ordinary_piece h p ordinary) (omega (arith, place_low g.text p)) (omega (arith, low, high))
@@ -193,7 +193,7 @@ module _ (inner : Inner) (keep : Keep) (g : Given) (mode : Mode) (b : ℕ) (ws :
       → does (contents inner mode b ss) keep g (placed ws ds p)
       ≡ does (contents inner mode b ss) keep g (placed ws ds q)
   unfolding contents
-  plain_contents ss p q plain low high = ap given_by (plain_turns (having 0 ss) p q plain low high)
+  plain_contents ss p q plain low high = ap given_by (plain_turns (word_so_far 0 ss) p q plain low high)
 
 -- what closes a construct
 pub closed_here : (edition : Edition) →

@@ -20,7 +20,7 @@ use Rattle.shgrammar.specs.Levels.{level, most_open}
 use Rattle.shgrammar.specs.Tokens.{is_end}
 use Rattle.shgrammar.specs.Commands.{is_newline_token, next_token, none_waits, nothing_waits, what_is_wrong}
 use Rattle.shgrammar.specs.Lines.{line_end_by, end_of_line, an_open_line, a_line, ALine, IsLine, SameBytes, NoFurther, line_read, line_stops, kind_of}
-use Rattle.shgrammar.specs.Lists.{ListSo, list_so, none_listed, on_line}
+use Rattle.shgrammar.specs.Lists.{ListSoFar, list_so_far, none_listed, on_line}
 use Rattle.shgrammar.proofs.OneOutcome.{computed_is_only}
 use Rattle.shgrammar.proofs.Holds.{Holds, Tells, change_low}
 use Rattle.shgrammar.proofs.Lined.{line_ended_low}
@@ -143,10 +143,10 @@ module _ {edition : Edition} {T U : List ℕ} {a M : ℕ} {to : ℕ → ℕ} (E 
   ending_by inner es false false n s from shown y y_is closed =
       stopped (does (what_is_wrong inner n) Whole g s) _ y y_is closed
 
-  abbrev at_end : Inner → ListSo → Form (Row AnEntry × Bool)
+  abbrev at_end : Inner → ListSoFar → Form (Row AnEntry × Bool)
   at_end inner l = both (end_of_line inner l.next) (λ newline. give (l.list.entries, newline))
 
-  ending_again : (inner : Inner) (l : ListSo) (s : State) → a ≤ s.at → Begins g l.next s →
+  ending_again : (inner : Inner) (l : ListSoFar) (s : State) → a ≤ s.at → Begins g l.next s →
       (y : Read (Row AnEntry × Bool)) (k : Row Spelled) → may (at_end inner l) g s y k → Again (at_end inner l) s y
   unfolding end_of_line
   ending_again inner l s from begins y k part =
@@ -154,7 +154,7 @@ module _ {edition : Edition} {T U : List ℕ} {a M : ℕ} {to : ℕ → ℕ} (E 
       (λ e. newline_here g l.next s begins e) y ((computed_is_only (at_end inner l) g s).only y k part)
 
   abbrev at_entries : Inner → Bool → Next → Form (Row AnEntry × Bool)
-  at_entries inner blank n = both (on_line inner (list_so (none_listed blank) n)) (at_end inner)
+  at_entries inner blank n = both (on_line inner (list_so_far (none_listed blank) n)) (at_end inner)
 
   -- what a form gives of which this holds
   held : {X : Type 0} {P : X → State → Type 0} (r : Form X) (s : State) (x : X) (t : State) (k : Row Spelled) →
@@ -167,10 +167,10 @@ module _ {edition : Edition} {T U : List ℕ} {a M : ℕ} {to : ℕ → ℕ} (E 
   unfolding an_open_line
   open_again inner fine blank s from y k part =
       both_again (next_token Command) (at_entries inner blank) s from (λ n t from_t one.
-      both_again (on_line inner (list_so (none_listed blank) n)) (at_end inner) t from_t (λ l u from_u two.
+      both_again (on_line inner (list_so_far (none_listed blank) n)) (at_end inner) t from_t (λ l u from_u two.
       ending_again inner l u from_u
-      (held (on_line inner (list_so (none_listed blank) n)) t l u two.0
-      (shown_on_line g inner fine (list_so (none_listed blank) n) t
+      (held (on_line inner (list_so_far (none_listed blank) n)) t l u two.0
+      (shown_on_line g inner fine (list_so_far (none_listed blank) n) t
       (held (next_token Command) s n t one.0 (shown_next g Command s) one.1)) two.1))) y k part
 
   -- a line, with its bodies

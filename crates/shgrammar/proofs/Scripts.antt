@@ -5,7 +5,7 @@ use Rattle.shast.specs.Tree.{AnEntry}
 use Rattle.shgrammar.specs.Sights.{given, standing}
 use Rattle.shgrammar.specs.Form.{Read, Spelled, may}
 use Rattle.shgrammar.specs.Lines.{ALine, IsLine, line_read, line_stops}
-use Rattle.shgrammar.specs.Scripts.{AScript, SoFar, is_blank_line, with_line, the_line, Lines, line_ended, last_line, faulty, nothing_yet, Outcome, line_from, script_by, script_below, script_on, script_at, as_line, line_of_text}
+use Rattle.shgrammar.specs.Scripts.{AScript, LinesSoFar, is_blank_line, with_line, the_line, Lines, line_ended, last_line, faulty, nothing_yet, Outcome, line_from, script_by, script_below, script_on, script_at, as_line, line_of_text}
 use Rattle.shgrammar.proofs.OneOutcome.{HasOneOutcome, computed_is_only}
 use Rattle.shgrammar.proofs.Lined.{leaves_less, line_more, line_last, line_faulty}
 use Rattle.shgrammar.specs.declared.edition.Edition.{Edition}
@@ -35,16 +35,18 @@ line_only edition T l (line_stops f k part) =
 
 module _ (edition : Edition) (B : List ℕ) where
   -- the line at p has one outcome
-  line_at : (so : SoFar) (p : ℕ) →
+  line_at : (so : LinesSoFar) (p : ℕ) →
       HasOneOutcome (may (the_line (is_blank_line so)) (given edition (drop p B) p) (standing 0))
       (line_from edition B Whole (is_blank_line so) p)
   line_at so p = computed_is_only (the_line (is_blank_line so)) (given edition (drop p B) p) (standing 0)
 
   -- by the outcome of one line
-  lines_by : (rest : SoFar → ℕ → AScript) (so : SoFar) (p : ℕ) (x : Read (Row AnEntry × Bool)) (k : Row Spelled) →
+  lines_by : (rest : LinesSoFar → ℕ → AScript) (so : LinesSoFar) (p : ℕ) (x : Read (Row AnEntry × Bool))
+      (k : Row Spelled) →
       line_from edition B Whole (is_blank_line so) p ≡ x
       → may (the_line (is_blank_line so)) (given edition (drop p B) p) (standing 0) x k
-      → ((to : SoFar) (q : ℕ) → length B - q < length B - p → (l : Row Spelled) × Lines edition B to q (rest to q) l) →
+      → ((to : LinesSoFar) (q : ℕ) → length B - q < length B - p → (l : Row Spelled)
+      × Lines edition B to q (rest to q) l) →
       (l : Row Spelled) × Lines edition B so p (script_by rest so p x) l
   lines_by rest so p (Ok ((es, true), t)) k is part more = let on =
       more _ _ (leaves_less edition B Whole (is_blank_line so) p es t is) in (k ++ on.0, line_ended es t k part on.1)
@@ -52,7 +54,7 @@ module _ (edition : Edition) (B : List ℕ) where
   lines_by rest so p (Err f) k is part more = (k, faulty f k part)
 
   -- with fewer than n bytes left
-  lines_below : (n : ℕ) (so : SoFar) (p : ℕ) → length B - p < n → (l : Row Spelled)
+  lines_below : (n : ℕ) (so : LinesSoFar) (p : ℕ) → length B - p < n → (l : Row Spelled)
       × Lines edition B so p (script_below edition B n so p) l
   unfolding script_below
   lines_below zero so p low = absurd (omega arith)
@@ -67,7 +69,7 @@ module _ (edition : Edition) (B : List ℕ) where
   script_is = lines_below (suc (length B - 0)) nothing_yet 0 (omega arith)
 
   -- the lines from p on are those that are computed
-  lines_only : (so : SoFar) (p : ℕ) (y : AScript) (l : Row Spelled) → Lines edition B so p y l →
+  lines_only : (so : LinesSoFar) (p : ℕ) (y : AScript) (l : Row Spelled) → Lines edition B so p y l →
       y ≡ script_on edition B so p
   lines_only so p y l (line_ended es t k part rest) = lines_only _ _ y _ rest
       ∙ sym (line_more edition B so p (is_blank_line so) refl es t (with_line so es)

@@ -17,7 +17,7 @@ use Rattle.shast.specs.Spelling.{Tokens, and_or_text, redirect_text, spell_numbe
 use Rattle.shgrammar.specs.Sights.{Given, State}
 use Rattle.shgrammar.specs.Form.{Spelled, tell}
 use Rattle.shgrammar.specs.Words.{Inner}
-use Rattle.shgrammar.specs.Commands.{is_pipe, is_bang, begins_simple, begins_redirect, opener_of, compound_by, and_or_operator_of, Items, so_many, after_word, is_number_token, redirect_operator_of, takes_here, is_strip, document_by, a_document, a_number, an_operator, operator_by, a_target, one_redirect, after_redirect, redirect_turn, with_redirect_list, as_item, breaks, an_item, item_by, item_turn, a_simple, a_command, a_bang, Piped, piped, one_command, pipe_turn, a_pipeline, Joined, joined_so, one_pipeline, joined_by, and_or_turn, an_and_or, separator_of, told_separator, separator_by, a_separator, is_background, an_entry, a_word_command, is_word, is_paren}
+use Rattle.shgrammar.specs.Commands.{is_pipe, is_bang, begins_simple, begins_redirect, opener_of, compound_by, and_or_operator_of, ItemsSoFar, items_so_far, after_word, is_number_token, redirect_operator_of, takes_here, is_strip, document_by, a_document, a_number, an_operator, operator_by, a_target, one_redirect, after_redirect, redirect_turn, with_redirect_list, as_item, breaks, an_item, item_by, item_turn, a_simple, a_command, a_bang, PipesSoFar, pipes_so_far, one_command, pipe_turn, a_pipeline, AndOrSoFar, and_or_so_far, one_pipeline, joined_by, and_or_turn, an_and_or, separator_of, told_separator, separator_by, a_separator, is_background, an_entry, a_word_command, is_word, is_paren}
 use Rattle.shgrammar.specs.HereDocuments.{ADelimiter}
 use Rattle.shast.specs.Nodes.{word_span}
 use Rattle.shgrammar.proofs.Spelling.{Passing, pass_give, pass_stop, pass_so, pass_then, Silent, pass_on, pass_last, pass_see, pass_pushed, pass_token, pass_with_bytes, pass_change, OneText, pass_text, pass_pick, Grows, grows_none, pass_many, silent_next, silent_comment, silent_join, pass_unexpected, raw_at, pass_word}
@@ -63,7 +63,7 @@ abbrev pub Spells : {X : Type 0} → (X → Tokens) → X → Tokens → Type 0
 Spells of x k = k ≡ of x
 
 module _ (B : List ℕ) where
-  abbrev pub spelled_items : Items → Tokens
+  abbrev pub spelled_items : ItemsSoFar → Tokens
   spelled_items i = spell_items (shape_of_items B (items_of i.items))
 
   -- a compound command that spells these tokens
@@ -95,7 +95,7 @@ module _ {B : List ℕ} {g : Given} {stands : g.text ≡ drop g.offset B} {inner
   item_word Prefix broken w = refl
   item_word Suffix broken w = refl
 
-  pub pass_item : (i : Items) (position : Position) (s : State) →
+  pub pass_item : (i : ItemsSoFar) (position : Position) (s : State) →
       Passing g (an_item inner i position) (Grows g (spelled_items B) i) s
   unfolding an_item
   pass_item i position s =
@@ -141,7 +141,7 @@ module _ {B : List ℕ} {g : Given} {stands : g.text ≡ drop g.offset B} {inner
       pass_pick g (takes_here o) (pass_on g (pass_see g) (λ d t. silent_document_by b p (is_strip o) d t))
       (pass_give g refl)
 
-  pass_redirect : (i : Items) (broken : Bool) (position : Position) (n : Next) (s : State) →
+  pass_redirect : (i : ItemsSoFar) (broken : Bool) (position : Position) (n : Next) (s : State) →
       Passing g (one_redirect inner broken position i.items n) (Grows g (spelled_items B) i) s
   unfolding one_redirect
   pass_redirect i broken position n s =
@@ -153,24 +153,24 @@ module _ {B : List ℕ} {g : Given} {stands : g.text ≡ drop g.offset B} {inner
       (λ m z. pass_give g (rw (one, two, append-nil k3, three)
       (items_last B i.items (item broken (redirect d.0 o.0 o.1 w.0 h)))))))))))
 
-  pass_item_by : (i : Items) (o : Option Position) (s : State) →
+  pass_item_by : (i : ItemsSoFar) (o : Option Position) (s : State) →
       Passing g (item_by inner i o) (Grows g (spelled_items B) i) s
   pass_item_by i (Some position) s = pass_item i position s
   pass_item_by i None s = pass_pick g (begins_redirect i.next.token)
       (pass_redirect i (breaks i) (after_redirect i.position) i.next s) (pass_give g (grows_none g (spelled_items B) i))
 
-  pass_item_turn : (i : Items) (s : State) → Passing g (item_turn inner i) (Grows g (spelled_items B) i) s
+  pass_item_turn : (i : ItemsSoFar) (s : State) → Passing g (item_turn inner i) (Grows g (spelled_items B) i) s
   unfolding item_turn
   pass_item_turn i s = pass_item_by i (after_word i.next.token) s
 
-  pass_simple : (i : Items) (s : State) →
+  pass_simple : (i : ItemsSoFar) (s : State) →
       Passing g (a_simple inner i) (λ c k. spelled_items B i ++ k ≡ spell_command (shape_of_command B c.0)) s
   unfolding a_simple
   pass_simple i s = pass_last g (pass_many g (spelled_items B) (item_turn inner) pass_item_turn i s) (λ is k so. sym so)
 
   -- ---- pipelines
 
-  pass_redirect_turn : (i : Items) (s : State) → Passing g (redirect_turn inner i) (Grows g (spelled_items B) i) s
+  pass_redirect_turn : (i : ItemsSoFar) (s : State) → Passing g (redirect_turn inner i) (Grows g (spelled_items B) i) s
   unfolding redirect_turn
   pass_redirect_turn i s = pass_pick g (begins_redirect i.next.token) (pass_redirect i i.next.broken Command i.next s)
       (pass_give g (grows_none g (spelled_items B) i))
@@ -192,7 +192,8 @@ module _ {B : List ℕ} {g : Given} {stands : g.text ≡ drop g.offset B} {inner
       Passing g (with_redirect_list inner c) (λ d l. IsCompound B d (k ++ l)) s
   unfolding with_redirect_list
   pass_with_redirect_list c k s so =
-      pass_last g (pass_many g (spelled_items B) (redirect_turn inner) pass_redirect_turn (so_many [] Command c.1) s)
+      pass_last g (pass_many g (spelled_items B) (redirect_turn inner) pass_redirect_turn
+      (items_so_far [] Command c.1) s)
       (λ r l is. with_spelled c.0 so.0 so.1 (items_of r.items) k l so.2 so.3 is)
 
   pub pass_compound_by : (n : Next) (o : Option Opener) (s : State) → Passing g (compound_by inner n o) (IsCompound B) s
@@ -212,7 +213,7 @@ module _ {B : List ℕ} {g : Given} {stands : g.text ≡ drop g.offset B} {inner
       pass_pick g (is_paren n.token)
       (pass_pick g good (pass_so g (fine.function (word_span w) v)
       (λ c l is. ap (λ z. z ++ l) (so ∙ word_is w) ∙ is)) (pass_stop g))
-      (pass_pushed g (λ x. pass_so g (pass_simple (so_many (item false (argument w) ∷ []) Suffix n) x)
+      (pass_pushed g (λ x. pass_so g (pass_simple (items_so_far (item false (argument w) ∷ []) Suffix n) x)
       (λ c l is. ap (λ z. z ++ l) (so ∙ sym (append-nil _)) ∙ is))))))
 
   pass_command : (n : Next) (s : State) →
@@ -220,7 +221,7 @@ module _ {B : List ℕ} {g : Given} {stands : g.text ≡ drop g.offset B} {inner
   unfolding a_command
   pass_command n s =
       pass_pick g (is_word n.token) (pass_word_command s)
-      (pass_pick g (begins_simple n.token) (pass_simple (so_many [] Command n) s)
+      (pass_pick g (begins_simple n.token) (pass_simple (items_so_far [] Command n) s)
       (pass_so g (pass_compound_by n (opener_of n.token) s) (λ c k so. so.2)))
 
   pass_bang : (n : Next) (s : State) → Passing g (a_bang n) (Spells (λ x. spell_bang (shape_of_bang x.0))) s
@@ -230,10 +231,10 @@ module _ {B : List ℕ} {g : Given} {stands : g.text ≡ drop g.offset B} {inner
       (pass_then g (pass_text g) (λ x t k so. pass_on g (silent_next g Command t)
       (λ m u. pass_give g (append-nil k ∙ so)))) (pass_give g refl)
 
-  abbrev spelled_pipes : Piped → Tokens
+  abbrev spelled_pipes : PipesSoFar → Tokens
   spelled_pipes p = spell_pipes (shape_of_pipes B (pipeline_parts_of p.parts))
 
-  pass_one_command : (p : Piped) (s : State) → Passing g (one_command inner p) (Grows g spelled_pipes p) s
+  pass_one_command : (p : PipesSoFar) (s : State) → Passing g (one_command inner p) (Grows g spelled_pipes p) s
   unfolding one_command
   pass_one_command p s =
       pass_then g (pass_text g) (λ x t k is. pass_on g (silent_join g p.next.broken t)
@@ -241,7 +242,7 @@ module _ {B : List ℕ} {g : Given} {stands : g.text ≡ drop g.offset B} {inner
       (pipes_last B p.parts (record { join = j.0; command = c.0 })
       ∙ ap (λ z. spelled_pipes p ++ z) (rw (is, so) (ap (λ z. codes "|" ∷ z) (sym (append-nil _)))))))))
 
-  pass_pipe_turn : (p : Piped) (s : State) → Passing g (pipe_turn inner p) (Grows g spelled_pipes p) s
+  pass_pipe_turn : (p : PipesSoFar) (s : State) → Passing g (pipe_turn inner p) (Grows g spelled_pipes p) s
   unfolding pipe_turn
   pass_pipe_turn p s = pass_pick g (is_pipe p.next.token) (pass_one_command p s)
       (pass_give g (grows_none g spelled_pipes p))
@@ -251,17 +252,17 @@ module _ {B : List ℕ} {g : Given} {stands : g.text ≡ drop g.offset B} {inner
   unfolding a_pipeline
   pass_pipeline n s =
       pass_then g (pass_bang n s) (λ b t k is. pass_then g (pass_command b.1 t) (λ c u l so.
-      pass_last g (pass_many g spelled_pipes (pipe_turn inner) pass_pipe_turn (piped [] c.1) u)
+      pass_last g (pass_many g spelled_pipes (pipe_turn inner) pass_pipe_turn (pipes_so_far [] c.1) u)
       (λ p m all. rw (is, so, ← all)
       (sym (append_assoc (spell_bang (shape_of_bang b.0)) (spell_command (shape_of_command B c.0))
       (spelled_pipes p))))))
 
   -- ---- and-or lists
 
-  abbrev spelled_joined : Joined → Tokens
+  abbrev spelled_joined : AndOrSoFar → Tokens
   spelled_joined a = spell_and_or_parts (shape_of_and_or_parts B (and_or_parts_of a.parts))
 
-  pass_one_pipeline : (a : Joined) (o : AndOrOperator) (s : State) →
+  pass_one_pipeline : (a : AndOrSoFar) (o : AndOrOperator) (s : State) →
       Passing g (one_pipeline inner a o) (Grows g spelled_joined a) s
   unfolding one_pipeline
   pass_one_pipeline a o s =
@@ -270,7 +271,7 @@ module _ {B : List ℕ} {g : Given} {stands : g.text ≡ drop g.offset B} {inner
       (joined_last B a.parts (record { operator = o; join = j.0; pipeline = p.0 })
       ∙ ap (λ z. spelled_joined a ++ z) (rw (is, so) (ap (λ z. and_or_text o ∷ z) (sym (append-nil _)))))))))
 
-  pass_and_or_turn : (a : Joined) (s : State) → Passing g (and_or_turn inner a) (Grows g spelled_joined a) s
+  pass_and_or_turn : (a : AndOrSoFar) (s : State) → Passing g (and_or_turn inner a) (Grows g spelled_joined a) s
   unfolding and_or_turn
   pass_and_or_turn a s = by_operator (and_or_operator_of a.next.token)
     where
@@ -283,7 +284,7 @@ module _ {B : List ℕ} {g : Given} {stands : g.text ≡ drop g.offset B} {inner
   unfolding an_and_or
   pass_and_or n s =
       pass_then g (pass_pipeline n s) (λ p t k is.
-      pass_last g (pass_many g spelled_joined (and_or_turn inner) pass_and_or_turn (joined_so [] p.1) t)
+      pass_last g (pass_many g spelled_joined (and_or_turn inner) pass_and_or_turn (and_or_so_far [] p.1) t)
       (λ a m all. rw (is, ← all) refl))
 
   -- ---- entries

@@ -16,9 +16,9 @@ use Rattle.shast.specs.Spelling.{Tokens, spell_word, spelling, spell_entry, spel
 use Rattle.shgrammar.specs.Sights.{Given, given, State, standing}
 use Rattle.shgrammar.specs.Form.{Spelled, step_if, give, may}
 use Rattle.shgrammar.specs.Words.{Inner}
-use Rattle.shgrammar.specs.Commands.{pick, is_newline_token, is_pipe, begins_word, begins_pipeline, opener_of, Items, so_many, none_waits, nothing_waits, unexpected, is_word, ends_item, falls_through, is_double_semicolon}
-use Rattle.shgrammar.specs.Lists.{ListSo, list_so, none_listed, is_blank_next, one_entry, entry_turn, remark_by, a_remark, on_line, list_turn, a_list}
-use Rattle.shgrammar.specs.Compounds.{Branched, branched, is_closing, opener_text, closing_text, reserved_or_paren, closing, a_group, a_branch, elif_turn, an_else, an_if, a_loop, a_for_name, a_sequential_sep, Headed, word_turn, for_words, a_for_head, after_remarks, a_for, a_form, a_compound, a_function, under_name, a_case_word, begins_pattern, Patterned, a_pattern, one_pattern, pattern_turn, a_pattern_list, a_body, an_ender, an_item_end, CasesSo, cases_so, one_case, case_turn, a_case_head, a_case, item_end}
+use Rattle.shgrammar.specs.Commands.{pick, is_newline_token, is_pipe, begins_word, begins_pipeline, opener_of, ItemsSoFar, items_so_far, none_waits, nothing_waits, unexpected, is_word, ends_item, falls_through, is_double_semicolon}
+use Rattle.shgrammar.specs.Lists.{ListSoFar, list_so_far, none_listed, is_blank_next, one_entry, entry_turn, remark_by, a_remark, on_line, list_turn, a_list}
+use Rattle.shgrammar.specs.Compounds.{BranchesSoFar, branches_so_far, is_closing, opener_text, closing_text, reserved_or_paren, closing, a_group, a_branch, elif_turn, an_else, an_if, a_loop, a_for_name, a_sequential_sep, Headed, word_turn, for_words, a_for_head, after_remarks, a_for, a_form, a_compound, a_function, under_name, a_case_word, begins_pattern, PatternsSoFar, a_pattern, one_pattern, pattern_turn, a_pattern_list, a_body, an_ender, an_item_end, CasesSoFar, cases_so_far, one_case, case_turn, a_case_head, a_case, item_end}
 use Rattle.shgrammar.specs.Levels.{most_open, level}
 use Rattle.shgrammar.specs.Tokens.{is_end}
 use Rattle.shgrammar.specs.Lines.{an_open_line, a_line, end_of_line}
@@ -27,7 +27,7 @@ use Rattle.shast.specs.Bodies.{filled_row}
 use Rattle.shast.proofs.Going.{row_filled}
 use Rattle.shast.proofs.FilledShape.{shape_filled}
 use Rattle.shast.proofs.OpenSame.{filled_spelling}
-use Rattle.shgrammar.specs.Scripts.{AScript, SoFar, Lines, line_ended, last_line, faulty, Passes, nothing_yet}
+use Rattle.shgrammar.specs.Scripts.{AScript, LinesSoFar, Lines, line_ended, last_line, faulty, Passes, nothing_yet}
 use Rattle.shgrammar.specs.declared.edition.Edition.{Edition}
 use Rattle.shgrammar.specs.declared.token.Token.{Token}
 use Rattle.std.proofs.lemmas.Bool.{or_parts}
@@ -90,31 +90,31 @@ module _ {B : List ℕ} {g : Given} {stands : g.text ≡ drop g.offset B} {inner
 
   -- Each turn adds the tokens that it passes to those that the list so far spells.
 
-  abbrev spelled_list : ListSo → Tokens
+  abbrev spelled_list : ListSoFar → Tokens
   spelled_list l = spelling (shape_of B (entries_of l.list.entries))
 
   -- a step that goes on, or ends, by a test
-  step_grows : (l m : ListSo) (on : Bool) (k : Tokens) → spelled_list m ≡ spelled_list l ++ k →
+  step_grows : (l m : ListSoFar) (on : Bool) (k : Tokens) → spelled_list m ≡ spelled_list l ++ k →
       Grows g spelled_list l (step_if on m) k
   step_grows l m on k so = ap spelled_list (held_if on m) ∙ so
 
-  pass_one_entry : (l : ListSo) (s : State) → Passing g (one_entry inner l) (Grows g spelled_list l) s
+  pass_one_entry : (l : ListSoFar) (s : State) → Passing g (one_entry inner l) (Grows g spelled_list l) s
   unfolding one_entry
   pass_one_entry l s =
       pass_then g (pass_entry fine _ l.next s) (λ e t k so. pass_pushed g (λ u. pass_give g
       (step_grows l _ (is_some e.parted) _
       (entries_last B l.list.entries e.entry ∙ ap (λ z. spelled_list l ++ z) (sym so ∙ sym (append-nil k))))))
 
-  pass_entry_turn : (l : ListSo) (s : State) → Passing g (entry_turn inner l) (Grows g spelled_list l) s
+  pass_entry_turn : (l : ListSoFar) (s : State) → Passing g (entry_turn inner l) (Grows g spelled_list l) s
   unfolding entry_turn
   pass_entry_turn l s = pass_pick g (begins_pipeline l.next.token) (pass_one_entry l s)
       (pass_give g (grows_none g spelled_list l))
 
   -- what a list has so far, and the tokens passed since l
-  abbrev Since : ListSo → ListSo → Tokens → Type 0
+  abbrev Since : ListSoFar → ListSoFar → Tokens → Type 0
   Since l m k = spelled_list m ≡ spelled_list l ++ k
 
-  pass_remark : (l : ListSo) (s : State) → Passing g (a_remark l) (Since l) s
+  pass_remark : (l : ListSoFar) (s : State) → Passing g (a_remark l) (Since l) s
   unfolding a_remark
   pass_remark l s = pass_on g (silent_comment g l.next s) (λ x t. by_comment x t)
     where
@@ -123,14 +123,14 @@ module _ {B : List ℕ} {g : Given} {stands : g.text ≡ drop g.offset B} {inner
           (λ u. pass_give g (entries_last B l.list.entries (entry (remark c) false (is_blank_next l.list) None)))
       by_comment (None, n) t = pass_give g (grows_none g spelled_list l)
 
-  pass_on_line : (l : ListSo) (s : State) → Passing g (on_line inner l) (Since l) s
+  pass_on_line : (l : ListSoFar) (s : State) → Passing g (on_line inner l) (Since l) s
   unfolding on_line
   pass_on_line l s =
       pass_then g (pass_many g spelled_list (entry_turn inner) pass_entry_turn l s)
       (λ m t k so. pass_so g (pass_remark m t)
       (λ x j is. is ∙ ap (λ z. z ++ j) so ∙ append_assoc (spelled_list l) k j))
 
-  pass_list_turn : (l : ListSo) (s : State) → Passing g (list_turn inner l) (Grows g spelled_list l) s
+  pass_list_turn : (l : ListSoFar) (s : State) → Passing g (list_turn inner l) (Grows g spelled_list l) s
   unfolding list_turn
   pass_list_turn l s = pass_then g (pass_on_line l s)
       (λ m t k so. pass_on g (silent_newline g m.next t)
@@ -139,7 +139,7 @@ module _ {B : List ℕ} {g : Given} {stands : g.text ≡ drop g.offset B} {inner
   pass_list : (n : Next) (s : State) → Passing g (a_list inner n) (Spells (λ x. spelling (shape_of B x.0))) s
   unfolding a_list
   pass_list n s =
-      pass_then g (pass_many g spelled_list (list_turn inner) pass_list_turn (list_so (none_listed false) n) s)
+      pass_then g (pass_many g spelled_list (list_turn inner) pass_list_turn (list_so_far (none_listed false) n) s)
       (λ l t k so. pass_pick g l.list.commands (pass_give g (append-nil k ∙ sym so))
       (pass_unexpected g inner l.next t))
 
@@ -172,10 +172,10 @@ module _ {B : List ℕ} {g : Given} {stands : g.text ≡ drop g.offset B} {inner
       pass_then g (pass_list n s) (λ c t k is. pass_then g (pass_closing closings.Then c.1 t)
       (λ x u l so. pass_last g (pass_list x.1 u) (λ b m other. rw (is, so, other) refl)))
 
-  abbrev spelled_branches : Branched → Tokens
+  abbrev spelled_branches : BranchesSoFar → Tokens
   spelled_branches b = spell_branches (shape_of_branches B (branches_of b.branches))
 
-  pass_elif : (b : Branched) (s : State) → Passing g (elif_turn inner b) (Grows g spelled_branches b) s
+  pass_elif : (b : BranchesSoFar) (s : State) → Passing g (elif_turn inner b) (Grows g spelled_branches b) s
   unfolding elif_turn
   pass_elif b s =
       pass_pick g (is_closing closings.Elif b.next.token)
@@ -198,7 +198,7 @@ module _ {B : List ℕ} {g : Given} {stands : g.text ≡ drop g.offset B} {inner
   unfolding an_if
   pass_if n s =
       pass_then g (pass_branch n s) (λ f t k1 one.
-      pass_then g (pass_many g spelled_branches (elif_turn inner) pass_elif (branched [] f.1) t) (λ b u k2 two.
+      pass_then g (pass_many g spelled_branches (elif_turn inner) pass_elif (branches_so_far [] f.1) t) (λ b u k2 two.
       pass_then g (pass_else b.next u) (λ e v k3 three.
       pass_last g (pass_closing closings.Fi e.1 v)
       (λ c k4 four. rw (one, ← two, three, four)
@@ -241,7 +241,7 @@ module _ {B : List ℕ} {g : Given} {stands : g.text ≡ drop g.offset B} {inner
   abbrev HeadSpelled : Headed → Tokens → Type 0
   HeadSpelled h k = k ≡ spell_for_words (shape_of_for_words B h.words)
 
-  pass_word_turn : (i : Items) (s : State) → Passing g (word_turn inner i) (Grows g (spelled_items B) i) s
+  pass_word_turn : (i : ItemsSoFar) (s : State) → Passing g (word_turn inner i) (Grows g (spelled_items B) i) s
   unfolding word_turn
   pass_word_turn i s = pass_pick g (is_word i.next.token) (pass_item fine i Suffix s)
       (pass_give g (grows_none g (spelled_items B) i))
@@ -251,7 +251,7 @@ module _ {B : List ℕ} {g : Given} {stands : g.text ≡ drop g.offset B} {inner
   pass_for_words cs s =
       pass_then g (pass_reserved_or_paren (closing_text closings.In) false _ s)
       (λ i t k is. pass_then g (pass_many g (spelled_items B) (word_turn inner) pass_word_turn
-      (so_many [] Suffix i.1) t) (λ ws u l so.
+      (items_so_far [] Suffix i.1) t) (λ ws u l so.
       pass_on g (silent_sep cs ws.next u) (λ x v. pass_give g (rw (is, append-nil l, ← so) refl))))
 
   pass_for_head : (n : Next) (s : State) → Passing g (a_for_head inner n) HeadSpelled s
@@ -290,7 +290,7 @@ module _ {B : List ℕ} {g : Given} {stands : g.text ≡ drop g.offset B} {inner
   abbrev spelled_row : Row AWord → Tokens
   spelled_row ws = spell_patterns (shape_of_patterns B (patterns_of ws))
 
-  abbrev spelled_patterns : Patterned → Tokens
+  abbrev spelled_patterns : PatternsSoFar → Tokens
   spelled_patterns p = spelled_row p.patterns
 
   pass_pattern : (ws : Row AWord) (s : State) →
@@ -301,7 +301,7 @@ module _ {B : List ℕ} {g : Given} {stands : g.text ≡ drop g.offset B} {inner
       (λ w t k so. pass_pushed g (λ u. pass_on g (silent_next g Suffix u) (λ n v. pass_give g
       (patterns_last B ws w ∙ ap (λ z. spelled_row ws ++ (codes "|" ∷ z)) (sym so ∙ sym (append-nil k))))))
 
-  pass_one_pattern : (p : Patterned) (s : State) →
+  pass_one_pattern : (p : PatternsSoFar) (s : State) →
       Passing g (one_pattern inner p.patterns) (Grows g spelled_patterns p) s
   unfolding one_pattern
   pass_one_pattern p s =
@@ -309,7 +309,7 @@ module _ {B : List ℕ} {g : Given} {stands : g.text ≡ drop g.offset B} {inner
       pass_pick g (begins_word n.token) (pass_last g (pass_pattern p.patterns u) (λ q l so. rw is so))
       (pass_unexpected g inner n u)))
 
-  pass_pattern_turn : (p : Patterned) (s : State) → Passing g (pattern_turn inner p) (Grows g spelled_patterns p) s
+  pass_pattern_turn : (p : PatternsSoFar) (s : State) → Passing g (pattern_turn inner p) (Grows g spelled_patterns p) s
   unfolding pattern_turn
   pass_pattern_turn p s = pass_pick g (is_pipe p.next.token) (pass_one_pattern p s)
       (pass_give g (grows_none g spelled_patterns p))
@@ -328,7 +328,7 @@ module _ {B : List ℕ} {g : Given} {stands : g.text ≡ drop g.offset B} {inner
   pass_body : (n : Next) (s : State) → Passing g (a_body inner n) (Spells spelled_list) s
   unfolding a_body
   pass_body n s = pass_so g (pass_many g spelled_list (list_turn inner) pass_list_turn
-      (list_so (none_listed false) n) s) (λ l k so. sym so)
+      (list_so_far (none_listed false) n) s) (λ l k so. sym so)
 
   -- nothing but an ender falls through
   no_ender : (t : Token) → ends_item t ≡ false → spell_falls (falls_through t) ≡ []
@@ -348,10 +348,10 @@ module _ {B : List ℕ} {g : Given} {stands : g.text ≡ drop g.offset B} {inner
       pass_ends false e = pass_pick g (is_closing closings.Esac n.token) (pass_give g (sym (no_ender n.token e)))
           (pass_unexpected g inner n s)
 
-  abbrev spelled_cases : CasesSo → Tokens
+  abbrev spelled_cases : CasesSoFar → Tokens
   spelled_cases c = spell_cases (shape_of_cases B (cases_of c.items))
 
-  pass_one_case : (c : CasesSo) (s : State) → Passing g (one_case inner c) (Grows g spelled_cases c) s
+  pass_one_case : (c : CasesSoFar) (s : State) → Passing g (one_case inner c) (Grows g spelled_cases c) s
   unfolding one_case
   pass_one_case c s =
       pass_on g (pass_see g) (λ p t. pass_on g (silent_bracket g c.next t)
@@ -364,7 +364,7 @@ module _ {B : List ℕ} {g : Given} {stands : g.text ≡ drop g.offset B} {inner
       (λ q. spell_first_pattern (shape_of_patterns B (patterns_of ps.patterns)) ++ (codes ")" ∷ q))
       (ap (λ q. spelling (shape_of B (entries_of b.list.entries)) ++ q) (sym (append-nil _)))))))))))))
 
-  pass_case_turn : (c : CasesSo) (s : State) → Passing g (case_turn inner c) (Grows g spelled_cases c) s
+  pass_case_turn : (c : CasesSoFar) (s : State) → Passing g (case_turn inner c) (Grows g spelled_cases c) s
   unfolding case_turn
   pass_case_turn c s = pass_pick g (is_closing closings.Esac c.next.token)
       (pass_give g (grows_none g spelled_cases c)) (pass_one_case c s)
@@ -383,7 +383,8 @@ module _ {B : List ℕ} {g : Given} {stands : g.text ≡ drop g.offset B} {inner
   unfolding a_case
   pass_case n s =
       pass_then g (pass_case_head n s) (λ h t k1 one.
-      pass_then g (pass_many g spelled_cases (case_turn inner) pass_case_turn (cases_so [] h.1 h.2) t) (λ c u k2 two.
+      pass_then g (pass_many g spelled_cases (case_turn inner) pass_case_turn (cases_so_far [] h.1 h.2) t)
+      (λ c u k2 two.
       pass_last g (pass_closing closings.Esac c.next u) (λ e k3 three.
       let word = spell_word (shape_of_word B h.0) in
       rw (one, ← two, three)
@@ -448,7 +449,7 @@ module _ {B : List ℕ} {g : Given} {stands : g.text ≡ drop g.offset B} {inner
       Passing g (an_open_line inner blank) (Spells (λ x. spelling (shape_of B (entries_of x.0)))) s
   unfolding an_open_line
   pass_open_line blank s =
-      pass_on g (silent_next g Command s) (λ n t. pass_then g (pass_on_line (list_so (none_listed blank) n) t)
+      pass_on g (silent_next g Command s) (λ n t. pass_then g (pass_on_line (list_so_far (none_listed blank) n) t)
       (λ l u k so. pass_on g (silent_end l.next u) (λ newline v. pass_give g (append-nil k ∙ sym so))))
 
   -- bodies are no tokens
@@ -488,7 +489,8 @@ module _ (edition : Edition) (B : List ℕ) where
       (pass_line (pass_level B g refl most_open) blank (standing 0)).passing
       (Ok ((es, newline), t)) k part
 
-  lines_spelled : (so : SoFar) (p : ℕ) (s : AScript) (k : Row Spelled) → Lines edition B so p s k → s.fault ≡ None →
+  lines_spelled : (so : LinesSoFar) (p : ℕ) (s : AScript) (k : Row Spelled) → Lines edition B so p s k → s.fault ≡ None
+      →
       spelling (shape_of B s.entries) ≡ spelling (shape_of B (entries_of so.entries)) ++ k
   lines_spelled so p s m (line_ended {l = l} es t k part rest) none =
       lines_spelled _ _ s l rest none

@@ -13,7 +13,7 @@ use Rattle.shgrammar.specs.Comments.{span}
 use Rattle.shgrammar.specs.Sights.{Given, State, Sight, Move}
 use Rattle.shgrammar.specs.Form.{change, with_bytes, a_level, Changed, changes, cannot, WithBytes, with_its_bytes, without_bytes, OwnLevel, level_read, level_stops, Spelled, Read, Step, again, done, step_if, Form, give, see, move, push, stop, both, Telling, by, tell, token, many, Just, just, Halts, halted, Then, and_then, or_stops, OneToken, whole, broken_off, Turns, last, rests, more, halts, raw, may}
 use Rattle.shgrammar.specs.Words.{Inner, a_word}
-use Rattle.shgrammar.specs.Commands.{pick, next_token, is_newline_token, is_semicolon, a_semicolon, unexpected, comment_by, a_comment, a_newline, with_comment, JoinSo, join_turn, a_join, is_paren}
+use Rattle.shgrammar.specs.Commands.{pick, next_token, is_newline_token, is_semicolon, a_semicolon, unexpected, comment_by, a_comment, a_newline, with_comment, JoinSoFar, join_turn, a_join, is_paren}
 use Rattle.shgrammar.specs.Compounds.{a_linebreak, an_open_bracket, an_ender}
 use Rattle.shgrammar.specs.declared.fault.Fault.{Fault}
 use Rattle.shgrammar.specs.HereDocuments.{Change, changed, own_level}
@@ -249,7 +249,7 @@ module _ (g : Given) where
   silent_kept cs (Some c) s = record { passing = just_of Silent refl }
   silent_kept cs None s = pass_give refl
 
-  silent_join_turn : (j : JoinSo) (s : State) → Passing (join_turn j) Silent s
+  silent_join_turn : (j : JoinSoFar) (s : State) → Passing (join_turn j) Silent s
   unfolding join_turn
   silent_join_turn j s = pass_on (silent_comment j.next s)
       (λ c t. pass_on (silent_kept j.join.comments c.0 t)

@@ -25,9 +25,9 @@ use Rattle.shgrammar.specs.Tokens.{begins_assignment, first_word, is_number, res
 use Rattle.shgrammar.specs.Sights.{Given, State}
 use Rattle.shgrammar.specs.Form.{Spelled, Form, many, step_if}
 use Rattle.shgrammar.specs.Words.{Inner}
-use Rattle.shgrammar.specs.Commands.{next_token, is_newline_token, is_semicolon, a_semicolon, is_pipe, is_bang, begins_simple, begins_word, begins_redirect, begins_pipeline, opener_of, compound_by, and_or_operator_of, Items, so_many, breaks, after_word, one_redirect, after_redirect, redirect_turn, with_redirect_list, an_item, item_by, item_turn, a_simple, comment_by, a_comment, a_newline, with_comment, JoinSo, join_turn, a_join, a_command, a_bang, Piped, piped, one_command, pipe_turn, a_pipeline, Joined, joined_so, one_pipeline, joined_by, and_or_turn, an_and_or, separator_of, separator_by, a_separator, an_entry, is_paren, is_word, a_word_command, ends_item, falls_through}
-use Rattle.shgrammar.specs.Lists.{ListSo, list_so, none_listed, one_entry, entry_turn, remark_by, a_remark, on_line, list_turn, a_list}
-use Rattle.shgrammar.specs.Compounds.{Branched, branched, Closed, is_closing, is_open_paren, is_close_paren, reserved_or_paren, closing, a_branch, elif_turn, an_else, an_if, a_loop, a_group, a_for_name, a_linebreak, a_sequential_sep, Headed, word_turn, for_words, a_for_head, a_for, a_form, a_compound, a_function, a_case_word, begins_pattern, Patterned, a_pattern, one_pattern, pattern_turn, a_pattern_list, a_body, ItemEnd, an_ender, an_item_end, CasesSo, cases_so, one_case, case_turn, a_case_head, a_case}
+use Rattle.shgrammar.specs.Commands.{next_token, is_newline_token, is_semicolon, a_semicolon, is_pipe, is_bang, begins_simple, begins_word, begins_redirect, begins_pipeline, opener_of, compound_by, and_or_operator_of, ItemsSoFar, items_so_far, breaks, after_word, one_redirect, after_redirect, redirect_turn, with_redirect_list, an_item, item_by, item_turn, a_simple, comment_by, a_comment, a_newline, with_comment, JoinSoFar, join_turn, a_join, a_command, a_bang, PipesSoFar, pipes_so_far, one_command, pipe_turn, a_pipeline, AndOrSoFar, and_or_so_far, one_pipeline, joined_by, and_or_turn, an_and_or, separator_of, separator_by, a_separator, an_entry, is_paren, is_word, a_word_command, ends_item, falls_through}
+use Rattle.shgrammar.specs.Lists.{ListSoFar, list_so_far, none_listed, one_entry, entry_turn, remark_by, a_remark, on_line, list_turn, a_list}
+use Rattle.shgrammar.specs.Compounds.{BranchesSoFar, branches_so_far, Closed, is_closing, is_open_paren, is_close_paren, reserved_or_paren, closing, a_branch, elif_turn, an_else, an_if, a_loop, a_group, a_for_name, a_linebreak, a_sequential_sep, Headed, word_turn, for_words, a_for_head, a_for, a_form, a_compound, a_function, a_case_word, begins_pattern, PatternsSoFar, a_pattern, one_pattern, pattern_turn, a_pattern_list, a_body, ItemEnd, an_ender, an_item_end, CasesSoFar, cases_so_far, one_case, case_turn, a_case_head, a_case}
 use Rattle.shgrammar.specs.Levels.{level}
 use Rattle.shgrammar.proofs.Shown.{blanks_still}
 use Rattle.shgrammar.proofs.Holds.{Tells, Turned, tells_then, tells_many, after, gives, picked, pushed_on, sees, stops}
@@ -89,7 +89,7 @@ module _ (g : Given) where
 
   -- After comments and newlines, too, the token that is handed on begins where the reading stands.
 
-  abbrev JoinShown : JoinSo → State → Type 0
+  abbrev JoinShown : JoinSoFar → State → Type 0
   JoinShown j t = Begins j.next t
 
   -- nothing moves where a comment is kept
@@ -97,11 +97,11 @@ module _ (g : Given) where
   kept_still cs (Some c) s = record { told = refl }
   kept_still cs None s = gives refl
 
-  join_step : (p : Bool) (j : JoinSo) (t : State) → Begins j.next t → Turned Whole g JoinShown (step_if p j) t
+  join_step : (p : Bool) (j : JoinSoFar) (t : State) → Begins j.next t → Turned Whole g JoinShown (step_if p j) t
   join_step true j t so = so
   join_step false j t so = so
 
-  shown_join_turn : (j : JoinSo) (s : State) → Begins j.next s → N (join_turn j) (Turned Whole g JoinShown) s
+  shown_join_turn : (j : JoinSoFar) (s : State) → Begins j.next s → N (join_turn j) (Turned Whole g JoinShown) s
   unfolding join_turn
   shown_join_turn j s so =
       tells_then Whole g (shown_comment j.next s so) (λ c t one. tells_then Whole g (kept_still j.join.comments c.0 t)
@@ -129,7 +129,7 @@ module _ (g : Given) where
     pub function : (name : Span) (s : State) → N (inner.function name) HandsOn s
 
   module _ (inner : Inner) (fine : Fine inner) where
-    abbrev ItemsShown : Items → State → Type 0
+    abbrev ItemsShown : ItemsSoFar → State → Type 0
     ItemsShown i t = Begins i.next t
 
     shown_redirect : (broken : Bool) (position : Position) (is : Row AnItem) (n : Next) (s : State) →
@@ -141,7 +141,7 @@ module _ (g : Given) where
         (λ h a. after (λ js y. tells_then Whole g (shown_next position y)
         (λ m z good. gives good)))))))
 
-    shown_item_by : (i : Items) (o : Option Position) (s : State) → Begins i.next s →
+    shown_item_by : (i : ItemsSoFar) (o : Option Position) (s : State) → Begins i.next s →
         N (item_by inner i o) (Turned Whole g ItemsShown) s
     unfolding an_item
     shown_item_by i (Some position) s so =
@@ -149,16 +149,17 @@ module _ (g : Given) where
     shown_item_by i None s so = picked (begins_redirect i.next.token)
         (shown_redirect (breaks i) (after_redirect i.position) i.items i.next s) (gives so)
 
-    shown_item_turn : (i : Items) (s : State) → Begins i.next s → N (item_turn inner i) (Turned Whole g ItemsShown) s
+    shown_item_turn : (i : ItemsSoFar) (s : State) → Begins i.next s →
+        N (item_turn inner i) (Turned Whole g ItemsShown) s
     unfolding item_turn
     shown_item_turn i s so = shown_item_by i (after_word i.next.token) s so
 
-    shown_simple : (i : Items) (s : State) → Begins i.next s → N (a_simple inner i) HandsOn s
+    shown_simple : (i : ItemsSoFar) (s : State) → Begins i.next s → N (a_simple inner i) HandsOn s
     unfolding a_simple
     shown_simple i s so = tells_then Whole g (tells_many Whole g (item_turn inner) ItemsShown shown_item_turn i s so)
         (λ j t good. gives good)
 
-    shown_redirect_turn : (i : Items) (s : State) → Begins i.next s →
+    shown_redirect_turn : (i : ItemsSoFar) (s : State) → Begins i.next s →
         N (redirect_turn inner i) (Turned Whole g ItemsShown) s
     unfolding redirect_turn
     shown_redirect_turn i s so = picked (begins_redirect i.next.token)
@@ -169,7 +170,7 @@ module _ (g : Given) where
     unfolding with_redirect_list
     shown_with_redirect_list c s so =
         tells_then Whole g (tells_many Whole g (redirect_turn inner) ItemsShown shown_redirect_turn
-        (so_many [] Command c.1) s so) (λ r t good. gives good)
+        (items_so_far [] Command c.1) s so) (λ r t good. gives good)
 
     shown_compound_by : (n : Next) (o : Option Opener) (s : State) → N (compound_by inner n o) HandsOn s
     shown_compound_by n (Some o) s = tells_then Whole g (fine.compound o s) shown_with_redirect_list
@@ -180,13 +181,13 @@ module _ (g : Given) where
     shown_word_command s =
         after (λ good t. after (λ w u. tells_then Whole g (shown_next Suffix u)
         (λ n v so. picked (is_paren n.token) (picked good (fine.function (word_span w) v) (record { told = tt }))
-        (pushed_on (shown_simple (so_many _ Suffix n) v so)))))
+        (pushed_on (shown_simple (items_so_far _ Suffix n) v so)))))
 
     shown_command : (n : Next) (s : State) → Begins n s → N (a_command inner n) HandsOn s
     unfolding a_command
     shown_command n s so =
         picked (is_word n.token) (shown_word_command s)
-        (picked (begins_simple n.token) (shown_simple (so_many [] Command n) s so)
+        (picked (begins_simple n.token) (shown_simple (items_so_far [] Command n) s so)
         (shown_compound_by n (opener_of n.token) s))
 
     shown_bang : (n : Next) (s : State) → Begins n s → N (a_bang n) HandsOn s
@@ -195,16 +196,17 @@ module _ (g : Given) where
         (after (λ x t. tells_then Whole g (shown_next Command t) (λ m u good. gives good)))
         (gives so)
 
-    abbrev PipedShown : Piped → State → Type 0
-    PipedShown p t = Begins p.next t
+    abbrev PipesShown : PipesSoFar → State → Type 0
+    PipesShown p t = Begins p.next t
 
-    shown_one_command : (p : Piped) (s : State) → N (one_command inner p) (Turned Whole g PipedShown) s
+    shown_one_command : (p : PipesSoFar) (s : State) → N (one_command inner p) (Turned Whole g PipesShown) s
     unfolding one_command
     shown_one_command p s =
         after (λ x t. tells_then Whole g (shown_join p.next.broken t)
         (λ j u one. tells_then Whole g (shown_command j.1 u one) (λ c v good. pushed_on (gives good))))
 
-    shown_pipe_turn : (p : Piped) (s : State) → Begins p.next s → N (pipe_turn inner p) (Turned Whole g PipedShown) s
+    shown_pipe_turn : (p : PipesSoFar) (s : State) → Begins p.next s →
+        N (pipe_turn inner p) (Turned Whole g PipesShown) s
     unfolding pipe_turn
     shown_pipe_turn p s so = picked (is_pipe p.next.token) (shown_one_command p s) (gives so)
 
@@ -213,14 +215,14 @@ module _ (g : Given) where
     shown_pipeline n s so =
         tells_then Whole g (shown_bang n s so) (λ b t one. tells_then Whole g (shown_command b.1 t one)
         (λ c u two. tells_then Whole g
-        (tells_many Whole g (pipe_turn inner) PipedShown shown_pipe_turn (piped [] c.1) u two)
+        (tells_many Whole g (pipe_turn inner) PipesShown shown_pipe_turn (pipes_so_far [] c.1) u two)
         (λ p v good. gives good)))
 
-    abbrev JoinedShown : Joined → State → Type 0
-    JoinedShown a t = Begins a.next t
+    abbrev AndOrShown : AndOrSoFar → State → Type 0
+    AndOrShown a t = Begins a.next t
 
-    shown_joined_by : (a : Joined) (o : Option AndOrOperator) (s : State) → Begins a.next s →
-        N (joined_by inner a o) (Turned Whole g JoinedShown) s
+    shown_joined_by : (a : AndOrSoFar) (o : Option AndOrOperator) (s : State) → Begins a.next s →
+        N (joined_by inner a o) (Turned Whole g AndOrShown) s
     unfolding one_pipeline
     shown_joined_by a (Some o) s so =
         after (λ x t. tells_then Whole g (shown_join a.next.broken t)
@@ -228,8 +230,8 @@ module _ (g : Given) where
         (λ p v good. pushed_on (gives good))))
     shown_joined_by a None s so = gives so
 
-    shown_and_or_turn : (a : Joined) (s : State) → Begins a.next s →
-        N (and_or_turn inner a) (Turned Whole g JoinedShown) s
+    shown_and_or_turn : (a : AndOrSoFar) (s : State) → Begins a.next s →
+        N (and_or_turn inner a) (Turned Whole g AndOrShown) s
     unfolding and_or_turn
     shown_and_or_turn a s so = shown_joined_by a (and_or_operator_of a.next.token) s so
 
@@ -238,7 +240,7 @@ module _ (g : Given) where
     shown_and_or n s so =
         tells_then Whole g (shown_pipeline n s so)
         (λ p t one. tells_then Whole g
-        (tells_many Whole g (and_or_turn inner) JoinedShown shown_and_or_turn (joined_so [] p.1) t one)
+        (tells_many Whole g (and_or_turn inner) AndOrShown shown_and_or_turn (and_or_so_far [] p.1) t one)
         (λ a u good. gives good))
 
     shown_entry : (blank : Bool) (n : Next) (s : State) → Begins n s →
@@ -253,33 +255,35 @@ module _ (g : Given) where
 
     -- Each row of a list hands on the token after it, which may be what ends the list.
 
-    abbrev ListShown : ListSo → State → Type 0
+    abbrev ListShown : ListSoFar → State → Type 0
     ListShown l t = Begins l.next t
 
-    list_step : (p : Bool) (l : ListSo) (t : State) → Begins l.next t → Turned Whole g ListShown (step_if p l) t
+    list_step : (p : Bool) (l : ListSoFar) (t : State) → Begins l.next t → Turned Whole g ListShown (step_if p l) t
     list_step true l t so = so
     list_step false l t so = so
 
-    shown_one_entry : (l : ListSo) (s : State) → Begins l.next s → N (one_entry inner l) (Turned Whole g ListShown) s
+    shown_one_entry : (l : ListSoFar) (s : State) → Begins l.next s → N (one_entry inner l) (Turned Whole g ListShown) s
     unfolding one_entry
     shown_one_entry l s so = tells_then Whole g (shown_entry _ l.next s so)
         (λ e t good. pushed_on (gives (list_step (is_some e.parted) _ t good)))
 
-    shown_entry_turn : (l : ListSo) (s : State) → Begins l.next s → N (entry_turn inner l) (Turned Whole g ListShown) s
+    shown_entry_turn : (l : ListSoFar) (s : State) → Begins l.next s →
+        N (entry_turn inner l) (Turned Whole g ListShown) s
     unfolding entry_turn
     shown_entry_turn l s so = picked (begins_pipeline l.next.token) (shown_one_entry l s so) (gives so)
 
-    shown_remark_by : (l : ListSo) (x : Option Span × Next) (s : State) → Begins x.1 s → N (remark_by l x) ListShown s
+    shown_remark_by : (l : ListSoFar) (x : Option Span × Next) (s : State) → Begins x.1 s →
+        N (remark_by l x) ListShown s
     shown_remark_by l (Some c, n) s so = pushed_on (gives so)
     shown_remark_by l (None, n) s so = gives so
 
-    pub shown_on_line : (l : ListSo) (s : State) → Begins l.next s → N (on_line inner l) ListShown s
+    pub shown_on_line : (l : ListSoFar) (s : State) → Begins l.next s → N (on_line inner l) ListShown s
     unfolding on_line a_remark
     shown_on_line l s so =
         tells_then Whole g (tells_many Whole g (entry_turn inner) ListShown shown_entry_turn l s so)
         (λ m t one. tells_then Whole g (shown_comment m.next t one) (λ x u good. shown_remark_by m x u good))
 
-    pub shown_list_turn : (l : ListSo) (s : State) → Begins l.next s →
+    pub shown_list_turn : (l : ListSoFar) (s : State) → Begins l.next s →
         N (list_turn inner l) (Turned Whole g ListShown) s
     unfolding list_turn
     shown_list_turn l s so = tells_then Whole g (shown_on_line l s so)
@@ -288,9 +292,9 @@ module _ (g : Given) where
 
     -- what stands before the end of a list
     pub shown_lines : (n : Next) (s : State) → Begins n s →
-        N (many (list_turn inner) (list_so (none_listed false) n)) ListShown s
+        N (many (list_turn inner) (list_so_far (none_listed false) n)) ListShown s
     shown_lines n s so = tells_many Whole g (list_turn inner) ListShown shown_list_turn
-        (list_so (none_listed false) n) s so
+        (list_so_far (none_listed false) n) s so
 
     shown_list : (n : Next) (s : State) → Begins n s → N (a_list inner n) HandsOn s
     unfolding a_list
@@ -319,10 +323,11 @@ module _ (g : Given) where
         (λ c t one. tells_then Whole g (shown_closing closings.Then c.1 t)
         (λ k u two. tells_then Whole g (shown_list k.1 u two) (λ b v good. gives good)))
 
-    abbrev BranchedShown : Branched → State → Type 0
-    BranchedShown b t = Begins b.next t
+    abbrev BranchesShown : BranchesSoFar → State → Type 0
+    BranchesShown b t = Begins b.next t
 
-    shown_elif : (b : Branched) (s : State) → Begins b.next s → N (elif_turn inner b) (Turned Whole g BranchedShown) s
+    shown_elif : (b : BranchesSoFar) (s : State) → Begins b.next s →
+        N (elif_turn inner b) (Turned Whole g BranchesShown) s
     unfolding elif_turn
     shown_elif b s so =
         picked (is_closing closings.Elif b.next.token)
@@ -346,7 +351,7 @@ module _ (g : Given) where
     shown_if n s so =
         tells_then Whole g (shown_branch n s so)
         (λ f t one. tells_then Whole g
-        (tells_many Whole g (elif_turn inner) BranchedShown shown_elif (branched [] f.1) t one)
+        (tells_many Whole g (elif_turn inner) BranchesShown shown_elif (branches_so_far [] f.1) t one)
         (λ b u two. tells_then Whole g (shown_else b.next u two)
         (λ e v three. tells_then Whole g (shown_closing closings.Fi e.1 v) (λ c w good. gives good))))
 
@@ -381,7 +386,8 @@ module _ (g : Given) where
     abbrev HeadShown : Headed → State → Type 0
     HeadShown h t = Begins h.next t
 
-    shown_word_turn : (i : Items) (s : State) → Begins i.next s → N (word_turn inner i) (Turned Whole g ItemsShown) s
+    shown_word_turn : (i : ItemsSoFar) (s : State) → Begins i.next s →
+        N (word_turn inner i) (Turned Whole g ItemsShown) s
     unfolding word_turn an_item
     shown_word_turn i s so = picked (is_word i.next.token)
         (after (λ w t. after (λ is u. tells_then Whole g (shown_next Suffix u) (λ n v good. gives good))))
@@ -392,7 +398,7 @@ module _ (g : Given) where
     shown_for_words cs s =
         tells_then Whole g (shown_reserved_or_paren _ false _ s)
         (λ i t one. tells_then Whole g
-        (tells_many Whole g (word_turn inner) ItemsShown shown_word_turn (so_many [] Suffix i.1) t one)
+        (tells_many Whole g (word_turn inner) ItemsShown shown_word_turn (items_so_far [] Suffix i.1) t one)
         (λ ws u two. tells_then Whole g (shown_sep cs ws.next u two) (λ l v good. gives good)))
 
     shown_for_head : (n : Next) (s : State) → Begins n s → N (a_for_head inner n) HeadShown s
@@ -416,31 +422,31 @@ module _ (g : Given) where
     shown_case_word n s = picked (begins_word n.token)
         (after (λ w t. tells_then Whole g (shown_next Command t) (λ m u good. gives good))) (stops inner n)
 
-    abbrev PatternedShown : Patterned → State → Type 0
-    PatternedShown p t = Begins p.next t
+    abbrev PatternsShown : PatternsSoFar → State → Type 0
+    PatternsShown p t = Begins p.next t
 
-    shown_pattern : (ws : Row AWord) (s : State) → N (a_pattern inner ws) PatternedShown s
+    shown_pattern : (ws : Row AWord) (s : State) → N (a_pattern inner ws) PatternsShown s
     unfolding a_pattern
     shown_pattern ws s = after (λ w t. pushed_on
         (tells_then Whole g (shown_next Suffix t) (λ n u good. gives good)))
 
-    shown_one_pattern : (ws : Row AWord) (s : State) → N (one_pattern inner ws) (Turned Whole g PatternedShown) s
+    shown_one_pattern : (ws : Row AWord) (s : State) → N (one_pattern inner ws) (Turned Whole g PatternsShown) s
     unfolding one_pattern
     shown_one_pattern ws s =
         after (λ x t. after (λ n u. picked (begins_word n.token)
         (tells_then Whole g (shown_pattern ws u) (λ p v good. gives good)) (stops inner n)))
 
-    shown_pattern_turn : (p : Patterned) (s : State) → Begins p.next s →
-        N (pattern_turn inner p) (Turned Whole g PatternedShown) s
+    shown_pattern_turn : (p : PatternsSoFar) (s : State) → Begins p.next s →
+        N (pattern_turn inner p) (Turned Whole g PatternsShown) s
     unfolding pattern_turn
     shown_pattern_turn p s so = picked (is_pipe p.next.token) (shown_one_pattern p.patterns s) (gives so)
 
-    shown_pattern_list : (n : Next) (s : State) → N (a_pattern_list inner n) PatternedShown s
+    shown_pattern_list : (n : Next) (s : State) → N (a_pattern_list inner n) PatternsShown s
     unfolding a_pattern_list
     shown_pattern_list n s =
         picked (begins_pattern n.token)
         (tells_then Whole g (shown_pattern [] s)
-        (λ p t one. tells_many Whole g (pattern_turn inner) PatternedShown shown_pattern_turn p t one))
+        (λ p t one. tells_many Whole g (pattern_turn inner) PatternsShown shown_pattern_turn p t one))
         (stops inner n)
 
     abbrev EndShown : ItemEnd → State → Type 0
@@ -458,10 +464,10 @@ module _ (g : Given) where
         picked (ends_item n.token) (shown_ender (falls_through n.token) s)
         (picked (is_closing closings.Esac n.token) (gives so) (stops inner n))
 
-    abbrev CasesShown : CasesSo → State → Type 0
+    abbrev CasesShown : CasesSoFar → State → Type 0
     CasesShown c t = Begins c.next t
 
-    shown_one_case : (c : CasesSo) (s : State) → N (one_case inner c) (Turned Whole g CasesShown) s
+    shown_one_case : (c : CasesSoFar) (s : State) → N (one_case inner c) (Turned Whole g CasesShown) s
     unfolding one_case a_body
     shown_one_case c s =
         after (λ p t. after (λ n u. tells_then Whole g (shown_pattern_list n u)
@@ -470,7 +476,8 @@ module _ (g : Given) where
         (λ b x three. tells_then Whole g (shown_item_end _ b.next x three)
         (λ e y good. pushed_on (gives good)))))))
 
-    shown_case_turn : (c : CasesSo) (s : State) → Begins c.next s → N (case_turn inner c) (Turned Whole g CasesShown) s
+    shown_case_turn : (c : CasesSoFar) (s : State) → Begins c.next s →
+        N (case_turn inner c) (Turned Whole g CasesShown) s
     unfolding case_turn
     shown_case_turn c s so = picked (is_closing closings.Esac c.next.token) (gives so) (shown_one_case c s)
 
@@ -487,7 +494,7 @@ module _ (g : Given) where
     shown_case n s =
         tells_then Whole g (shown_case_head n s)
         (λ h t one. tells_then Whole g
-        (tells_many Whole g (case_turn inner) CasesShown shown_case_turn (cases_so [] h.1 h.2) t one)
+        (tells_many Whole g (case_turn inner) CasesShown shown_case_turn (cases_so_far [] h.1 h.2) t one)
         (λ c u two. tells_then Whole g (shown_closing closings.Esac c.next u) (λ e v good. gives good)))
 
     shown_form : (o : Opener) (n : Next) (s : State) → Begins n s → N (a_form inner o n) ClosedShown s

@@ -6,7 +6,7 @@ use Rattle.shgrammar.specs.declared.fault.Fault.{Fault}
 use Rattle.shgrammar.specs.Sights.{Given, State}
 use Rattle.shgrammar.specs.Words.{Inner}
 use Rattle.shgrammar.specs.Commands.{begins_pipeline}
-use Rattle.shgrammar.specs.Lists.{ListSo, entry_turn}
+use Rattle.shgrammar.specs.Lists.{ListSoFar, entry_turn}
 use Rattle.shgrammar.specs.Form.{Form, Read, Step, again, done, ◌▸◌, leads_on, next, turns_below, turns, does, many}
 
 on_true : {X : Type 0} (c : Bool) (x y z : X) → (c ≡ true → x ≡ y) → cond c x z ≡ cond c y z
@@ -75,17 +75,18 @@ module _ {A : Type 0} (turn : A → Form (Step A)) (keep : Keep) (g : Given) whe
 
 -- ---- a line on which no entry begins
 
-no_entry : (inner : Inner) (l : ListSo) (keep : Keep) (g : Given) (s : State) → begins_pipeline l.next.token ≡ false →
+no_entry : (inner : Inner) (l : ListSoFar) (keep : Keep) (g : Given) (s : State) → begins_pipeline l.next.token ≡ false
+    →
     does (entry_turn inner l) keep g s ≡ Ok (done l, s)
 unfolding entry_turn
 no_entry inner l keep g s none = rw none refl
 
-pub no_entries : (inner : Inner) (l : ListSo) (keep : Keep) (g : Given) (s : State) →
+pub no_entries : (inner : Inner) (l : ListSoFar) (keep : Keep) (g : Given) (s : State) →
     begins_pipeline l.next.token ≡ false → does (many (entry_turn inner) l) keep g s ≡ Ok (l, s)
 no_entries inner l keep g s none = many_done (entry_turn inner) keep g l l s s (no_entry inner l keep g s none)
 
 -- the last entry of a line, where none begins after what parts it from the next
-pub last_entry : (inner : Inner) (l m : ListSo) (keep : Keep) (g : Given) (s t : State) →
+pub last_entry : (inner : Inner) (l m : ListSoFar) (keep : Keep) (g : Given) (s t : State) →
     does (entry_turn inner l) keep g s ≡ Ok (again m, t) → s.at < t.at → t.at ≤ length g.text
     → begins_pipeline m.next.token ≡ false → does (many (entry_turn inner) l) keep g s ≡ Ok (m, t)
 last_entry inner l m keep g s t one onward within none = many_again (entry_turn inner) keep g l m s t one onward within

@@ -32,14 +32,14 @@ use Rattle.shgrammar.specs.Classes.{is_blank}
 use Rattle.shgrammar.specs.Sights.{Given, given, State, standing, here, one_byte, the_digits}
 use Rattle.shgrammar.specs.HereDocuments.{own_level}
 use Rattle.shgrammar.specs.Form.{with_bytes, a_level, Spelled, Telling, Form, give, move, push, both, many, token, ends_as, does, Step, again, done, pushed, see, grows, inside}
-use Rattle.shgrammar.specs.Words.{Inner, WordSoFar, having, opened, piece_row, a_piece, contents, a_word}
-use Rattle.shgrammar.specs.Commands.{pick, is_pipe, is_bang, begins_simple, begins_word, begins_redirect, begins_pipeline, opener_of, compound_by, and_or_operator_of, breaks, Items, so_many, after_word, is_number_token, redirect_operator_of, is_strip, a_number, an_operator, operator_by, a_target, one_redirect, after_redirect, redirect_turn, with_redirect_list, as_item, an_item, item_by, item_turn, a_simple, a_bang, a_comment, comment_by, unexpected, with_comment, JoinSo, join_turn, a_join, a_command, Piped, piped, one_command, pipe_turn, a_pipeline, Joined, joined_so, one_pipeline, joined_by, and_or_turn, an_and_or, is_background, an_entry, a_word_command, is_word, is_paren, separator_of, separator_by, a_separator, past_separator, ends_item, falls_through}
-use Rattle.shgrammar.specs.Lists.{ListSo, list_so, none_listed, is_blank_next, one_entry, entry_turn, remark_by, a_remark, on_line, list_turn, a_list, Listed}
-use Rattle.shgrammar.specs.Compounds.{Branched, branched, Closed, is_closing, is_open_paren, is_close_paren, reserved_or_paren, closing, a_branch, elif_turn, an_else, an_if, a_loop, a_group, a_for_name, a_linebreak, a_sequential_sep, Headed, word_turn, for_words, a_for_head, after_remarks, a_for, a_form, held_apart, a_compound, a_function, under_name, a_case_word, begins_pattern, Patterned, a_pattern, one_pattern, pattern_turn, a_pattern_list, a_body, body_end, ItemEnd, an_ender, an_item_end, CasesSo, cases_so, one_case, case_turn, a_case_head, a_case}
+use Rattle.shgrammar.specs.Words.{Inner, WordSoFar, word_so_far, opened, piece_row, a_piece, contents, a_word}
+use Rattle.shgrammar.specs.Commands.{pick, is_pipe, is_bang, begins_simple, begins_word, begins_redirect, begins_pipeline, opener_of, compound_by, and_or_operator_of, breaks, ItemsSoFar, items_so_far, after_word, is_number_token, redirect_operator_of, is_strip, a_number, an_operator, operator_by, a_target, one_redirect, after_redirect, redirect_turn, with_redirect_list, as_item, an_item, item_by, item_turn, a_simple, a_bang, a_comment, comment_by, unexpected, with_comment, JoinSoFar, join_turn, a_join, a_command, PipesSoFar, pipes_so_far, one_command, pipe_turn, a_pipeline, AndOrSoFar, and_or_so_far, one_pipeline, joined_by, and_or_turn, an_and_or, is_background, an_entry, a_word_command, is_word, is_paren, separator_of, separator_by, a_separator, past_separator, ends_item, falls_through}
+use Rattle.shgrammar.specs.Lists.{ListSoFar, list_so_far, none_listed, is_blank_next, one_entry, entry_turn, remark_by, a_remark, on_line, list_turn, a_list, Listed}
+use Rattle.shgrammar.specs.Compounds.{BranchesSoFar, branches_so_far, Closed, is_closing, is_open_paren, is_close_paren, reserved_or_paren, closing, a_branch, elif_turn, an_else, an_if, a_loop, a_group, a_for_name, a_linebreak, a_sequential_sep, Headed, word_turn, for_words, a_for_head, after_remarks, a_for, a_form, held_apart, a_compound, a_function, under_name, a_case_word, begins_pattern, PatternsSoFar, a_pattern, one_pattern, pattern_turn, a_pattern_list, a_body, body_end, ItemEnd, an_ender, an_item_end, CasesSoFar, cases_so_far, one_case, case_turn, a_case_head, a_case}
 use Rattle.shgrammar.specs.Substitutions.{substitution_list, a_substitution, one_substitution}
 use Rattle.shgrammar.specs.Levels.{most_open, level}
 use Rattle.shgrammar.specs.Lines.{an_open_line, a_line, ALine, IsLine, line_read, line_stops, kind_of, EntryNodesWithin}
-use Rattle.shgrammar.specs.Scripts.{SoFar, the_line, with_line}
+use Rattle.shgrammar.specs.Scripts.{LinesSoFar, the_line, with_line}
 use Rattle.shgrammar.proofs.OneOutcome.{computed_is_only}
 use Rattle.shgrammar.proofs.Ahead.{past_byte_is}
 use Rattle.shgrammar.proofs.Places.{after_low, next_newline_low}
@@ -216,7 +216,8 @@ module _ (keep : Keep) (g : Given) (limit : ℕ) where
         R (contents inner mode b ss) (All (SubstFits limit)) s
     unfolding contents
     contents_fit mode b ss s so =
-        first (repeats SubstsFit (a_piece inner mode b) (piece_fits mode b) (having 0 ss) s so) (λ h t good. gives good)
+        first (repeats SubstsFit (a_piece inner mode b) (piece_fits mode b) (word_so_far 0 ss) s so)
+        (λ h t good. gives good)
 
     word_fits : (s : State) → R (a_word inner) (WordFits limit) s
     unfolding a_word
@@ -227,7 +228,7 @@ module _ (keep : Keep) (g : Given) (limit : ℕ) where
 
     -- Each row of a command: where what it has so far fits within the limit, so does what it gives.
 
-    abbrev ItemsFit : Items → Type 0
+    abbrev ItemsFit : ItemsSoFar → Type 0
     ItemsFit i = All (ItemFits limit) i.items
 
     item_fits : (position : Position) (broken : Bool) (w : AWord) → WordFits limit w →
@@ -236,7 +237,7 @@ module _ (keep : Keep) (g : Given) (limit : ℕ) where
     item_fits Prefix broken w so = fits_assign limit broken w so
     item_fits Suffix broken w so = fits_argument limit broken w so
 
-    one_item_fits : (i : Items) (position : Position) (s : State) → ItemsFit i →
+    one_item_fits : (i : ItemsSoFar) (position : Position) (s : State) → ItemsFit i →
         R (an_item inner i position) (Stepped ItemsFit) s
     unfolding an_item
     one_item_fits i position s so =
@@ -283,17 +284,17 @@ module _ (keep : Keep) (g : Given) (limit : ℕ) where
         after (λ h a. first (pushes (ItemFits limit) so (fits_redirect limit broken d.0 o.0 o.1 w.0 h one two three))
         (λ js y all. after (λ m z. gives all)))))))
 
-    item_fits_by : (i : Items) (position : Option Position) (s : State) → ItemsFit i →
+    item_fits_by : (i : ItemsSoFar) (position : Option Position) (s : State) → ItemsFit i →
         R (item_by inner i position) (Stepped ItemsFit) s
     item_fits_by i (Some position) s so = one_item_fits i position s so
     item_fits_by i None s so = picks (begins_redirect i.next.token)
         (redirect_fits (breaks i) (after_redirect i.position) i.items i.next s so) (gives so)
 
-    item_turn_fits : (i : Items) (s : State) → ItemsFit i → R (item_turn inner i) (Stepped ItemsFit) s
+    item_turn_fits : (i : ItemsSoFar) (s : State) → ItemsFit i → R (item_turn inner i) (Stepped ItemsFit) s
     unfolding item_turn
     item_turn_fits i s so = item_fits_by i (after_word i.next.token) s so
 
-    simple_fits : (i : Items) (s : State) → ItemsFit i → R (a_simple inner i) (λ c. CommandFits limit c.0) s
+    simple_fits : (i : ItemsSoFar) (s : State) → ItemsFit i → R (a_simple inner i) (λ c. CommandFits limit c.0) s
     unfolding a_simple
     simple_fits i s so = first (repeats ItemsFit (item_turn inner) item_turn_fits i s so)
         (λ is t all. gives (fits_simple limit is.items all))
@@ -320,10 +321,10 @@ module _ (keep : Keep) (g : Given) (limit : ℕ) where
     with_fits cs (Some c) s all one = pushes (CommentFits limit) all one
     with_fits cs None s all one = gives all
 
-    abbrev JoinFits : JoinSo → Type 0
+    abbrev JoinFits : JoinSoFar → Type 0
     JoinFits j = All (CommentFits limit) j.join.comments
 
-    join_turn_fits : (j : JoinSo) (s : State) → JoinFits j → R (join_turn j) (Stepped JoinFits) s
+    join_turn_fits : (j : JoinSoFar) (s : State) → JoinFits j → R (join_turn j) (Stepped JoinFits) s
     unfolding join_turn
     join_turn_fits j s so = first (comment_fits j.next s)
         (λ c t one. first (with_fits j.join.comments c.0 t so one)
@@ -334,7 +335,7 @@ module _ (keep : Keep) (g : Given) (limit : ℕ) where
     join_fits broken s = after (λ n t. first
         (repeats JoinFits join_turn join_turn_fits _ t (All-nil (CommentFits limit))) (λ j u all. gives all))
 
-    redirect_turn_fits : (i : Items) (s : State) → ItemsFit i → R (redirect_turn inner i) (Stepped ItemsFit) s
+    redirect_turn_fits : (i : ItemsSoFar) (s : State) → ItemsFit i → R (redirect_turn inner i) (Stepped ItemsFit) s
     unfolding redirect_turn
     redirect_turn_fits i s so = picks (begins_redirect i.next.token)
         (redirect_fits i.next.broken Command i.items i.next s so) (gives so)
@@ -349,7 +350,7 @@ module _ (keep : Keep) (g : Given) (limit : ℕ) where
         R (with_redirect_list inner c) (λ d. CommandFits limit d.0) s
     unfolding with_redirect_list
     with_redirect_list_fits c s so =
-        first (repeats ItemsFit (redirect_turn inner) redirect_turn_fits (so_many [] Command c.1) s
+        first (repeats ItemsFit (redirect_turn inner) redirect_turn_fits (items_so_far [] Command c.1) s
         (All-nil (ItemFits limit))) (λ r t all. gives (with_redirects_fits c.0 r.items so all))
 
     compound_fits_by : (n : Next) (o : Option Opener) (s : State) →
@@ -366,26 +367,26 @@ module _ (keep : Keep) (g : Given) (limit : ℕ) where
         after (λ good t. first (word_fits t) (λ w u one. after (λ n v.
         picks (is_paren n.token) (picks good (fine.function (word_span w) v (place_fits w one)) (record { told = tt }))
         (first (pushes (ItemFits limit) (All-nil (ItemFits limit)) (fits_argument limit false w one))
-        (λ is x all. simple_fits (so_many is Suffix n) x all)))))
+        (λ is x all. simple_fits (items_so_far is Suffix n) x all)))))
 
     command_fits : (n : Next) (s : State) → R (a_command inner n) (λ c. CommandFits limit c.0) s
     unfolding a_command
     command_fits n s =
         picks (is_word n.token) (word_command_fits s)
-        (picks (begins_simple n.token) (simple_fits (so_many [] Command n) s (All-nil (ItemFits limit)))
+        (picks (begins_simple n.token) (simple_fits (items_so_far [] Command n) s (All-nil (ItemFits limit)))
         (compound_fits_by n (opener_of n.token) s))
 
-    abbrev PipesFit : Piped → Type 0
+    abbrev PipesFit : PipesSoFar → Type 0
     PipesFit p = All (PipeFits limit) p.parts
 
-    one_command_fits : (p : Piped) (s : State) → PipesFit p → R (one_command inner p) (Stepped PipesFit) s
+    one_command_fits : (p : PipesSoFar) (s : State) → PipesFit p → R (one_command inner p) (Stepped PipesFit) s
     unfolding one_command
     one_command_fits p s so =
         after (λ x t. first (join_fits p.next.broken t)
         (λ j u one. first (command_fits j.1 u)
         (λ c v two. first (pushes (PipeFits limit) so (one, two)) (λ ps w all. gives all))))
 
-    pipe_turn_fits : (p : Piped) (s : State) → PipesFit p → R (pipe_turn inner p) (Stepped PipesFit) s
+    pipe_turn_fits : (p : PipesSoFar) (s : State) → PipesFit p → R (pipe_turn inner p) (Stepped PipesFit) s
     unfolding pipe_turn
     pipe_turn_fits p s so = picks (is_pipe p.next.token) (one_command_fits p s so) (gives so)
 
@@ -399,13 +400,13 @@ module _ (keep : Keep) (g : Given) (limit : ℕ) where
     unfolding a_pipeline
     pipeline_fits n s =
         first (bang_fits n s) (λ b t one. first (command_fits b.1 t)
-        (λ c u two. first (repeats PipesFit (pipe_turn inner) pipe_turn_fits (piped [] c.1) u
+        (λ c u two. first (repeats PipesFit (pipe_turn inner) pipe_turn_fits (pipes_so_far [] c.1) u
         (All-nil (PipeFits limit))) (λ p v all. gives (fits_pipeline limit b.0 c.0 p.parts one two all))))
 
-    abbrev PartsFit : Joined → Type 0
+    abbrev PartsFit : AndOrSoFar → Type 0
     PartsFit a = All (PartFits limit) a.parts
 
-    one_pipeline_fits : (a : Joined) (o : AndOrOperator) (s : State) → PartsFit a →
+    one_pipeline_fits : (a : AndOrSoFar) (o : AndOrOperator) (s : State) → PartsFit a →
         R (one_pipeline inner a o) (Stepped PartsFit) s
     unfolding one_pipeline
     one_pipeline_fits a o s so =
@@ -413,12 +414,12 @@ module _ (keep : Keep) (g : Given) (limit : ℕ) where
         (λ j v one. first (pipeline_fits j.1 v)
         (λ p w two. first (pushes (PartFits limit) so (one, two)) (λ ps z all. gives all))))
 
-    joined_fits_by : (a : Joined) (o : Option AndOrOperator) (s : State) → PartsFit a →
+    joined_fits_by : (a : AndOrSoFar) (o : Option AndOrOperator) (s : State) → PartsFit a →
         R (joined_by inner a o) (Stepped PartsFit) s
     joined_fits_by a (Some o) s so = one_pipeline_fits a o s so
     joined_fits_by a None s so = gives so
 
-    and_or_turn_fits : (a : Joined) (s : State) → PartsFit a → R (and_or_turn inner a) (Stepped PartsFit) s
+    and_or_turn_fits : (a : AndOrSoFar) (s : State) → PartsFit a → R (and_or_turn inner a) (Stepped PartsFit) s
     unfolding and_or_turn
     and_or_turn_fits a s so = joined_fits_by a (and_or_operator_of a.next.token) s so
 
@@ -426,7 +427,7 @@ module _ (keep : Keep) (g : Given) (limit : ℕ) where
     unfolding an_and_or
     and_or_fits n s =
         first (pipeline_fits n s) (λ p t one. first
-        (repeats PartsFit (and_or_turn inner) and_or_turn_fits (joined_so [] p.1) t (All-nil (PartFits limit)))
+        (repeats PartsFit (and_or_turn inner) and_or_turn_fits (and_or_so_far [] p.1) t (All-nil (PartFits limit)))
         (λ a u all. gives (fits_and_or limit p.0 a.parts one all)))
 
     -- the offset after a separator
@@ -455,47 +456,47 @@ module _ (keep : Keep) (g : Given) (limit : ℕ) where
 
     -- Each row of a list: its entries fit within the limit, and so does the offset after a last separator.
 
-    abbrev ListFits : ListSo → Type 0
+    abbrev ListFits : ListSoFar → Type 0
     ListFits l = All (EntryFits limit) l.list.entries × PartedFits l.list.parted
 
-    one_entry_fits : (l : ListSo) (s : State) → ListFits l → R (one_entry inner l) (Stepped ListFits) s
+    one_entry_fits : (l : ListSoFar) (s : State) → ListFits l → R (one_entry inner l) (Stepped ListFits) s
     unfolding one_entry
     one_entry_fits l s so = first (entry_fits _ l.next s)
         (λ e t one. first (pushes (EntryFits limit) so.0 one.0)
         (λ es u all. gives (stepped ListFits (is_some e.parted) _ (all, one.1))))
 
-    entry_turn_fits : (l : ListSo) (s : State) → ListFits l → R (entry_turn inner l) (Stepped ListFits) s
+    entry_turn_fits : (l : ListSoFar) (s : State) → ListFits l → R (entry_turn inner l) (Stepped ListFits) s
     unfolding entry_turn
     entry_turn_fits l s so = picks (begins_pipeline l.next.token) (one_entry_fits l s so) (gives so)
 
-    remark_fits_by : (l : ListSo) (x : Option Span × Next) (s : State) → ListFits l → OwnComment x →
+    remark_fits_by : (l : ListSoFar) (x : Option Span × Next) (s : State) → ListFits l → OwnComment x →
         R (remark_by l x) ListFits s
     remark_fits_by l (Some c, n) s so one =
         first (pushes (EntryFits limit) so.0 (fits_remark limit c false (is_blank_next l.list) one))
         (λ es t all. gives (all, so.1))
     remark_fits_by l (None, n) s so one = gives so
 
-    on_line_fits : (l : ListSo) (s : State) → ListFits l → R (on_line inner l) ListFits s
+    on_line_fits : (l : ListSoFar) (s : State) → ListFits l → R (on_line inner l) ListFits s
     unfolding on_line a_remark
     on_line_fits l s so =
         first (repeats ListFits (entry_turn inner) entry_turn_fits l s so)
         (λ m t all. first (comment_fits m.next t) (λ x u one. remark_fits_by m x u all one))
 
-    list_turn_fits : (l : ListSo) (s : State) → ListFits l → R (list_turn inner l) (Stepped ListFits) s
+    list_turn_fits : (l : ListSoFar) (s : State) → ListFits l → R (list_turn inner l) (Stepped ListFits) s
     unfolding list_turn
     list_turn_fits l s so = first (on_line_fits l s so) (λ m t all. after (λ x u. gives (stepped ListFits x.0 _ all)))
 
     list_fits : (n : Next) (s : State) → R (a_list inner n) (λ l. NodesWithin limit l.0) s
     unfolding a_list
     list_fits n s =
-        first (repeats ListFits (list_turn inner) list_turn_fits (list_so (none_listed false) n) s
+        first (repeats ListFits (list_turn inner) list_turn_fits (list_so_far (none_listed false) n) s
         (All-nil (EntryFits limit), tt))
         (λ l t all. picks l.list.commands (gives (fits_entries limit l.list.entries all.0)) (stopped l.next))
 
     open_line_fits : (blank : Bool) (s : State) → R (an_open_line inner blank) (λ x. All (EntryFits limit) x.0) s
     unfolding an_open_line
     open_line_fits blank s = after
-        (λ n t. first (on_line_fits (list_so (none_listed blank) n) t (All-nil (EntryFits limit), tt))
+        (λ n t. first (on_line_fits (list_so_far (none_listed blank) n) t (All-nil (EntryFits limit), tt))
         (λ l u all. after (λ newline v. gives all.0)))
 
     -- the entries of a line, with the bodies of its here-documents
@@ -527,10 +528,10 @@ module _ (keep : Keep) (g : Given) (limit : ℕ) where
         (λ k u. first (list_fits k.1 u)
         (λ b v two. gives (fits_both limit (entries_nodes c.0) (entries_nodes b.0) one two))))
 
-    abbrev BranchesFit : Branched → Type 0
+    abbrev BranchesFit : BranchesSoFar → Type 0
     BranchesFit b = All (BranchFits limit) b.branches
 
-    elif_fits : (b : Branched) (s : State) → BranchesFit b → R (elif_turn inner b) (Stepped BranchesFit) s
+    elif_fits : (b : BranchesSoFar) (s : State) → BranchesFit b → R (elif_turn inner b) (Stepped BranchesFit) s
     unfolding elif_turn
     elif_fits b s so =
         picks (is_closing closings.Elif b.next.token)
@@ -552,7 +553,7 @@ module _ (keep : Keep) (g : Given) (limit : ℕ) where
     unfolding an_if
     if_fits n s =
         first (branch_fits n s)
-        (λ f t one. first (repeats BranchesFit (elif_turn inner) elif_fits (branched [] f.1) t
+        (λ f t one. first (repeats BranchesFit (elif_turn inner) elif_fits (branches_so_far [] f.1) t
         (All-nil (BranchFits limit)))
         (λ b u all. first (else_fits b.next u)
         (λ e v other. first (closing_fits closings.Fi e.1 v)
@@ -598,14 +599,14 @@ module _ (keep : Keep) (g : Given) (limit : ℕ) where
     abbrev HeadFits : Headed → Type 0
     HeadFits h = Nodes limit (for_words_nodes h.words) × All (CommentFits limit) h.comments
 
-    word_turn_fits : (i : Items) (s : State) → ItemsFit i → R (word_turn inner i) (Stepped ItemsFit) s
+    word_turn_fits : (i : ItemsSoFar) (s : State) → ItemsFit i → R (word_turn inner i) (Stepped ItemsFit) s
     unfolding word_turn
     word_turn_fits i s so = picks (is_word i.next.token) (one_item_fits i Suffix s so) (gives so)
 
     for_words_fit : (cs : Row Span) (s : State) → All (CommentFits limit) cs → R (for_words inner cs) HeadFits s
     unfolding for_words
     for_words_fit cs s all =
-        after (λ i t. first (repeats ItemsFit (word_turn inner) word_turn_fits (so_many [] Suffix i.1) t
+        after (λ i t. first (repeats ItemsFit (word_turn inner) word_turn_fits (items_so_far [] Suffix i.1) t
         (All-nil (ItemFits limit)))
         (λ ws u items. first (sep_fits cs ws.next u all) (λ l v so. gives (fits_items limit ws.items items, so))))
 
@@ -641,7 +642,7 @@ module _ (keep : Keep) (g : Given) (limit : ℕ) where
     case_word_fits n s = picks (begins_word n.token) (first (word_fits s) (λ w t one. after (λ m u. gives one)))
         (stopped n)
 
-    abbrev PatternsFit : Patterned → Type 0
+    abbrev PatternsFit : PatternsSoFar → Type 0
     PatternsFit p = All (WordFits limit) p.patterns
 
     pattern_fits : (ws : Row AWord) (s : State) → All (WordFits limit) ws → R (a_pattern inner ws) PatternsFit s
@@ -656,7 +657,8 @@ module _ (keep : Keep) (g : Given) (limit : ℕ) where
         (λ x t. after (λ n u. picks (begins_word n.token) (first (pattern_fits ws u all) (λ p v so. gives so))
         (stopped n)))
 
-    pattern_turn_fits : (p : Patterned) (s : State) → PatternsFit p → R (pattern_turn inner p) (Stepped PatternsFit) s
+    pattern_turn_fits : (p : PatternsSoFar) (s : State) → PatternsFit p →
+        R (pattern_turn inner p) (Stepped PatternsFit) s
     unfolding pattern_turn
     pattern_turn_fits p s so = picks (is_pipe p.next.token) (one_pattern_fits p.patterns s so) (gives so)
 
@@ -669,7 +671,7 @@ module _ (keep : Keep) (g : Given) (limit : ℕ) where
 
     body_fits : (n : Next) (s : State) → R (a_body inner n) ListFits s
     unfolding a_body
-    body_fits n s = repeats ListFits (list_turn inner) list_turn_fits (list_so (none_listed false) n) s
+    body_fits n s = repeats ListFits (list_turn inner) list_turn_fits (list_so_far (none_listed false) n) s
         (All-nil (EntryFits limit), tt)
 
     -- the offset that is seen from here
@@ -701,10 +703,10 @@ module _ (keep : Keep) (g : Given) (limit : ℕ) where
         (picks (is_closing closings.Esac n.token) (gives (low, All-nil (CommentFits limit))) (stopped n))
 
     -- the items so far, and the comments after them
-    abbrev CasesFit : CasesSo → Type 0
+    abbrev CasesFit : CasesSoFar → Type 0
     CasesFit c = All (CaseFits limit) c.items × All (CommentFits limit) c.comments
 
-    one_case_fits : (c : CasesSo) (s : State) → CasesFit c → R (one_case inner c) (Stepped CasesFit) s
+    one_case_fits : (c : CasesSoFar) (s : State) → CasesFit c → R (one_case inner c) (Stepped CasesFit) s
     unfolding one_case
     one_case_fits c s so =
         first (here_fits s) (λ p t begin. after
@@ -717,7 +719,7 @@ module _ (keep : Keep) (g : Given) (limit : ℕ) where
         (record { mark = record { start = p; «end» = e.at }; falls = falls_through b.next.token }) so.1 words
         entries (begin, end.0))) (λ is z all. gives (all, end.1))))))))
 
-    case_turn_fits : (c : CasesSo) (s : State) → CasesFit c → R (case_turn inner c) (Stepped CasesFit) s
+    case_turn_fits : (c : CasesSoFar) (s : State) → CasesFit c → R (case_turn inner c) (Stepped CasesFit) s
     unfolding case_turn
     case_turn_fits c s so = picks (is_closing closings.Esac c.next.token) (gives so) (one_case_fits c s so)
 
@@ -732,7 +734,7 @@ module _ (keep : Keep) (g : Given) (limit : ℕ) where
     unfolding a_case
     case_fits n s =
         first (case_head_fits n s) (λ h t one. first
-        (repeats CasesFit (case_turn inner) case_turn_fits (cases_so [] h.1 h.2) t
+        (repeats CasesFit (case_turn inner) case_turn_fits (cases_so_far [] h.1 h.2) t
         (All-nil (CaseFits limit), one.1))
         (λ c u all. first (closing_fits closings.Esac c.next u)
         (λ e v last. gives (fits_case_in limit h.0 c.items c.comments one.0 all.0 all.1, last))))
@@ -764,7 +766,7 @@ module _ (keep : Keep) (g : Given) (limit : ℕ) where
     substitution_list_fits : (s : State) → R (substitution_list inner) (NodesWithin limit) s
     unfolding substitution_list
     substitution_list_fits s =
-        after (λ n t. first (repeats ListFits (list_turn inner) list_turn_fits (list_so (none_listed false) n) t
+        after (λ n t. first (repeats ListFits (list_turn inner) list_turn_fits (list_so_far (none_listed false) n) t
         (All-nil (EntryFits limit), tt))
         (λ l u all. picks (is_closing closings.Paren l.next.token)
         (after (λ w z. after (λ x v. gives (fits_entries limit l.list.entries all.0)))) (stopped l.next)))
@@ -856,9 +858,9 @@ entries_within edition T l (line_stops f k part) = tt
 -- ---- scripts
 
 -- one more line
-pub more_within : (limit : ℕ) (so then : SoFar) (es : Row AnEntry) → then ≡ with_line so es →
+pub more_within : (limit : ℕ) (so then : LinesSoFar) (es : Row AnEntry) → then ≡ with_line so es →
     NodesWithin limit (entries_of so.entries) → NodesWithin limit (entries_of es)
     → NodesWithin limit (entries_of then.entries)
 more_within limit so then es is all line =
-    subst (λ (s : SoFar). NodesWithin limit (entries_of s.entries)) (sym is)
+    subst (λ (s : LinesSoFar). NodesWithin limit (entries_of s.entries)) (sym is)
     (within_append limit so.entries es all line)

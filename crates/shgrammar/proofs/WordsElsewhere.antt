@@ -22,7 +22,7 @@ use Rattle.shgrammar.specs.Sights.{Given, given, State, one_byte}
 use Rattle.shgrammar.specs.Form.{moved_on, Read, ◌▸◌, Form, give, move, ◌>>◌, many, with_end, does}
 use Rattle.shgrammar.specs.Words.{Inner, contents, a_word}
 use Rattle.shgrammar.specs.Commands.{none_waits, nothing_waits, next_token, pick, unexpected, what_is_wrong}
-use Rattle.shgrammar.specs.Lists.{ListSo, list_so, none_listed, list_turn}
+use Rattle.shgrammar.specs.Lists.{ListSoFar, list_so_far, none_listed, list_turn}
 use Rattle.shgrammar.specs.Compounds.{is_closing}
 use Rattle.shgrammar.specs.Substitutions.{substitution_list, a_substitution, one_substitution}
 use Rattle.shgrammar.specs.Levels.{level}
@@ -170,13 +170,13 @@ module _ (room : ℕ) (all : Everywhere (level room)) where
     here_before : (M : ℕ) {p : ℕ} → M + 1 ≤ L → Here T U a (M + 1) to p → Here T U a L to p
     here_before M le i = let lt = i.inside in record { low = i.low; inside = omega (arith, lt, le); there = i.there }
 
-    abbrev all_lines : Next → Form ListSo
-    all_lines n = many (list_turn inner) (list_so (none_listed false) n)
+    abbrev all_lines : Next → Form ListSoFar
+    all_lines n = many (list_turn inner) (list_so_far (none_listed false) n)
 
-    abbrev closes : ListSo → Bool
+    abbrev closes : ListSoFar → Bool
     closes l = is_closing closings.Paren l.next.token
 
-    abbrev the_close : ListSo → Bool → Form Entries
+    abbrev the_close : ListSoFar → Bool → Form Entries
     the_close l b = pick b (nothing_waits >> move one_byte >> give (entries_of l.list.entries))
         (unexpected inner l.next)
 
@@ -199,7 +199,7 @@ module _ (room : ℕ) (all : Everywhere (level room)) where
       There x t = Holding K o o2 B B2 (a_substitution inner b2) ss outer x t
 
       -- the list was read up to its `)`, and nothing waits there
-      module _ (l : ListSo) (u : State) (is : does (all_lines the_next) Whole g start ≡ Ok (l, u))
+      module _ (l : ListSoFar) (u : State) (is : does (all_lines the_next) Whole g start ≡ Ok (l, u))
           (closed : closes l ≡ true) (none : first_waiting u ≡ None) (begins : Begins g l.next u)
           (onward : start.at ≤ u.at)
           (still : s.at ≤ start.at) where
@@ -245,7 +245,7 @@ module _ (room : ℕ) (all : Everywhere (level room)) where
               subst (λ (n : Next). does (next_token Command) Whole h (over_there s) ≡ Ok (n, over_there start))
               (sym w.1.1) w.1.0
 
-          same_lines : (k : ListSo) ×
+          same_lines : (k : ListSoFar) ×
               ((does (all_lines the_next) Whole h (over_there start) ≡ Ok (k, over_there u))
               × SameList B B2 l k)
           same_lines =
@@ -259,7 +259,7 @@ module _ (room : ℕ) (all : Everywhere (level room)) where
           abbrev last : State
           last = record { at = past_byte T M; waiting = u.waiting; bodies = u.bodies }
 
-          abbrev k : ListSo
+          abbrev k : ListSoFar
           k = same_lines.0
 
           none_there : first_waiting (over_there u) ≡ None
@@ -284,7 +284,7 @@ module _ (room : ℕ) (all : Everywhere (level room)) where
               ap (λ (z : Read Next). ◌▸◌ {Y = Entries} z
               (λ n t. ◌▸◌ {Y = Entries} (does (all_lines n) Whole h t)
               (λ l t. does (the_close l (closes l)) Whole h t))) same_start
-              ∙ ap (λ (z : Read ListSo). ◌▸◌ {Y = Entries} z (λ l t. does (the_close l (closes l)) Whole h t))
+              ∙ ap (λ (z : Read ListSoFar). ◌▸◌ {Y = Entries} z (λ l t. does (the_close l (closes l)) Whole h t))
               same_lines.1.0
               ∙ ap (λ c. does (the_close k c) Whole h (over_there u)) closes_there
               ∙ close_there
@@ -335,7 +335,8 @@ module _ (room : ℕ) (all : Everywhere (level room)) where
           (λ es t. Ok ((es, t.bodies), outer_level outer t)))
           (λ es t. Ok (ss ++ a_subst (filled es.1 es.0) (record { start = b; «end» = o + t.at }) ∷ [], t))
 
-      by_waiting : (l : ListSo) (u : State) → does (all_lines the_next) Whole g start ≡ Ok (l, u) → Begins g l.next u →
+      by_waiting : (l : ListSoFar) (u : State) → does (all_lines the_next) Whole g start ≡ Ok (l, u) → Begins g l.next u
+          →
           start.at ≤ u.at → s.at ≤ start.at → closes l ≡ true → (w : Option ℕ) → first_waiting u ≡ w
           → Holds There (one_level (does (none_waits w) Whole g u ▸ λ x t. Ok
           (entries_of l.list.entries, moved_on one_byte g t)))
@@ -346,7 +347,7 @@ module _ (room : ℕ) (all : Everywhere (level room)) where
             λ zs same. found l u is closed none begins onward still high zs same,
           )
 
-      by_close : (l : ListSo) (u : State) → does (all_lines the_next) Whole g start ≡ Ok (l, u) → Begins g l.next u →
+      by_close : (l : ListSoFar) (u : State) → does (all_lines the_next) Whole g start ≡ Ok (l, u) → Begins g l.next u →
           start.at ≤ u.at → s.at ≤ start.at → (c : Bool) → closes l ≡ c
           → Holds There (one_level (does (the_close l c) Whole g u))
       unfolding nothing_waits
@@ -359,7 +360,8 @@ module _ (room : ℕ) (all : Everywhere (level room)) where
           no_close P (Ok (w, t)) = tt
           no_close P (Err f) = tt
 
-      by_lines : (x : Read ListSo) → does (all_lines the_next) Whole g start ≡ x → Holds (λ l t. Begins g l.next t) x →
+      by_lines : (x : Read ListSoFar) → does (all_lines the_next) Whole g start ≡ x → Holds (λ l t. Begins g l.next t) x
+          →
           Holds (AtOrAfter start) x → s.at ≤ start.at
           → Holds There (one_level (x ▸ λ l t. does (the_close l (closes l)) Whole g t))
       by_lines (Ok (l, u)) is begins onward still = by_close l u is begins onward still (closes l) refl

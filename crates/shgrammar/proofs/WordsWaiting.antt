@@ -13,7 +13,7 @@ use Rattle.shgrammar.specs.Comments.{span}
 use Rattle.shgrammar.specs.HereDocuments.{own_level, outer_level}
 use Rattle.shgrammar.specs.Sights.{Given, State, standing, Sight, seen, Move}
 use Rattle.shgrammar.specs.Form.{Form, give, see, move, push, stop, both, when, token, many, a_level, Telling, Step, again, done, Read, ◌▸◌, does, may, moved_on, leads_on, turns, turns_below, next, Spelled, in_substitution}
-use Rattle.shgrammar.specs.Words.{WordSoFar, having, opened, piece_row, a_piece, single, escaped_turn, backquoted_text, Inner, contents, a_word, dollar_single}
+use Rattle.shgrammar.specs.Words.{WordSoFar, word_so_far, opened, piece_row, a_piece, single, escaped_turn, backquoted_text, Inner, contents, a_word, dollar_single}
 use Rattle.shgrammar.specs.Substitutions.{a_substitution, one_substitution}
 use Rattle.shgrammar.specs.Levels.{level}
 use Rattle.shgrammar.proofs.OneOutcome.{computed_is_only}
@@ -197,7 +197,7 @@ module _ (g : Given) where
     contents_blind : (mode : Mode) (b : ℕ) (ss : Row ASubst) → Blind (contents inner mode b ss)
     unfolding contents a_piece
     contents_blind mode b ss = blind_both
-        (blind_many _ (λ h. blind_sees (λ s t. refl) (λ piece. piece_blind mode b h piece)) (having 0 ss))
+        (blind_many _ (λ h. blind_sees (λ s t. refl) (λ piece. piece_blind mode b h piece)) (word_so_far 0 ss))
         (λ h. blind_give)
 
     word_blind : Blind (a_word inner)

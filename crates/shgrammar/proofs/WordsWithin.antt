@@ -18,10 +18,10 @@ use Rattle.shgrammar.specs.Pieces.{dollar_by, dollar_at, bracket_by, byte_by, pi
 use Rattle.shast.specs.Tree.{ASubst, entries_of}
 use Rattle.shgrammar.specs.Sights.{Given, State, standing, one_byte}
 use Rattle.shgrammar.specs.Form.{Read, Form, give, move, ◌>>◌, Step, again, done, step_if, as_it_stands, token, many, does}
-use Rattle.shgrammar.specs.Words.{single, escaped_turn, backquoted_text, Inner, WordSoFar, having, opened, piece_row, a_piece, contents, a_word, dollar_single}
+use Rattle.shgrammar.specs.Words.{single, escaped_turn, backquoted_text, Inner, WordSoFar, word_so_far, opened, piece_row, a_piece, contents, a_word, dollar_single}
 use Rattle.shgrammar.specs.HereDocuments.{first_waiting, own_level}
 use Rattle.shgrammar.specs.Commands.{none_waits, nothing_waits, pick, unexpected}
-use Rattle.shgrammar.specs.Lists.{ListSo}
+use Rattle.shgrammar.specs.Lists.{ListSoFar}
 use Rattle.shgrammar.specs.Compounds.{is_closing}
 use Rattle.shgrammar.specs.Substitutions.{substitution_list, a_substitution, one_substitution}
 use Rattle.shgrammar.specs.Levels.{level, ReadsWord}
@@ -282,7 +282,7 @@ module _ (g : Given) where
         Holds Turn (does (opened inner m k c) Whole g r)
     opens m k r on within =
         holds_then (λ x t. (r.at ≤ t.at) × (t.at ≤ length T)) Turn (does (inner.construct m k c.substs) Whole g r)
-        (λ x t. Ok (again (having c.nested x), t))
+        (λ x t. Ok (again (word_so_far c.nested x), t))
         (stays.construct m k c.substs r within) (λ x t so. (omega (arith, on, so.0), so.1))
 
     row : (x : Piece) → Needs mode p x → Holds Turn (does (piece_row inner mode b c x) Whole g s)
@@ -302,7 +302,7 @@ module _ (g : Given) where
     row pieces.Subst so =
         holds_then (λ x t. (past_byte T (past_byte T p) ≤ t.at) × (t.at ≤ length T)) Turn
         (does (inner.substitution _ c.substs) Whole g (placed (past_byte T (past_byte T p)) s))
-        (λ x t. Ok (again (having c.nested x), t))
+        (λ x t. Ok (again (word_so_far c.nested x), t))
         (stays.substitution _ c.substs (placed (past_byte T (past_byte T p)) s))
         (λ x t on. (omega (arith, on.0, after_low T p, after_low T (past_byte T p)), on.1))
     row pieces.Arith so =
@@ -332,9 +332,9 @@ module _ (g : Given) where
     unfolding contents
     contents_end =
         holds_then (λ x t. Last mode t) (λ x t. Last mode t)
-        (does (many (a_piece inner mode b) (having 0 ss)) Whole g s) (λ h t. Ok (h.substs, t))
+        (does (many (a_piece inner mode b) (word_so_far 0 ss)) Whole g s) (λ h t. Ok (h.substs, t))
         (many_end (a_piece inner mode b) (Last mode) (λ c t within. piece_turn inner stays mode b c t within)
-        (having 0 ss) s le) (λ h t so. so)
+        (word_so_far 0 ss) s le) (λ h t so. so)
 
     contents_on : Holds (λ x t. (s.at ≤ t.at) × (t.at ≤ length T)) (does (contents inner mode b ss) Whole g s)
     contents_on = holds_both (does (contents inner mode b ss) Whole g s)
@@ -365,7 +365,7 @@ module _ (g : Given) where
         (λ n t one. tells_then Whole g (shown_lines g inner fine n t one)
         (λ l u two. closed_by (is_closing closings.Paren l.next.token) l u refl two))
       where
-        closed_by : (b : Bool) → (l : ListSo) (u : State) → is_closing closings.Paren l.next.token ≡ b →
+        closed_by : (b : Bool) → (l : ListSoFar) (u : State) → is_closing closings.Paren l.next.token ≡ b →
             Begins g l.next u
             → Tells Whole g (pick b (nothing_waits >> move one_byte >> give (entries_of l.list.entries))
             (unexpected inner l.next)) (λ x t. t.at ≤ length T) u

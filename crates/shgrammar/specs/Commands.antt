@@ -153,16 +153,16 @@ unexpected inner n = what_is_wrong inner n >>= λ w. stop w.0 w.1
 -- ---- items
 
 -- the items so far, the position in which the token after them stands, and that token
-pub record Items : Type 0 where
+pub record ItemsSoFar : Type 0 where
   pub items : Row AnItem
   pub position : Position
   pub next : Next
 
-abbrev pub so_many : Row AnItem → Position → Next → Items
-so_many is position n = record { items = is; position = position; next = n }
+abbrev pub items_so_far : Row AnItem → Position → Next → ItemsSoFar
+items_so_far is position n = record { items = is; position = position; next = n }
 
 -- a continuation stands before an item that is not the first
-abbrev pub breaks : Items → Bool
+abbrev pub breaks : ItemsSoFar → Bool
 breaks i = not (is_empty i.items) && i.next.broken
 
 -- what a word is, by the position after it
@@ -171,12 +171,12 @@ as_item Prefix w = assign w
 as_item _ w = argument w
 
 -- one more item that is a word, and the token after it
-unfoldable pub an_item : Inner → Items → Position → Form (Step Items)
+unfoldable pub an_item : Inner → ItemsSoFar → Position → Form (Step ItemsSoFar)
 an_item inner i position =
     a_word inner >>= λ w.
     push i.items (item (breaks i) (as_item position w)) >>= λ is.
     next_token position >>= λ n.
-    give (again (so_many is position n))
+    give (again (items_so_far is position n))
 
 -- ---- redirections (XCU 2.7)
 
@@ -237,7 +237,7 @@ a_document o b p bytes = pick (takes_here o) (see (the_delimiter bytes) >>= docu
 
 -- the redirection that begins here, as one more of these items, and the token after
 -- it, which stands in this position
-unfoldable pub one_redirect : Inner → Bool → Position → Row AnItem → Next → Form (Step Items)
+unfoldable pub one_redirect : Inner → Bool → Position → Row AnItem → Next → Form (Step ItemsSoFar)
 one_redirect inner broken position is n =
     see here >>= λ p.
     a_number n >>= λ d.
@@ -246,7 +246,7 @@ one_redirect inner broken position is n =
     a_document o.0 o.1.start (word_span w.0).start w.1 >>= λ h.
     push is (item broken (redirect d.0 o.0 o.1 w.0 h)) >>= λ more.
     next_token position >>= λ m.
-    give (again (so_many more position m))
+    give (again (items_so_far more position m))
 
 -- After a redirection no word is reserved. One may be an assignment, if the command's
 -- name does not stand before it.
@@ -256,18 +256,18 @@ after_redirect _ = Prefix
 
 -- ---- simple commands (XCU 2.9.1)
 
-abbrev pub item_by : Inner → Items → Option Position → Form (Step Items)
+abbrev pub item_by : Inner → ItemsSoFar → Option Position → Form (Step ItemsSoFar)
 item_by inner i (Some position) = an_item inner i position
 item_by inner i None = pick (begins_redirect i.next.token)
     (one_redirect inner (breaks i) (after_redirect i.position) i.items i.next) (give (done i))
 
 -- one more item, or none
-unfoldable pub item_turn : Inner → Items → Form (Step Items)
+unfoldable pub item_turn : Inner → ItemsSoFar → Form (Step ItemsSoFar)
 item_turn inner i = item_by inner i (after_word i.next.token)
 
 -- The simple command that has these items so far, and the token after it. It is not
 -- empty: where it has none yet, the token here begins one.
-unfoldable pub a_simple : Inner → Items → Form (ACommand × Next)
+unfoldable pub a_simple : Inner → ItemsSoFar → Form (ACommand × Next)
 a_simple inner so = many (item_turn inner) so >>= λ i. give (simple (items_of i.items), i.next)
 
 -- ---- newlines and `;`
@@ -293,12 +293,12 @@ nothing_waits = see a_document_waits >>= none_waits
 -- ---- joins: what stands around an operator that joins two operands (XCU 2.9.2, 2.9.3)
 
 -- the join so far, and the token after it
-pub record JoinSo : Type 0 where
+pub record JoinSoFar : Type 0 where
   pub join : AJoin
   pub next : Next
 
-abbrev pub join_so : AJoin → Next → JoinSo
-join_so j n = record { join = j; next = n }
+abbrev pub join_so_far : AJoin → Next → JoinSoFar
+join_so_far j n = record { join = j; next = n }
 
 abbrev pub a_join_of : Bool → Row Span → AJoin
 a_join_of broken cs = record { broken = broken; comments = cs }
@@ -309,30 +309,30 @@ with_comment cs None = give cs
 
 -- One more comment and newline after the operator, or none of them. Both break the
 -- join: a comment ends its line.
-unfoldable pub join_turn : JoinSo → Form (Step JoinSo)
+unfoldable pub join_turn : JoinSoFar → Form (Step JoinSoFar)
 join_turn j =
     a_comment j.next >>= λ c.
     with_comment j.join.comments c.0 >>= λ cs.
     a_newline c.1 >>= λ l.
-    give (step_if l.0 (join_so (a_join_of ((j.join.broken || is_some c.0) || l.0) cs) l.1))
+    give (step_if l.0 (join_so_far (a_join_of ((j.join.broken || is_some c.0) || l.0) cs) l.1))
 
 -- From just after an operator to the token with which the operand begins. A continuation
 -- on either side breaks the join.
 unfoldable pub a_join : Bool → Form (AJoin × Next)
 a_join broken = next_token Command >>= λ n.
-    many join_turn (join_so (a_join_of (broken || n.broken) []) n) >>= λ j.
+    many join_turn (join_so_far (a_join_of (broken || n.broken) []) n) >>= λ j.
     give (j.join, j.next)
 
 -- ---- pipelines (XCU 2.9.2)
 
 -- one more redirection after a compound command, or none; the first one may be broken too
-unfoldable pub redirect_turn : Inner → Items → Form (Step Items)
+unfoldable pub redirect_turn : Inner → ItemsSoFar → Form (Step ItemsSoFar)
 redirect_turn inner r = pick (begins_redirect r.next.token) (one_redirect inner r.next.broken Command r.items r.next)
     (give (done r))
 
 -- a compound command with the redirections after it, and the token after them
 unfoldable pub with_redirect_list : Inner → ACommand × Next → Form (ACommand × Next)
-with_redirect_list inner c = many (redirect_turn inner) (so_many [] Command c.1) >>= λ r.
+with_redirect_list inner c = many (redirect_turn inner) (items_so_far [] Command c.1) >>= λ r.
     give (with_redirects c.0 (items_of r.items), r.next)
 
 -- While its redirections are read, a compound command is not open any more.
@@ -351,13 +351,13 @@ a_word_command inner =
     a_word inner >>= λ w.
     next_token Suffix >>= λ n.
     pick (is_paren n.token) (named_function inner good (word_span w))
-    (push [] (item false (argument w)) >>= λ is. a_simple inner (so_many is Suffix n))
+    (push [] (item false (argument w)) >>= λ is. a_simple inner (items_so_far is Suffix n))
 
 -- the command that the token here begins, and the token after it
 unfoldable pub a_command : Inner → Next → Form (ACommand × Next)
 a_command inner n =
     pick (is_word n.token) (a_word_command inner)
-    (pick (begins_simple n.token) (a_simple inner (so_many [] Command n))
+    (pick (begins_simple n.token) (a_simple inner (items_so_far [] Command n))
     (compound_by inner n (opener_of n.token)))
 
 -- the `!` of a pipeline, where the token is one, and the token after it
@@ -366,60 +366,60 @@ a_bang n = pick (is_bang n.token)
     (token (by (codes "!")) (move one_byte) >>= λ x. next_token Command >>= λ m. give (Some x.1, m)) (give (None, n))
 
 -- the commands after the first so far, and the token after them
-pub record Piped : Type 0 where
+pub record PipesSoFar : Type 0 where
   pub parts : Row APipelinePart
   pub next : Next
 
-abbrev pub piped : Row APipelinePart → Next → Piped
-piped ps n = record { parts = ps; next = n }
+abbrev pub pipes_so_far : Row APipelinePart → Next → PipesSoFar
+pipes_so_far ps n = record { parts = ps; next = n }
 
 -- one more command, after a `|`
-unfoldable pub one_command : Inner → Piped → Form (Step Piped)
+unfoldable pub one_command : Inner → PipesSoFar → Form (Step PipesSoFar)
 one_command inner p =
     token (by (codes "|")) (move one_byte) >> a_join p.next.broken >>= λ j.
     a_command inner j.1 >>= λ c.
     push p.parts (record { join = j.0; command = c.0 }) >>= λ ps.
-    give (again (piped ps c.1))
+    give (again (pipes_so_far ps c.1))
 
 -- one more, or none
-unfoldable pub pipe_turn : Inner → Piped → Form (Step Piped)
+unfoldable pub pipe_turn : Inner → PipesSoFar → Form (Step PipesSoFar)
 pipe_turn inner p = pick (is_pipe p.next.token) (one_command inner p) (give (done p))
 
 unfoldable pub a_pipeline : Inner → Next → Form (APipeline × Next)
 a_pipeline inner n =
     a_bang n >>= λ b.
     a_command inner b.1 >>= λ c.
-    many (pipe_turn inner) (piped [] c.1) >>= λ p.
+    many (pipe_turn inner) (pipes_so_far [] c.1) >>= λ p.
     give (pipeline b.0 c.0 (pipeline_parts_of p.parts), p.next)
 
 -- ---- and-or lists (XCU 2.9.3)
 
 -- the pipelines after the first so far, and the token after them
-pub record Joined : Type 0 where
+pub record AndOrSoFar : Type 0 where
   pub parts : Row AnAndOrPart
   pub next : Next
 
-abbrev pub joined_so : Row AnAndOrPart → Next → Joined
-joined_so ps n = record { parts = ps; next = n }
+abbrev pub and_or_so_far : Row AnAndOrPart → Next → AndOrSoFar
+and_or_so_far ps n = record { parts = ps; next = n }
 
 -- one more pipeline, after this operator
-unfoldable pub one_pipeline : Inner → Joined → AndOrOperator → Form (Step Joined)
+unfoldable pub one_pipeline : Inner → AndOrSoFar → AndOrOperator → Form (Step AndOrSoFar)
 one_pipeline inner a o =
     token (by (and_or_text o)) (move one_byte >> move one_byte) >> a_join a.next.broken >>= λ j.
     a_pipeline inner j.1 >>= λ p.
-    push a.parts (record { operator = o; join = j.0; pipeline = p.0 }) >>= λ ps. give (again (joined_so ps p.1))
+    push a.parts (record { operator = o; join = j.0; pipeline = p.0 }) >>= λ ps. give (again (and_or_so_far ps p.1))
 
-abbrev pub joined_by : Inner → Joined → Option AndOrOperator → Form (Step Joined)
+abbrev pub joined_by : Inner → AndOrSoFar → Option AndOrOperator → Form (Step AndOrSoFar)
 joined_by inner a (Some o) = one_pipeline inner a o
 joined_by inner a None = give (done a)
 
 -- one more, or none
-unfoldable pub and_or_turn : Inner → Joined → Form (Step Joined)
+unfoldable pub and_or_turn : Inner → AndOrSoFar → Form (Step AndOrSoFar)
 and_or_turn inner a = joined_by inner a (and_or_operator_of a.next.token)
 
 unfoldable pub an_and_or : Inner → Next → Form (AnAndOr × Next)
 an_and_or inner n = a_pipeline inner n >>= λ p.
-    many (and_or_turn inner) (joined_so [] p.1) >>= λ a.
+    many (and_or_turn inner) (and_or_so_far [] p.1) >>= λ a.
     give (and_or p.0 (and_or_parts_of a.parts), a.next)
 
 -- ---- entries of a list (XCU 2.9.3)

@@ -18,8 +18,8 @@ use Rattle.shast.specs.Tree.{Entries, entry, remark, more_entries, ACommand, sim
 use Rattle.shgrammar.specs.Sights.{here, is_a_name, Move, one_byte, the_reserved}
 use Rattle.shgrammar.specs.Form.{Form, Spelled, Telling, untold, give, see, move, push, stop, by, token, many, ◌>>=◌, ◌>>◌, Step, again, done}
 use Rattle.shgrammar.specs.Words.{Inner, a_word}
-use Rattle.shgrammar.specs.Commands.{next_token, pick, begins_word, opener_of, compound_by, unexpected, a_semicolon, JoinSo, join_so, a_join_of, join_turn, Items, so_many, an_item, is_word, is_pipe, is_paren, ends_item, falls_through}
-use Rattle.shgrammar.specs.Lists.{a_list, Listed, ListSo, list_so, none_listed, list_turn}
+use Rattle.shgrammar.specs.Commands.{next_token, pick, begins_word, opener_of, compound_by, unexpected, a_semicolon, JoinSoFar, join_so_far, a_join_of, join_turn, ItemsSoFar, items_so_far, an_item, is_word, is_pipe, is_paren, ends_item, falls_through}
+use Rattle.shgrammar.specs.Lists.{a_list, Listed, ListSoFar, list_so_far, none_listed, list_turn}
 
 -- ---- what opens, parts and closes the lists of a compound command
 
@@ -111,19 +111,19 @@ a_branch inner n = a_list inner n >>= λ c.
     give (branch c.0 b.0, b.1)
 
 -- the branches after the first so far, and the token after them
-pub record Branched : Type 0 where
+pub record BranchesSoFar : Type 0 where
   pub branches : Row ABranch
   pub next : Next
 
-abbrev pub branched : Row ABranch → Next → Branched
-branched bs n = record { branches = bs; next = n }
+abbrev pub branches_so_far : Row ABranch → Next → BranchesSoFar
+branches_so_far bs n = record { branches = bs; next = n }
 
 -- one more branch after an `elif`, or none
-unfoldable pub elif_turn : Inner → Branched → Form (Step Branched)
+unfoldable pub elif_turn : Inner → BranchesSoFar → Form (Step BranchesSoFar)
 elif_turn inner b =
     pick (is_closing closings.Elif b.next.token)
     (reserved_or_paren (closing_text closings.Elif) false Command >>= λ k. a_branch inner k.1 >>= λ x.
-    push b.branches x.0 >>= λ bs. give (again (branched bs x.1)))
+    push b.branches x.0 >>= λ bs. give (again (branches_so_far bs x.1)))
     (give (done b))
 
 unfoldable pub an_else : Inner → Next → Form (Otherwise × Next)
@@ -134,7 +134,7 @@ an_else inner n = pick (is_closing closings.Else n.token)
 unfoldable pub an_if : Inner → Next → Form (Closed AForm)
 an_if inner n =
     a_branch inner n >>= λ f.
-    many (elif_turn inner) (branched [] f.1) >>= λ b.
+    many (elif_turn inner) (branches_so_far [] f.1) >>= λ b.
     an_else inner b.next >>= λ e.
     closing inner closings.Fi e.1 >>= λ c.
     give (closed (if_then f.0 (branches_of b.branches) e.0) c)
@@ -159,11 +159,11 @@ a_for_name inner n =
     (unexpected inner n)
 
 -- comments and newlines, after these comments, and the token after them
-unfoldable pub a_linebreak : Row Span → Next → Form JoinSo
-a_linebreak cs n = many join_turn (join_so (a_join_of false cs) n)
+unfoldable pub a_linebreak : Row Span → Next → Form JoinSoFar
+a_linebreak cs n = many join_turn (join_so_far (a_join_of false cs) n)
 
 -- `;` or a newline, with newlines and comments after it
-unfoldable pub a_sequential_sep : Inner → Row Span → Next → Form JoinSo
+unfoldable pub a_sequential_sep : Inner → Row Span → Next → Form JoinSoFar
 a_sequential_sep inner cs n =
     a_semicolon n >>= λ s. a_linebreak cs s.1 >>= λ l. pick (s.0 || l.join.broken) (give l) (unexpected inner l.next)
 
@@ -173,18 +173,18 @@ pub record Headed : Type 0 where
   pub comments : Row Span
   pub next : Next
 
-abbrev pub headed : ForWords → JoinSo → Headed
+abbrev pub headed : ForWords → JoinSoFar → Headed
 headed ws l = record { words = ws; comments = l.join.comments; next = l.next }
 
 -- one more word after `in`, or none; a redirection is none
-unfoldable pub word_turn : Inner → Items → Form (Step Items)
+unfoldable pub word_turn : Inner → ItemsSoFar → Form (Step ItemsSoFar)
 word_turn inner i = pick (is_word i.next.token) (an_item inner i Suffix) (give (done i))
 
 -- `in`, words, and what ends them; none of the words is reserved
 unfoldable pub for_words : Inner → Row Span → Form Headed
 for_words inner cs =
     reserved_or_paren (closing_text closings.In) false Suffix >>= λ i.
-    many (word_turn inner) (so_many [] Suffix i.1) >>= λ ws.
+    many (word_turn inner) (items_so_far [] Suffix i.1) >>= λ ws.
     a_sequential_sep inner cs ws.next >>= λ l.
     give (headed (in_words (items_of ws.items)) l)
 
@@ -226,28 +226,28 @@ begins_pattern (tokens.Reserved r) = true
 begins_pattern t = begins_word t
 
 -- the patterns so far, and the token after them
-pub record Patterned : Type 0 where
+pub record PatternsSoFar : Type 0 where
   pub patterns : Row AWord
   pub next : Next
 
-abbrev pub patterned : Row AWord → Next → Patterned
-patterned ws n = record { patterns = ws; next = n }
+abbrev pub patterns_so_far : Row AWord → Next → PatternsSoFar
+patterns_so_far ws n = record { patterns = ws; next = n }
 
 -- the pattern that begins here, after these, and the token after it
-unfoldable pub a_pattern : Inner → Row AWord → Form Patterned
-a_pattern inner ws = a_word inner >>= λ w. push ws w >>= λ vs. next_token Suffix >>= λ n. give (patterned vs n)
+unfoldable pub a_pattern : Inner → Row AWord → Form PatternsSoFar
+a_pattern inner ws = a_word inner >>= λ w. push ws w >>= λ vs. next_token Suffix >>= λ n. give (patterns_so_far vs n)
 
 -- one more pattern, after a `|`
-unfoldable pub one_pattern : Inner → Row AWord → Form (Step Patterned)
+unfoldable pub one_pattern : Inner → Row AWord → Form (Step PatternsSoFar)
 one_pattern inner ws =
     token (by (codes "|")) (move one_byte) >> next_token Suffix >>= λ n.
     pick (begins_word n.token) (a_pattern inner ws >>= λ p. give (again p)) (unexpected inner n)
 
 -- one more, or none
-unfoldable pub pattern_turn : Inner → Patterned → Form (Step Patterned)
+unfoldable pub pattern_turn : Inner → PatternsSoFar → Form (Step PatternsSoFar)
 pattern_turn inner p = pick (is_pipe p.next.token) (one_pattern inner p.patterns) (give (done p))
 
-unfoldable pub a_pattern_list : Inner → Next → Form Patterned
+unfoldable pub a_pattern_list : Inner → Next → Form PatternsSoFar
 a_pattern_list inner n = pick (begins_pattern n.token) (a_pattern inner [] >>= λ p. many (pattern_turn inner) p)
     (unexpected inner n)
 
@@ -256,8 +256,8 @@ unfoldable pub an_open_bracket : Next → Form Next
 an_open_bracket n = pick (is_paren n.token) (move one_byte >> next_token Command) (give n)
 
 -- the entries of a body, which may hold no command, and the token after them
-unfoldable pub a_body : Inner → Next → Form ListSo
-a_body inner n = many (list_turn inner) (list_so (none_listed false) n)
+unfoldable pub a_body : Inner → Next → Form ListSoFar
+a_body inner n = many (list_turn inner) (list_so_far (none_listed false) n)
 
 -- the offset after the last token of a body: a separator, or a command, or what stands before the body
 abbrev pub body_end : ℕ → Listed → ℕ
@@ -292,16 +292,16 @@ an_item_end inner there n =
     (pick (is_closing closings.Esac n.token) (give (item_end there [] n)) (unexpected inner n))
 
 -- the items so far, the comments after them, and the token after those
-pub record CasesSo : Type 0 where
+pub record CasesSoFar : Type 0 where
   pub items : Row ACaseItem
   pub comments : Row Span
   pub next : Next
 
-abbrev pub cases_so : Row ACaseItem → Row Span → Next → CasesSo
-cases_so is cs n = record { items = is; comments = cs; next = n }
+abbrev pub cases_so_far : Row ACaseItem → Row Span → Next → CasesSoFar
+cases_so_far is cs n = record { items = is; comments = cs; next = n }
 
 -- one more item, which has the comments before it
-unfoldable pub one_case : Inner → CasesSo → Form (Step CasesSo)
+unfoldable pub one_case : Inner → CasesSoFar → Form (Step CasesSoFar)
 one_case inner c =
     see here >>= λ p.
     an_open_bracket c.next >>= λ n.
@@ -311,10 +311,10 @@ one_case inner c =
     an_item_end inner (body_end k.0.«end» b.list) b.next >>= λ e.
     push c.items (case_item c.comments (patterns_of ps.patterns) (entries_of b.list.entries)
     (record { mark = record { start = p; «end» = e.at }; falls = falls_through b.next.token })) >>= λ is.
-    give (again (cases_so is e.comments e.next))
+    give (again (cases_so_far is e.comments e.next))
 
 -- one more, or none: `esac` ends them
-unfoldable pub case_turn : Inner → CasesSo → Form (Step CasesSo)
+unfoldable pub case_turn : Inner → CasesSoFar → Form (Step CasesSoFar)
 case_turn inner c = pick (is_closing closings.Esac c.next.token) (give (done c)) (one_case inner c)
 
 -- what stands between `case` and its items: the word, comments, and the token after them
@@ -330,7 +330,7 @@ a_case_head inner n =
 unfoldable pub a_case : Inner → Next → Form (Closed AForm)
 a_case inner n =
     a_case_head inner n >>= λ h.
-    many (case_turn inner) (cases_so [] h.1 h.2) >>= λ c.
+    many (case_turn inner) (cases_so_far [] h.1 h.2) >>= λ c.
     closing inner closings.Esac c.next >>= λ e.
     give (closed (case_in h.0 (cases_of c.items) c.comments) e)
 

@@ -16,7 +16,7 @@ use Rattle.shgrammar.specs.Form.{Form, give, move, change, a_level, ◌>>=◌, �
 use Rattle.shgrammar.specs.Words.{Inner}
 use Rattle.shgrammar.specs.Tokens.{is_end}
 use Rattle.shgrammar.specs.Commands.{pick, is_newline_token, next_token, nothing_waits, unexpected}
-use Rattle.shgrammar.specs.Lists.{list_so, none_listed, on_line}
+use Rattle.shgrammar.specs.Lists.{list_so_far, none_listed, on_line}
 use Rattle.shgrammar.specs.Levels.{most_open, level}
 
 -- the newline with the bodies that follow it, or the end, after the entries; whether it was a newline
@@ -32,7 +32,7 @@ end_of_line inner n = line_end_by inner (is_newline_token n.token) (is_end n.tok
 unfoldable pub an_open_line : Inner → Bool → Form (Row AnEntry × Bool)
 an_open_line inner blank =
     next_token Command >>= λ n.
-    on_line inner (list_so (none_listed blank) n) >>= λ l.
+    on_line inner (list_so_far (none_listed blank) n) >>= λ l.
     end_of_line inner l.next >>= λ newline.
     give (l.list.entries, newline)
 

@@ -20,12 +20,12 @@ pub record Listed : Type 0 where
   pub parted : Option ℕ
 
 -- and the token after them
-pub record ListSo : Type 0 where
+pub record ListSoFar : Type 0 where
   pub list : Listed
   pub next : Next
 
-abbrev pub list_so : Listed → Next → ListSo
-list_so l n = record { list = l; next = n }
+abbrev pub list_so_far : Listed → Next → ListSoFar
+list_so_far l n = record { list = l; next = n }
 
 -- no entry yet, on a line whose first entry may be blank
 abbrev pub none_listed : Bool → Listed
@@ -52,38 +52,38 @@ next_line l = record {
   parted = l.parted;
 }
 
-unfoldable pub one_entry : Inner → ListSo → Form (Step ListSo)
+unfoldable pub one_entry : Inner → ListSoFar → Form (Step ListSoFar)
 one_entry inner l =
     an_entry inner (is_blank_next l.list) l.next >>= λ e.
     push l.list.entries e.entry >>= λ es.
-    give (step_if (is_some e.parted) (list_so (with_command l.list es e.parted) e.next))
+    give (step_if (is_some e.parted) (list_so_far (with_command l.list es e.parted) e.next))
 
 -- one more entry, or that no more follows
-unfoldable pub entry_turn : Inner → ListSo → Form (Step ListSo)
+unfoldable pub entry_turn : Inner → ListSoFar → Form (Step ListSoFar)
 entry_turn inner l = pick (begins_pipeline l.next.token) (one_entry inner l) (give (done l))
 
 -- the comment of a line without entries, or after its last separator, stands for itself
-abbrev pub remark_by : ListSo → Option Span × Next → Form ListSo
+abbrev pub remark_by : ListSoFar → Option Span × Next → Form ListSoFar
 remark_by l (Some c, n) = push l.list.entries (entry (remark c) false (is_blank_next l.list) None) >>= λ es.
-    give (list_so (with_remark l.list es) n)
-remark_by l (None, n) = give (list_so l.list n)
+    give (list_so_far (with_remark l.list es) n)
+remark_by l (None, n) = give (list_so_far l.list n)
 
-unfoldable pub a_remark : ListSo → Form ListSo
+unfoldable pub a_remark : ListSoFar → Form ListSoFar
 a_remark l = a_comment l.next >>= remark_by l
 
 -- the entries and the comment of one line
-unfoldable pub on_line : Inner → ListSo → Form ListSo
+unfoldable pub on_line : Inner → ListSoFar → Form ListSoFar
 on_line inner l = many (entry_turn inner) l >>= a_remark
 
 -- a line of a list, or what stands before that which ends the list
-unfoldable pub list_turn : Inner → ListSo → Form (Step ListSo)
+unfoldable pub list_turn : Inner → ListSoFar → Form (Step ListSoFar)
 list_turn inner l = on_line inner l >>= λ m.
     a_newline m.next >>= λ x.
-    give (step_if x.0 (list_so (next_line m.list) x.1))
+    give (step_if x.0 (list_so_far (next_line m.list) x.1))
 
 -- A list that holds a command, and the token after it. It ends where no entry may
 -- begin; who reads it asks for what has to follow.
 unfoldable pub a_list : Inner → Next → Form (Entries × Next)
 a_list inner n =
-    many (list_turn inner) (list_so (none_listed false) n) >>= λ l.
+    many (list_turn inner) (list_so_far (none_listed false) n) >>= λ l.
     pick l.list.commands (give (entries_of l.list.entries, l.next)) (unexpected inner l.next)

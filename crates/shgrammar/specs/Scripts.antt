@@ -19,16 +19,16 @@ pub record AScript : Type 0 where
   pub fault : Option Fault
 
 -- What the lines so far gave. `gap` tells that a line without entries follows the last entry.
-pub record SoFar : Type 0 where
+pub record LinesSoFar : Type 0 where
   pub entries : Row AnEntry
   pub gap : Bool
 
 -- the first entry of the next line is blank where one stands before it, and at least
 -- two newline tokens are between them
-abbrev pub is_blank_line : SoFar → Bool
+abbrev pub is_blank_line : LinesSoFar → Bool
 is_blank_line so = so.gap && not (is_empty so.entries)
 
-abbrev pub with_line : SoFar → Row AnEntry → SoFar
+abbrev pub with_line : LinesSoFar → Row AnEntry → LinesSoFar
 with_line so es = record { entries = so.entries ++ es; gap = is_empty es }
 
 -- a line, whose first entry may be blank
@@ -36,18 +36,19 @@ abbrev pub the_line : Bool → Form (Row AnEntry × Bool)
 the_line blank = a_line (level most_open) blank
 
 -- the lines from p on, and the tokens passed
-pub data Lines (edition : Edition) (B : List ℕ) : SoFar → ℕ → AScript → Row Spelled → Type 0 where
-  line_ended : {so : SoFar} {p : ℕ} {s : AScript} {l : Row Spelled} (es : Row AnEntry) (t : State) (k : Row Spelled)
+pub data Lines (edition : Edition) (B : List ℕ) : LinesSoFar → ℕ → AScript → Row Spelled → Type 0 where
+  line_ended : {so : LinesSoFar} {p : ℕ} {s : AScript} {l : Row Spelled} (es : Row AnEntry) (t : State)
+      (k : Row Spelled)
       → may (the_line (is_blank_line so)) (given edition (drop p B) p) (standing 0) (Ok ((es, true), t)) k →
       Lines edition B (with_line so es) (p + t.at) s l → Lines edition B so p s (k ++ l)
-  last_line : {so : SoFar} {p : ℕ} (es : Row AnEntry) (t : State) (k : Row Spelled) →
+  last_line : {so : LinesSoFar} {p : ℕ} (es : Row AnEntry) (t : State) (k : Row Spelled) →
       may (the_line (is_blank_line so)) (given edition (drop p B) p) (standing 0) (Ok ((es, false), t)) k
       → Lines edition B so p (record { entries = entries_of (so.entries ++ es); fault = None }) k
-  faulty : {so : SoFar} {p : ℕ} (f : Fault) (k : Row Spelled) →
+  faulty : {so : LinesSoFar} {p : ℕ} (f : Fault) (k : Row Spelled) →
       may (the_line (is_blank_line so)) (given edition (drop p B) p) (standing 0) (Err f) k
       → Lines edition B so p (record { entries = entries_of so.entries; fault = Some f }) k
 
-abbrev pub nothing_yet : SoFar
+abbrev pub nothing_yet : LinesSoFar
 nothing_yet = record { entries = []; gap = false }
 
 -- what is read of the bytes of a script, and the tokens passed
@@ -70,19 +71,19 @@ line_told edition B keep blank p o = does (the_line blank) keep (given edition (
 abbrev pub line_from : Edition → List ℕ → Keep → Bool → ℕ → Read (Row AnEntry × Bool)
 line_from edition B keep blank p = line_told edition B keep blank p p
 
-abbrev pub script_by : (SoFar → ℕ → AScript) → SoFar → ℕ → Read (Row AnEntry × Bool) → AScript
+abbrev pub script_by : (LinesSoFar → ℕ → AScript) → LinesSoFar → ℕ → Read (Row AnEntry × Bool) → AScript
 script_by rest so p (Ok ((es, true), t)) = rest (with_line so es) (p + t.at)
 script_by rest so p (Ok ((es, false), t)) = record { entries = entries_of (so.entries ++ es); fault = None }
 script_by rest so p (Err f) = record { entries = entries_of so.entries; fault = Some f }
 
 -- with less than n bytes left
-unfoldable pub script_below : Edition → List ℕ → ℕ → SoFar → ℕ → AScript
+unfoldable pub script_below : Edition → List ℕ → ℕ → LinesSoFar → ℕ → AScript
 script_below edition B zero so p = record { entries = entries_of so.entries; fault = None }
 script_below edition B (suc n) so p =
     script_by (script_below edition B n) so p (line_from edition B Whole (is_blank_line so) p)
 
 -- the lines from p on
-unfoldable pub script_on : Edition → List ℕ → SoFar → ℕ → AScript
+unfoldable pub script_on : Edition → List ℕ → LinesSoFar → ℕ → AScript
 script_on edition B so p = script_below edition B (suc (length B - p)) so p
 
 unfoldable pub script_at : Edition → List ℕ → AScript

@@ -9,14 +9,14 @@ use Rattle.shgrammar.specs.Sights.{here, one_byte}
 use Rattle.shgrammar.specs.Form.{Form, give, see, move, push, ends_as, many, a_level, in_substitution, ◌>>=◌, ◌>>◌}
 use Rattle.shgrammar.specs.Words.{Inner}
 use Rattle.shgrammar.specs.Commands.{next_token, nothing_waits, pick, unexpected}
-use Rattle.shgrammar.specs.Lists.{list_so, none_listed, list_turn}
+use Rattle.shgrammar.specs.Lists.{list_so_far, none_listed, list_turn}
 use Rattle.shgrammar.specs.Compounds.{is_closing}
 
 -- what stands in a substitution, and its `)`: a list, or newlines and comments alone
 unfoldable pub substitution_list : Inner → Form Entries
 substitution_list inner =
     next_token Command >>= λ n.
-    many (list_turn inner) (list_so (none_listed false) n) >>= λ l.
+    many (list_turn inner) (list_so_far (none_listed false) n) >>= λ l.
     pick (is_closing closings.Paren l.next.token) (nothing_waits >> move one_byte >> give (entries_of l.list.entries))
     (unexpected inner l.next)
 

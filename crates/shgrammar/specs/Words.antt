@@ -59,12 +59,12 @@ pub record WordSoFar : Type 0 where
   pub nested : ℕ
   pub substs : Row ASubst
 
-abbrev pub having : ℕ → Row ASubst → WordSoFar
-having n ss = record { nested = n; substs = ss }
+abbrev pub word_so_far : ℕ → Row ASubst → WordSoFar
+word_so_far n ss = record { nested = n; substs = ss }
 
 -- a construct, from just after its opener on
 abbrev pub opened : Inner → Mode → ℕ → WordSoFar → Form (Step WordSoFar)
-opened inner mode b h = inner.construct mode b h.substs >>= λ ss. give (again (having h.nested ss))
+opened inner mode b h = inner.construct mode b h.substs >>= λ ss. give (again (word_so_far h.nested ss))
 
 -- One piece, or the end of the construct that opened at b. A fault stands where the piece begins, past
 -- continuations; that of text that ends inside at the opener.
@@ -81,15 +81,15 @@ piece_row inner mode b h pieces.Pid = move one_byte >> move one_byte >> give (ag
 piece_row inner mode b h pieces.Subst =
     see the_byte >>= λ q.
     move one_byte >> move one_byte >> inner.substitution q h.substs >>= λ ss.
-    give (again (having h.nested ss))
+    give (again (word_so_far h.nested ss))
 piece_row inner mode b h pieces.Arith = see the_byte >>= λ q.
     move one_byte >> move one_byte >> move one_byte >> opened inner Arith q h
 piece_row inner mode b h pieces.Param =
     see the_byte >>= λ q.
     move one_byte >> move one_byte >> move the_parameter >> see (the_rest mode) >>= λ m.
     opened inner m q h
-piece_row inner mode b h pieces.Open = move one_byte >> give (again (having (h.nested + 1) h.substs))
-piece_row inner mode b h pieces.Close = move one_byte >> give (again (having (h.nested - 1) h.substs))
+piece_row inner mode b h pieces.Open = move one_byte >> give (again (word_so_far (h.nested + 1) h.substs))
+piece_row inner mode b h pieces.Close = move one_byte >> give (again (word_so_far (h.nested - 1) h.substs))
 piece_row inner mode b h pieces.BadClose = see the_byte >>= λ q. stop BadArithClose q
 piece_row inner mode b h pieces.Ordinary = move one_byte >> give (again h)
 
@@ -107,7 +107,7 @@ a_piece inner mode b h = see (the_piece mode h.nested) >>= piece_row inner mode 
 
 -- what a construct holds, up to its end, after these substitutions
 unfoldable pub contents : Inner → Mode → ℕ → Row ASubst → Form (Row ASubst)
-contents inner mode b ss = many (a_piece inner mode b) (having 0 ss) >>= λ h. give h.substs
+contents inner mode b ss = many (a_piece inner mode b) (word_so_far 0 ss) >>= λ h. give h.substs
 
 -- ---- words
 

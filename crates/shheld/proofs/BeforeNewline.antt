@@ -21,7 +21,7 @@ use Rattle.shgrammar.specs.Form.{Read, does}
 use Rattle.shgrammar.specs.HereDocuments.{own_level}
 use Rattle.shgrammar.specs.Levels.{level, most_open}
 use Rattle.shgrammar.specs.Lines.{ALine, IsLine, a_line, an_open_line, kind_of, line_read, line_stops}
-use Rattle.shgrammar.specs.Lists.{list_so, none_listed, on_line}
+use Rattle.shgrammar.specs.Lists.{list_so_far, none_listed, on_line}
 use Rattle.shgrammar.specs.Sights.{Given, State, given, standing}
 use Rattle.shgrammar.proofs.EachSpan.{EntryIn, entries_in, throughout_so}
 use Rattle.shgrammar.proofs.Everywhere.{level_in}
@@ -54,11 +54,13 @@ begin_before limit p es lt all =
 
 module _ (g : Given) where
   on_line_here : (blank : Bool) (n : Next) (s : State) →
-      Tells Whole g (on_line (level most_open) (list_so (none_listed blank) n)) (λ l t. ListIn (g.offset + t.at) l) s
+      Tells Whole g (on_line (level most_open) (list_so_far (none_listed blank) n))
+      (λ l t. ListIn (g.offset + t.at) l) s
   on_line_here blank n s =
       record {
-        told = up_to_here ListIn g.offset (does (on_line (level most_open) (list_so (none_listed blank) n)) Whole g s)
-            (λ limit. (on_line_in (level_in g limit most_open) (list_so (none_listed blank) n) s
+        told = up_to_here ListIn g.offset
+            (does (on_line (level most_open) (list_so_far (none_listed blank) n)) Whole g s)
+            (λ limit. (on_line_in (level_in g limit most_open) (list_so_far (none_listed blank) n) s
             (All-nil (EntryIn limit), tt)).told.told);
       }
 

@@ -23,13 +23,13 @@ use Rattle.shgrammar.specs.declared.token.Token.TheVariants as tokens
 use Rattle.shgrammar.specs.Bytes.{past_byte}
 use Rattle.shgrammar.specs.Characters.{number_sign}
 use Rattle.shgrammar.specs.Classes.{is_digit, is_name}
-use Rattle.shgrammar.specs.Commands.{next_token, is_newline_token, is_semicolon, a_semicolon, is_pipe, is_bang, begins_simple, begins_word, begins_redirect, begins_pipeline, opener_of, compound_by, and_or_operator_of, Items, so_many, breaks, after_word, one_redirect, after_redirect, redirect_turn, with_redirect_list, an_item, item_by, item_turn, a_simple, comment_by, a_comment, a_newline, with_comment, JoinSo, join_turn, a_join, a_command, a_bang, Piped, piped, one_command, pipe_turn, a_pipeline, Joined, one_pipeline, joined_by, and_or_turn, an_and_or, separator_of, separator_by, a_separator, an_entry, is_paren, is_word, a_word_command, ends_item, falls_through, is_long, is_number_token, is_strip, redirect_operator_of, a_number, an_operator, operator_by, a_target, a_document, document_by, takes_here}
+use Rattle.shgrammar.specs.Commands.{next_token, is_newline_token, is_semicolon, a_semicolon, is_pipe, is_bang, begins_simple, begins_word, begins_redirect, begins_pipeline, opener_of, compound_by, and_or_operator_of, ItemsSoFar, items_so_far, breaks, after_word, one_redirect, after_redirect, redirect_turn, with_redirect_list, an_item, item_by, item_turn, a_simple, comment_by, a_comment, a_newline, with_comment, JoinSoFar, join_turn, a_join, a_command, a_bang, PipesSoFar, pipes_so_far, one_command, pipe_turn, a_pipeline, AndOrSoFar, one_pipeline, joined_by, and_or_turn, an_and_or, separator_of, separator_by, a_separator, an_entry, is_paren, is_word, a_word_command, ends_item, falls_through, is_long, is_number_token, is_strip, redirect_operator_of, a_number, an_operator, operator_by, a_target, a_document, document_by, takes_here}
 use Rattle.shgrammar.specs.Comments.{comment_at, past_comment}
-use Rattle.shgrammar.specs.Compounds.{Branched, branched, Closed, is_closing, is_open_paren, is_close_paren, past_opener, reserved_or_paren, closing, a_branch, elif_turn, an_else, an_if, a_loop, a_group, a_for_name, a_linebreak, a_sequential_sep, begins_words, Headed, word_turn, for_words, a_for_head, a_for, a_form, a_compound, a_function, a_case_word, begins_pattern, Patterned, a_pattern, one_pattern, pattern_turn, a_pattern_list, an_open_bracket, a_body, ItemEnd, an_ender, an_item_end, CasesSo, cases_so, one_case, case_turn, a_case_head, a_case}
+use Rattle.shgrammar.specs.Compounds.{BranchesSoFar, branches_so_far, Closed, is_closing, is_open_paren, is_close_paren, past_opener, reserved_or_paren, closing, a_branch, elif_turn, an_else, an_if, a_loop, a_group, a_for_name, a_linebreak, a_sequential_sep, begins_words, Headed, word_turn, for_words, a_for_head, a_for, a_form, a_compound, a_function, a_case_word, begins_pattern, PatternsSoFar, a_pattern, one_pattern, pattern_turn, a_pattern_list, an_open_bracket, a_body, ItemEnd, an_ender, an_item_end, CasesSoFar, cases_so_far, one_case, case_turn, a_case_head, a_case}
 use Rattle.shgrammar.specs.Form.{Form, Spelled, Telling, move, both, change, many, step_if, token}
 use Rattle.shgrammar.specs.HereDocuments.{ADelimiter, bodies_from, bodies_here, changed, state_by, waits, with_waiting}
 use Rattle.shgrammar.specs.Levels.{level}
-use Rattle.shgrammar.specs.Lists.{ListSo, list_so, none_listed, one_entry, entry_turn, remark_by, a_remark, on_line, list_turn, a_list}
+use Rattle.shgrammar.specs.Lists.{ListSoFar, list_so_far, none_listed, one_entry, entry_turn, remark_by, a_remark, on_line, list_turn, a_list}
 use Rattle.shgrammar.specs.Shows.{IsRead, Shows}
 use Rattle.shgrammar.specs.Sights.{Given, Move, State, Waiting, a_comment_on, is_a_name, one_byte, seen, the_digits, to}
 use Rattle.shgrammar.specs.Standing.{raw_stands}
@@ -179,7 +179,7 @@ module _ (g : Given) where
 
   -- Comments and newlines stay in the text, and hand on a token there.
 
-  abbrev JoinHanded : JoinSo → State → Type 0
+  abbrev JoinHanded : JoinSoFar → State → Type 0
   JoinHanded j t = Handed j.next t
 
   -- nothing moves where a comment is kept
@@ -188,12 +188,12 @@ module _ (g : Given) where
   kept_in cs (Some c) n s so = record { told = so }
   kept_in cs None n s so = gives so
 
-  join_step : (p : Bool) (j : JoinSo) (t : State) → Handed j.next t
+  join_step : (p : Bool) (j : JoinSoFar) (t : State) → Handed j.next t
       → Turned Whole g JoinHanded (step_if p j) t
   join_step true j t so = so
   join_step false j t so = so
 
-  join_turn_in : (j : JoinSo) (s : State) → Handed j.next s → N (join_turn j) (Turned Whole g JoinHanded) s
+  join_turn_in : (j : JoinSoFar) (s : State) → Handed j.next s → N (join_turn j) (Turned Whole g JoinHanded) s
   unfolding join_turn
   join_turn_in j s so =
       comment_in j.next s so ▹ λ c t one. kept_in j.join.comments c.0 c.1 t one ▹ λ cs u two.
@@ -275,7 +275,7 @@ module _ (g : Given) where
     pub function : (name : Span) (s : State) → IsRead T s.at → N (inner.function name) HandsOn s
 
   module _ (inner : Inner) (stays : Stays inner) where
-    abbrev ItemsHanded : Items → State → Type 0
+    abbrev ItemsHanded : ItemsSoFar → State → Type 0
     ItemsHanded i t = Handed i.next t
 
     target_in : (s : State) → s.at ≤ length T → N (a_target inner) InText s
@@ -294,13 +294,13 @@ module _ (g : Given) where
         target_in u two ▹ λ w v three. document_in o.0 _ _ w.1 v three ▹ λ h x four.
         pushed_on (onward position four ▹ λ m y good. gives good))
 
-    an_item_in : (i : Items) (position : Position) (s : State) → s.at ≤ length T
+    an_item_in : (i : ItemsSoFar) (position : Position) (s : State) → s.at ≤ length T
         → N (an_item inner i position) (Turned Whole g ItemsHanded) s
     unfolding an_item
     an_item_in i position s le =
         stays.words s le ▹ λ w t low. pushed_on (onward position low ▹ λ n v good. gives good)
 
-    item_by_in : (i : Items) (o : Option Position) (s : State) → Handed i.next s
+    item_by_in : (i : ItemsSoFar) (o : Option Position) (s : State) → Handed i.next s
         → N (item_by inner i o) (Turned Whole g ItemsHanded) s
     item_by_in i (Some position) s so = an_item_in i position s so.within
     item_by_in i None s so =
@@ -308,17 +308,17 @@ module _ (g : Given) where
         (λ e. redirect_in (breaks i) (after_redirect i.position) i.items i.next s so)
         (gives so)
 
-    item_turn_in : (i : Items) (s : State) → Handed i.next s
+    item_turn_in : (i : ItemsSoFar) (s : State) → Handed i.next s
         → N (item_turn inner i) (Turned Whole g ItemsHanded) s
     unfolding item_turn
     item_turn_in i s so = item_by_in i (after_word i.next.token) s so
 
-    simple_in : (i : Items) (s : State) → Handed i.next s → N (a_simple inner i) HandsOn s
+    simple_in : (i : ItemsSoFar) (s : State) → Handed i.next s → N (a_simple inner i) HandsOn s
     unfolding a_simple
     simple_in i s so =
         tells_many Whole g (item_turn inner) ItemsHanded item_turn_in i s so ▹ λ j t good. gives good
 
-    redirect_turn_in : (i : Items) (s : State) → Handed i.next s
+    redirect_turn_in : (i : ItemsSoFar) (s : State) → Handed i.next s
         → N (redirect_turn inner i) (Turned Whole g ItemsHanded) s
     unfolding redirect_turn
     redirect_turn_in i s so =
@@ -329,7 +329,7 @@ module _ (g : Given) where
     with_redirect_list_in : (c : ACommand × Next) (s : State) → Handed c.1 s → N (with_redirect_list inner c) HandsOn s
     unfolding with_redirect_list
     with_redirect_list_in c s so =
-        let none = so_many [] Command c.1 in
+        let none = items_so_far [] Command c.1 in
         tells_many Whole g (redirect_turn inner) ItemsHanded redirect_turn_in none s so ▹ λ r t good.
         gives good
 
@@ -348,13 +348,13 @@ module _ (g : Given) where
         picked_by (is_paren n.token)
         (λ e. let byte = read n v so is_paren refl e in
         picked_by (seen is_a_name g s) (λ f. stays.function (word_span w) v byte) (record { told = tt }))
-        (pushed_on (simple_in (so_many _ Suffix n) v so)))
+        (pushed_on (simple_in (items_so_far _ Suffix n) v so)))
 
     command_in : (n : Next) (s : State) → Handed n s → N (a_command inner n) HandsOn s
     unfolding a_command
     command_in n s so =
         picked_by (is_word n.token) (λ e. word_command_in s so.within)
-        (picked_by (begins_simple n.token) (λ e. simple_in (so_many [] Command n) s so) (compound_in n s so))
+        (picked_by (begins_simple n.token) (λ e. simple_in (items_so_far [] Command n) s so) (compound_in n s so))
 
     bang_in : (n : Next) (s : State) → Handed n s → N (a_bang n) HandsOn s
     unfolding a_bang
@@ -364,11 +364,11 @@ module _ (g : Given) where
         onward Command le ▹ λ m u good. gives good)
         (gives so)
 
-    abbrev PipedHanded : Piped → State → Type 0
-    PipedHanded p t = Handed p.next t
+    abbrev PipesHanded : PipesSoFar → State → Type 0
+    PipesHanded p t = Handed p.next t
 
-    pipe_turn_in : (p : Piped) (s : State) → Handed p.next s
-        → N (pipe_turn inner p) (Turned Whole g PipedHanded) s
+    pipe_turn_in : (p : PipesSoFar) (s : State) → Handed p.next s
+        → N (pipe_turn inner p) (Turned Whole g PipesHanded) s
     unfolding pipe_turn one_command
     pipe_turn_in p s so =
         picked_by (is_pipe p.next.token)
@@ -380,19 +380,19 @@ module _ (g : Given) where
     unfolding a_pipeline
     pipeline_in n s so =
         bang_in n s so ▹ λ b t one. command_in b.1 t one ▹ λ c u two.
-        tells_many Whole g (pipe_turn inner) PipedHanded pipe_turn_in (piped [] c.1) u two ▹ λ p v good.
+        tells_many Whole g (pipe_turn inner) PipesHanded pipe_turn_in (pipes_so_far [] c.1) u two ▹ λ p v good.
         gives good
 
-    abbrev JoinedHanded : Joined → State → Type 0
-    JoinedHanded a t = Handed a.next t
+    abbrev AndOrHanded : AndOrSoFar → State → Type 0
+    AndOrHanded a t = Handed a.next t
 
-    and_or_turn_in : (a : Joined) (s : State) → Handed a.next s
-        → N (and_or_turn inner a) (Turned Whole g JoinedHanded) s
+    and_or_turn_in : (a : AndOrSoFar) (s : State) → Handed a.next s
+        → N (and_or_turn inner a) (Turned Whole g AndOrHanded) s
     unfolding and_or_turn one_pipeline
     and_or_turn_in a s so = by_operator (and_or_operator_of a.next.token) refl
       where
         by_operator : (o : Option AndOrOperator) → and_or_operator_of a.next.token ≡ o
-            → N (joined_by inner a o) (Turned Whole g JoinedHanded) s
+            → N (joined_by inner a o) (Turned Whole g AndOrHanded) s
         by_operator (Some o) is =
             two_on s (so.shows.4 o is) ▹ λ x t le.
             join_in a.next.broken t le ▹ λ j u one. pipeline_in j.1 u one ▹ λ p v good.
@@ -403,7 +403,7 @@ module _ (g : Given) where
     unfolding an_and_or
     and_or_in n s so =
         pipeline_in n s so ▹ λ p t one.
-        tells_many Whole g (and_or_turn inner) JoinedHanded and_or_turn_in _ t one ▹ λ a u good.
+        tells_many Whole g (and_or_turn inner) AndOrHanded and_or_turn_in _ t one ▹ λ a u good.
         gives good
 
     entry_in : (blank : Bool) (n : Next) (s : State) → Handed n s
@@ -417,15 +417,15 @@ module _ (g : Given) where
 
     -- Each row of a list stays in the text, and hands on a token there.
 
-    abbrev pub ListHanded : ListSo → State → Type 0
+    abbrev pub ListHanded : ListSoFar → State → Type 0
     ListHanded l t = Handed l.next t
 
-    list_step : (p : Bool) (l : ListSo) (t : State) → Handed l.next t
+    list_step : (p : Bool) (l : ListSoFar) (t : State) → Handed l.next t
         → Turned Whole g ListHanded (step_if p l) t
     list_step true l t so = so
     list_step false l t so = so
 
-    entry_turn_in : (l : ListSo) (s : State) → Handed l.next s
+    entry_turn_in : (l : ListSoFar) (s : State) → Handed l.next s
         → N (entry_turn inner l) (Turned Whole g ListHanded) s
     unfolding entry_turn one_entry
     entry_turn_in l s so =
@@ -434,27 +434,27 @@ module _ (g : Given) where
         pushed_on (gives (list_step (is_some e.parted) _ t good)))
         (gives so)
 
-    remark_in : (l : ListSo) (x : Option Span × Next) (s : State) → Handed x.1 s
+    remark_in : (l : ListSoFar) (x : Option Span × Next) (s : State) → Handed x.1 s
         → N (remark_by l x) ListHanded s
     remark_in l (Some c, n) s so = pushed_on (gives so)
     remark_in l (None, n) s so = gives so
 
-    pub on_line_in : (l : ListSo) (s : State) → Handed l.next s → N (on_line inner l) ListHanded s
+    pub on_line_in : (l : ListSoFar) (s : State) → Handed l.next s → N (on_line inner l) ListHanded s
     unfolding on_line a_remark
     on_line_in l s so =
         tells_many Whole g (entry_turn inner) ListHanded entry_turn_in l s so ▹ λ m t one.
         comment_in m.next t one ▹ λ x u good. remark_in m x u good
 
-    list_turn_in : (l : ListSo) (s : State) → Handed l.next s
+    list_turn_in : (l : ListSoFar) (s : State) → Handed l.next s
         → N (list_turn inner l) (Turned Whole g ListHanded) s
     unfolding list_turn
     list_turn_in l s so =
         on_line_in l s so ▹ λ m t one. newline_in m.next t one ▹ λ x u good. gives (list_step x.0 _ u good)
 
     lines_in : (n : Next) (s : State) → Handed n s
-        → N (many (list_turn inner) (list_so (none_listed false) n)) ListHanded s
+        → N (many (list_turn inner) (list_so_far (none_listed false) n)) ListHanded s
     lines_in n s so =
-        tells_many Whole g (list_turn inner) ListHanded list_turn_in (list_so (none_listed false) n) s so
+        tells_many Whole g (list_turn inner) ListHanded list_turn_in (list_so_far (none_listed false) n) s so
 
     list_in : (n : Next) (s : State) → Handed n s → N (a_list inner n) HandsOn s
     unfolding a_list
@@ -498,11 +498,11 @@ module _ (g : Given) where
         list_in n s so ▹ λ c t one. closing_in closings.Then c.1 t one ▹ λ k u two.
         list_in k.1 u two ▹ λ b v good. gives good
 
-    abbrev BranchedHanded : Branched → State → Type 0
-    BranchedHanded b t = Handed b.next t
+    abbrev BranchesHanded : BranchesSoFar → State → Type 0
+    BranchesHanded b t = Handed b.next t
 
-    elif_in : (b : Branched) (s : State) → Handed b.next s
-        → N (elif_turn inner b) (Turned Whole g BranchedHanded) s
+    elif_in : (b : BranchesSoFar) (s : State) → Handed b.next s
+        → N (elif_turn inner b) (Turned Whole g BranchesHanded) s
     unfolding elif_turn
     elif_in b s so =
         picked_by (is_closing closings.Elif b.next.token)
@@ -525,7 +525,7 @@ module _ (g : Given) where
     unfolding an_if
     if_in n s so =
         branch_in n s so ▹ λ f t one.
-        tells_many Whole g (elif_turn inner) BranchedHanded elif_in (branched [] f.1) t one ▹ λ b u two.
+        tells_many Whole g (elif_turn inner) BranchesHanded elif_in (branches_so_far [] f.1) t one ▹ λ b u two.
         else_in b.next u two ▹ λ e v three. closing_in closings.Fi e.1 v three ▹ λ c w good. gives good
 
     loop_in : (n : Next) (s : State) → Handed n s → N (a_loop inner n) ClosedHanded s
@@ -558,7 +558,7 @@ module _ (g : Given) where
     abbrev HeadHanded : Headed → State → Type 0
     HeadHanded h t = Handed h.next t
 
-    word_turn_in : (i : Items) (s : State) → Handed i.next s
+    word_turn_in : (i : ItemsSoFar) (s : State) → Handed i.next s
         → N (word_turn inner i) (Turned Whole g ItemsHanded) s
     unfolding word_turn
     word_turn_in i s so = picked_by (is_word i.next.token) (λ e. an_item_in i Suffix s so.within) (gives so)
@@ -592,16 +592,16 @@ module _ (g : Given) where
         (λ e. stays.words s so.within ▹ λ w t le. onward Command le ▹ λ m u good. gives good)
         (stops inner n)
 
-    abbrev PatternedHanded : Patterned → State → Type 0
-    PatternedHanded p t = Handed p.next t
+    abbrev PatternsHanded : PatternsSoFar → State → Type 0
+    PatternsHanded p t = Handed p.next t
 
-    pattern_in : (ws : Row AWord) (s : State) → s.at ≤ length T → N (a_pattern inner ws) PatternedHanded s
+    pattern_in : (ws : Row AWord) (s : State) → s.at ≤ length T → N (a_pattern inner ws) PatternsHanded s
     unfolding a_pattern
     pattern_in ws s le =
         stays.words s le ▹ λ w t low. pushed_on (onward Suffix low ▹ λ n u good. gives good)
 
-    pattern_turn_in : (p : Patterned) (s : State) → Handed p.next s
-        → N (pattern_turn inner p) (Turned Whole g PatternedHanded) s
+    pattern_turn_in : (p : PatternsSoFar) (s : State) → Handed p.next s
+        → N (pattern_turn inner p) (Turned Whole g PatternsHanded) s
     unfolding pattern_turn one_pattern
     pattern_turn_in p s so =
         picked_by (is_pipe p.next.token)
@@ -612,12 +612,12 @@ module _ (g : Given) where
         (stops inner n))
         (gives so)
 
-    pattern_list_in : (n : Next) (s : State) → Handed n s → N (a_pattern_list inner n) PatternedHanded s
+    pattern_list_in : (n : Next) (s : State) → Handed n s → N (a_pattern_list inner n) PatternsHanded s
     unfolding a_pattern_list
     pattern_list_in n s so =
         picked_by (begins_pattern n.token)
         (λ e. pattern_in [] s so.within ▹ λ p t one.
-        tells_many Whole g (pattern_turn inner) PatternedHanded pattern_turn_in p t one)
+        tells_many Whole g (pattern_turn inner) PatternsHanded pattern_turn_in p t one)
         (stops inner n)
 
     open_bracket_in : (n : Next) (s : State) → Handed n s → N (an_open_bracket n) Handed s
@@ -643,10 +643,10 @@ module _ (g : Given) where
         picked_by (ends_item n.token) (λ e. ender_in (falls_through n.token) s (so.shows.8 e))
         (picked_by (is_closing closings.Esac n.token) (λ e. gives so) (stops inner n))
 
-    abbrev CasesHanded : CasesSo → State → Type 0
+    abbrev CasesHanded : CasesSoFar → State → Type 0
     CasesHanded c t = Handed c.next t
 
-    one_case_in : (c : CasesSo) (s : State) → Handed c.next s
+    one_case_in : (c : CasesSoFar) (s : State) → Handed c.next s
         → N (one_case inner c) (Turned Whole g CasesHanded) s
     unfolding one_case a_body
     one_case_in c s so =
@@ -654,7 +654,7 @@ module _ (g : Given) where
         closing_in closings.Paren ps.next v one ▹ λ k w two. lines_in k.1 w two ▹ λ b x three.
         item_end_in _ b.next x three ▹ λ e y good. pushed_on (gives good))
 
-    case_turn_in : (c : CasesSo) (s : State) → Handed c.next s
+    case_turn_in : (c : CasesSoFar) (s : State) → Handed c.next s
         → N (case_turn inner c) (Turned Whole g CasesHanded) s
     unfolding case_turn
     case_turn_in c s so =
@@ -671,7 +671,7 @@ module _ (g : Given) where
     unfolding a_case
     case_in_text n s so =
         case_head_in n s so ▹ λ h t one.
-        tells_many Whole g (case_turn inner) CasesHanded case_turn_in (cases_so [] h.1 h.2) t one ▹ λ c u two.
+        tells_many Whole g (case_turn inner) CasesHanded case_turn_in (cases_so_far [] h.1 h.2) t one ▹ λ c u two.
         closing_in closings.Esac c.next u two ▹ λ e v good. gives good
 
     form_in : (o : Opener) (n : Next) (s : State) → Handed n s → N (a_form inner o n) ClosedHanded s

@@ -16,7 +16,7 @@ use Rattle.shgrammar.specs.Form.{change, does, nothing_read}
 use Rattle.shgrammar.specs.HereDocuments.{bodies_here, first_waiting, own_level}
 use Rattle.shgrammar.specs.Levels.{level, most_open}
 use Rattle.shgrammar.specs.Lines.{AKind, ALine, IsLine, a_line, an_open_line, end_of_line, is_ended, line_read, line_stops}
-use Rattle.shgrammar.specs.Lists.{list_so, none_listed}
+use Rattle.shgrammar.specs.Lists.{list_so_far, none_listed}
 use Rattle.shgrammar.specs.Sights.{Given, State, given, standing}
 use Rattle.shgrammar.specs.Standing.{at_end, raw_stands}
 use Rattle.shgrammar.specs.Tokens.{is_end}
@@ -100,7 +100,7 @@ module _ (g : Given) where
   unfolding an_open_line
   open_rest inner stays blank s le =
       tells_then Whole g (next_here g Command s le)
-      (λ n t one. tells_then Whole g (on_line_in g inner stays (list_so (none_listed blank) n) t one)
+      (λ n t one. tells_then Whole g (on_line_in g inner stays (list_so_far (none_listed blank) n) t one)
       (λ l u two. tells_then Whole g (end_rest inner l.next u two)
       (λ newline v rest. tells_give Whole g rest)))
 

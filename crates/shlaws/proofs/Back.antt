@@ -3,7 +3,7 @@ use Rattle.std.proofs.Common.{refl, ℕ, Bool, List, List as Row, drop}
 use Rattle.shast.specs.Tree.{AnEntry}
 use Rattle.shgrammar.specs.declared.edition.Edition.{Edition}
 use Rattle.shgrammar.specs.Form.{Comes, Form, Read, Spelled, Step, give, see, move, push, stop, both, when, token, loop, ends_as, change, with_bytes, a_level, in_substitution, Turns, last, more, halts, may}
-use Rattle.shgrammar.specs.Scripts.{AScript, Lines, Passes, SoFar, is_blank_line, line_ended, last_line, faulty, the_line}
+use Rattle.shgrammar.specs.Scripts.{AScript, Lines, Passes, LinesSoFar, is_blank_line, line_ended, last_line, faulty, the_line}
 use Rattle.shgrammar.specs.Sights.{Given, State, given, standing}
 use Rattle.shlaws.specs.Onward.{LineOnward, LinesOnward, PassesOnward, TurnsOn, faulty as faulty_on, halts as halts_on, last as last_on, last_line as last_line_on, line_ended as line_ended_on, may_onward, more as more_on}
 use Rattle.shgrammar.proofs.Each.{Each, each_bytes, each_either, each_ending, each_level, each_then, each_token}
@@ -33,13 +33,13 @@ back g (with_bytes r) s y k p = each_bytes g (back g r) s y k p
 back g (a_level r) s y k p = each_level (back g r) s y k p
 back g (in_substitution r) s y k p = back g r s y k p
 
-line_back : (edition : Edition) (B : List ℕ) (so : SoFar) (p : ℕ) (x : Read (Row AnEntry × Bool))
+line_back : (edition : Edition) (B : List ℕ) (so : LinesSoFar) (p : ℕ) (x : Read (Row AnEntry × Bool))
     (k : Row Spelled) → LineOnward edition B so p x k
     → may (the_line (is_blank_line so)) (given edition (drop p B) p) (standing 0) x k
 line_back edition B so p x k read =
     back (given edition (drop p B) p) (the_line (is_blank_line so)) (standing 0) x k read
 
-lines_back : (edition : Edition) (B : List ℕ) (so : SoFar) (p : ℕ) (s : AScript) (k : Row Spelled)
+lines_back : (edition : Edition) (B : List ℕ) (so : LinesSoFar) (p : ℕ) (s : AScript) (k : Row Spelled)
     → LinesOnward edition B so p s k → Lines edition B so p s k
 lines_back edition B so p s k (line_ended_on {l = l} es t k1 read rest) =
     line_ended es t k1 (line_back edition B so p _ k1 read) (lines_back edition B _ _ s l rest)

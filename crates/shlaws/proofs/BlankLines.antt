@@ -5,7 +5,7 @@ use Rattle.std.proofs.Math.Bool.{and-false, and-true}
 use Rattle.shast.specs.Tree.{AnEntry}
 use Rattle.shgrammar.specs.Commands.{is_empty}
 use Rattle.shgrammar.specs.Lists.{Listed, is_blank_next, next_line, none_listed, with_command, with_remark}
-use Rattle.shgrammar.specs.Scripts.{SoFar, is_blank_line, nothing_yet, with_line}
+use Rattle.shgrammar.specs.Scripts.{LinesSoFar, is_blank_line, nothing_yet, with_line}
 use Rattle.shlaws.specs.Blank.{past_empty_lines, past_newlines}
 
 pub not_empty : {A : Type 0} (es : Row A) (e : A) → is_empty (es ++ e ∷ []) ≡ false
@@ -45,7 +45,7 @@ after_remark l es e n = after_entry (with_remark l (es ++ e ∷ [])) n refl (not
 
 -- ---- scripts
 
-same_so_far : (n : ℕ) (so : SoFar) → is_empty (past_empty_lines n so).entries ≡ is_empty so.entries
+same_so_far : (n : ℕ) (so : LinesSoFar) → is_empty (past_empty_lines n so).entries ≡ is_empty so.entries
 same_so_far zero so = refl
 same_so_far (suc n) so = nothing_more (past_empty_lines n so).entries ∙ same_so_far n so
   where
@@ -57,13 +57,13 @@ some_then : (one more : Row AnEntry) → is_empty more ≡ false → is_empty (o
 some_then [] more some = some
 some_then (x ∷ xs) more some = refl
 
-pub after_line : (so : SoFar) (es : Row AnEntry) (e : AnEntry) (n : ℕ)
+pub after_line : (so : LinesSoFar) (es : Row AnEntry) (e : AnEntry) (n : ℕ)
     → (is_blank_line (past_empty_lines n (with_line so (es ++ e ∷ []))) ≡ true) ↔ (2 ≤ n + 1)
 after_line so es e zero =
     let no : is_blank_line (with_line so (es ++ e ∷ [])) ≡ false = rw (not_empty es e) refl in
     (λ is. absurd (let both : true ≡ false = sym is ∙ no in cc), λ le. absurd (omega arith))
 after_line so es e (suc n) =
-    let l : SoFar = with_line so (es ++ e ∷ []) in
+    let l : LinesSoFar = with_line so (es ++ e ∷ []) in
     let some : is_empty (past_empty_lines (suc n) l).entries ≡ false =
     same_so_far (suc n) l ∙ some_then so.entries (es ++ e ∷ []) (not_empty es e) in
     (λ is. omega arith, λ le. ap not some)

@@ -20,7 +20,7 @@ use Rattle.shgrammar.specs.Shows.{IsRead}
 use Rattle.shgrammar.specs.Sights.{Given, State, one_byte}
 use Rattle.shgrammar.specs.Tokens.{is_end}
 use Rattle.shgrammar.specs.Words.{Inner}
-use Rattle.shgrammar.specs.Commands.{ASeparator, Items, Joined, JoinSo, Piped, a_bang, a_command, a_comment, a_document, a_join, a_newline, a_number, a_pipeline, a_semicolon, a_separator, a_simple, a_target, a_word_command, an_and_or, an_entry, an_item, an_operator, and_or_operator_of, begins_redirect, begins_simple, begins_word, after_redirect, after_word, breaks, comment_by, compound_by, document_by, is_bang, is_long, is_newline_token, is_number_token, is_paren, is_pipe, is_semicolon, is_strip, is_word, item_by, item_turn, and_or_turn, join_turn, joined_by, joined_so, next_token, none_waits, nothing_waits, one_command, one_pipeline, one_redirect, opener_of, operator_by, past_separator, pipe_turn, piped, redirect_operator_of, redirect_turn, with_redirect_list, separator_by, separator_of, so_many, takes_here, unexpected, what_is_wrong, with_comment}
+use Rattle.shgrammar.specs.Commands.{ASeparator, ItemsSoFar, AndOrSoFar, JoinSoFar, PipesSoFar, a_bang, a_command, a_comment, a_document, a_join, a_newline, a_number, a_pipeline, a_semicolon, a_separator, a_simple, a_target, a_word_command, an_and_or, an_entry, an_item, an_operator, and_or_operator_of, begins_redirect, begins_simple, begins_word, after_redirect, after_word, breaks, comment_by, compound_by, document_by, is_bang, is_long, is_newline_token, is_number_token, is_paren, is_pipe, is_semicolon, is_strip, is_word, item_by, item_turn, and_or_turn, join_turn, joined_by, and_or_so_far, next_token, none_waits, nothing_waits, one_command, one_pipeline, one_redirect, opener_of, operator_by, past_separator, pipe_turn, pipes_so_far, redirect_operator_of, redirect_turn, with_redirect_list, separator_by, separator_of, items_so_far, takes_here, unexpected, what_is_wrong, with_comment}
 use Rattle.shgrammar.proofs.Places.{after_low}
 use Rattle.shgrammar.proofs.Shown.{shown_in}
 use Rattle.shlaws.proofs.Forms.{Goes, Steps, ahead, beyond, changing, first, follows, gives, leads_byte, leads_far, leads_from, led, led_on, moves, moves_to, picks, picks_by, pushes, repeats, sees, step_by, stops, tokens as one_token, with_the_bytes}
@@ -126,10 +126,10 @@ module _ (g : Given) where
 
   -- ---- joins
 
-  abbrev pub JoinShown : JoinSo → State → Type 0
+  abbrev pub JoinShown : JoinSoFar → State → Type 0
   JoinShown j t = Begins g j.next t
 
-  pub join_turn_on : (j : JoinSo) (s : State) → Begins g j.next s
+  pub join_turn_on : (j : JoinSoFar) (s : State) → Begins g j.next s
       → Goes g (join_turn j) (Steps g JoinShown s) s
   unfolding join_turn
   join_turn_on j s so =
@@ -143,7 +143,7 @@ module _ (g : Given) where
       first g (next_on Command s) (λ n t so. first g (repeats g JoinShown join_turn_on _ t so)
       (λ j u good. gives g good))
 
-  abbrev pub ItemsShown : Items → State → Type 0
+  abbrev pub ItemsShown : ItemsSoFar → State → Type 0
   ItemsShown i t = Begins g i.next t
 
   module _ (inner : Inner) (fine : Fine g inner) where
@@ -160,7 +160,7 @@ module _ (g : Given) where
     -- ---- items
 
     -- an item that is a word: such a word has moved
-    pub item_on : (i : Items) (position : Position) (s : State) → Begins g i.next s
+    pub item_on : (i : ItemsSoFar) (position : Position) (s : State) → Begins g i.next s
         → begins_word i.next.token ≡ true → Goes g (an_item inner i position) (Steps g ItemsShown s) s
     unfolding an_item
     item_on i position s so is =
@@ -223,25 +223,25 @@ module _ (g : Given) where
 
     -- ---- simple commands
 
-    item_on_by : (i : Items) (s : State) → Begins g i.next s → (o : Option Position)
+    item_on_by : (i : ItemsSoFar) (s : State) → Begins g i.next s → (o : Option Position)
         → after_word i.next.token ≡ o → Goes g (item_by inner i o) (Steps g ItemsShown s) s
     item_on_by i s so (Some position) is = item_on i position s so (ap is_some is)
     item_on_by i s so None is =
         picks g (begins_redirect i.next.token)
         (redirect_on (breaks i) (after_redirect i.position) i.items i.next s so) (gives g so)
 
-    item_turn_on : (i : Items) (s : State) → Begins g i.next s
+    item_turn_on : (i : ItemsSoFar) (s : State) → Begins g i.next s
         → Goes g (item_turn inner i) (Steps g ItemsShown s) s
     unfolding item_turn
     item_turn_on i s so = item_on_by i s so (after_word i.next.token) refl
 
-    simple_on : (i : Items) (s : State) → Begins g i.next s → Goes g (a_simple inner i) HandsOn s
+    simple_on : (i : ItemsSoFar) (s : State) → Begins g i.next s → Goes g (a_simple inner i) HandsOn s
     unfolding a_simple
     simple_on i s so = first g (repeats g ItemsShown item_turn_on i s so) (λ j t good. gives g good)
 
     -- ---- pipelines
 
-    redirect_turn_on : (i : Items) (s : State) → Begins g i.next s
+    redirect_turn_on : (i : ItemsSoFar) (s : State) → Begins g i.next s
         → Goes g (redirect_turn inner i) (Steps g ItemsShown s) s
     unfolding redirect_turn
     redirect_turn_on i s so =
@@ -252,7 +252,7 @@ module _ (g : Given) where
         Goes g (with_redirect_list inner c) HandsOn s
     unfolding with_redirect_list
     with_redirect_list_on c s so =
-        first g (repeats g ItemsShown redirect_turn_on (so_many [] Command c.1) s so)
+        first g (repeats g ItemsShown redirect_turn_on (items_so_far [] Command c.1) s so)
         (λ r t good. gives g good)
 
     pub compound_on_by : (n : Next) (o : Option Opener) (s : State) → Goes g (compound_by inner n o) HandsOn s
@@ -264,13 +264,13 @@ module _ (g : Given) where
     word_command_on s =
         sees g (first g (word_on g inner fine s) (λ w t one. first g (next_on Suffix t)
         (λ n u so. picks g (is_paren n.token) (picks g _ (fine.function (word_span w) u) (stops g))
-        (pushes g (simple_on (so_many _ Suffix n) u so)))))
+        (pushes g (simple_on (items_so_far _ Suffix n) u so)))))
 
     command_on : (n : Next) (s : State) → Begins g n s → Goes g (a_command inner n) HandsOn s
     unfolding a_command
     command_on n s so =
         picks g (is_word n.token) (word_command_on s)
-        (picks g (begins_simple n.token) (simple_on (so_many [] Command n) s so)
+        (picks g (begins_simple n.token) (simple_on (items_so_far [] Command n) s so)
         (compound_on_by n (opener_of n.token) s))
 
     bang_on : (n : Next) (s : State) → Begins g n s → Goes g (a_bang n) HandsOn s
@@ -280,16 +280,16 @@ module _ (g : Given) where
         (first g (one_token g {P = All g} (moves_to g tt)) (λ x t one. next_given Command t))
         (gives g so)
 
-    abbrev PipedShown : Piped → State → Type 0
-    PipedShown p t = Begins g p.next t
+    abbrev PipesShown : PipesSoFar → State → Type 0
+    PipesShown p t = Begins g p.next t
 
-    pipe_turn_on : (p : Piped) (s : State) → Begins g p.next s
-        → Goes g (pipe_turn inner p) (Steps g PipedShown s) s
+    pipe_turn_on : (p : PipesSoFar) (s : State) → Begins g p.next s
+        → Goes g (pipe_turn inner p) (Steps g PipesShown s) s
     unfolding pipe_turn one_command
     pipe_turn_on p s so =
         picks_by g (is_pipe p.next.token)
         (λ e. first g (byte_passed s (read_here is_pipe refl p.next s so e))
-        (λ x t on. led g PipedShown s on (first g (join_on p.next.broken t)
+        (λ x t on. led g PipesShown s on (first g (join_on p.next.broken t)
         (λ j u one. first g (command_on j.1 u one) (λ c v good. pushes g (gives g good))))))
         (λ e. gives g so)
 
@@ -297,26 +297,26 @@ module _ (g : Given) where
     unfolding a_pipeline
     pipeline_on n s so =
         first g (bang_on n s so) (λ b t one. first g (command_on b.1 t one)
-        (λ c u two. first g (repeats g PipedShown pipe_turn_on (piped [] c.1) u two)
+        (λ c u two. first g (repeats g PipesShown pipe_turn_on (pipes_so_far [] c.1) u two)
         (λ p v good. gives g good)))
 
     -- ---- and-or lists
 
-    abbrev JoinedShown : Joined → State → Type 0
-    JoinedShown a t = Begins g a.next t
+    abbrev AndOrShown : AndOrSoFar → State → Type 0
+    AndOrShown a t = Begins g a.next t
 
-    joined_on_by : (a : Joined) (s : State) → Begins g a.next s → (o : Option AndOrOperator)
-        → and_or_operator_of a.next.token ≡ o → Goes g (joined_by inner a o) (Steps g JoinedShown s) s
+    joined_on_by : (a : AndOrSoFar) (s : State) → Begins g a.next s → (o : Option AndOrOperator)
+        → and_or_operator_of a.next.token ≡ o → Goes g (joined_by inner a o) (Steps g AndOrShown s) s
     unfolding one_pipeline
     joined_on_by a s so (Some o) is =
         let read = read_here (λ t. is_some (and_or_operator_of t)) refl a.next s so (ap is_some is) in
         first g (one_token g {P = λ x t. leads_on g s t ≡ true} (moves g (moves_to g (two_lead s read))))
-        (λ x t on. led g JoinedShown s on (first g (join_on a.next.broken t)
+        (λ x t on. led g AndOrShown s on (first g (join_on a.next.broken t)
         (λ j u one. first g (pipeline_on j.1 u one) (λ p v good. pushes g (gives g good)))))
     joined_on_by a s so None is = gives g so
 
-    and_or_turn_on : (a : Joined) (s : State) → Begins g a.next s
-        → Goes g (and_or_turn inner a) (Steps g JoinedShown s) s
+    and_or_turn_on : (a : AndOrSoFar) (s : State) → Begins g a.next s
+        → Goes g (and_or_turn inner a) (Steps g AndOrShown s) s
     unfolding and_or_turn
     and_or_turn_on a s so = joined_on_by a s so (and_or_operator_of a.next.token) refl
 
@@ -324,7 +324,7 @@ module _ (g : Given) where
     unfolding an_and_or
     and_or_on n s so =
         first g (pipeline_on n s so)
-        (λ p t one. first g (repeats g JoinedShown and_or_turn_on (joined_so [] p.1) t one)
+        (λ p t one. first g (repeats g AndOrShown and_or_turn_on (and_or_so_far [] p.1) t one)
         (λ a u good. gives g good))
 
     -- ---- entries

@@ -18,9 +18,9 @@ use Rattle.shgrammar.specs.Shows.{IsRead}
 use Rattle.shgrammar.specs.Sights.{Given, State, to}
 use Rattle.shgrammar.specs.Tokens.{past_reserved}
 use Rattle.shgrammar.specs.Words.{Inner}
-use Rattle.shgrammar.specs.Commands.{Items, begins_pipeline, begins_word, ends_item, falls_through, is_paren, is_pipe, is_word, opener_of, so_many}
-use Rattle.shgrammar.specs.Lists.{ListSo, a_list, a_remark, entry_turn, list_so, list_turn, none_listed, on_line, one_entry, remark_by}
-use Rattle.shgrammar.specs.Compounds.{Branched, CasesSo, Closed, Headed, ItemEnd, Patterned, a_body, a_branch, a_case, a_case_head, a_case_word, a_compound, a_for, a_for_head, a_for_name, a_form, a_function, a_group, a_linebreak, a_loop, a_pattern, a_pattern_list, a_sequential_sep, an_else, an_ender, an_if, an_item_end, an_open_bracket, begins_pattern, branched, case_turn, cases_so, closing, elif_turn, for_words, is_close_paren, is_closing, is_open_paren, one_case, one_pattern, past_opener, pattern_turn, reserved_or_paren, word_turn}
+use Rattle.shgrammar.specs.Commands.{ItemsSoFar, begins_pipeline, begins_word, ends_item, falls_through, is_paren, is_pipe, is_word, opener_of, items_so_far}
+use Rattle.shgrammar.specs.Lists.{ListSoFar, a_list, a_remark, entry_turn, list_so_far, list_turn, none_listed, on_line, one_entry, remark_by}
+use Rattle.shgrammar.specs.Compounds.{BranchesSoFar, CasesSoFar, Closed, Headed, ItemEnd, PatternsSoFar, a_body, a_branch, a_case, a_case_head, a_case_word, a_compound, a_for, a_for_head, a_for_name, a_form, a_function, a_group, a_linebreak, a_loop, a_pattern, a_pattern_list, a_sequential_sep, an_else, an_ender, an_if, an_item_end, an_open_bracket, begins_pattern, branches_so_far, case_turn, cases_so_far, closing, elif_turn, for_words, is_close_paren, is_closing, is_open_paren, one_case, one_pattern, past_opener, pattern_turn, reserved_or_paren, word_turn}
 use Rattle.shgrammar.specs.Substitutions.{a_substitution, one_substitution, substitution_list}
 use Rattle.shgrammar.proofs.Places.{after_low, past_low}
 use Rattle.shgrammar.specs.Classes.{is_name}
@@ -80,10 +80,10 @@ module _ (g : Given) where
   module _ (inner : Inner) (fine : Fine g inner) where
     -- ---- lists
 
-    abbrev pub ListShown : ListSo → State → Type 0
+    abbrev pub ListShown : ListSoFar → State → Type 0
     ListShown l t = Begins g l.next t
 
-    entry_turn_on : (l : ListSo) (s : State) → Begins g l.next s
+    entry_turn_on : (l : ListSoFar) (s : State) → Begins g l.next s
         → Goes g (entry_turn inner l) (Steps g ListShown s) s
     unfolding entry_turn one_entry
     entry_turn_on l s so =
@@ -92,18 +92,18 @@ module _ (g : Given) where
         (λ e t one. pushes g (gives g (step_by g ListShown s (is_some e.parted) _ t one.1 one.0))))
         (gives g so)
 
-    remark_on_by : (l : ListSo) (x : Option Span × Next) (s : State) → Begins g x.1 s
+    remark_on_by : (l : ListSoFar) (x : Option Span × Next) (s : State) → Begins g x.1 s
         → Goes g (remark_by l x) ListShown s
     remark_on_by l (Some c, n) s so = pushes g (gives g so)
     remark_on_by l (None, n) s so = gives g so
 
-    pub line_on : (l : ListSo) (s : State) → Begins g l.next s → Goes g (on_line inner l) ListShown s
+    pub line_on : (l : ListSoFar) (s : State) → Begins g l.next s → Goes g (on_line inner l) ListShown s
     unfolding on_line a_remark
     line_on l s so =
         first g (repeats g ListShown entry_turn_on l s so) (λ m t one. first g (comment_on g m.next t one)
         (λ x u two. remark_on_by m x u two))
 
-    list_turn_on : (l : ListSo) (s : State) → Begins g l.next s
+    list_turn_on : (l : ListSoFar) (s : State) → Begins g l.next s
         → Goes g (list_turn inner l) (Steps g ListShown s) s
     unfolding list_turn
     list_turn_on l s so =
@@ -111,7 +111,7 @@ module _ (g : Given) where
         (λ x u two. gives g (step_by g ListShown s x.0 _ u (λ e. leads_from g s t u one.1 (two.1 e)) two.0)))
 
     lines_on : (n : Next) (s : State) → Begins g n s
-        → Goes g (many (list_turn inner) (list_so (none_listed false) n)) ListShown s
+        → Goes g (many (list_turn inner) (list_so_far (none_listed false) n)) ListShown s
     lines_on n s so = repeats g ListShown list_turn_on _ s so
 
     list_on : (n : Next) (s : State) → Begins g n s → Goes g (a_list inner n) (HandsOn g) s
@@ -146,16 +146,16 @@ module _ (g : Given) where
         first g (list_on n s so) (λ c t one. first g (closing_on closings.Then c.1 t one)
         (λ k u two. first g (list_on k.1 u two.0) (λ b v good. gives g good)))
 
-    abbrev BranchedShown : Branched → State → Type 0
-    BranchedShown b t = Begins g b.next t
+    abbrev BranchesShown : BranchesSoFar → State → Type 0
+    BranchesShown b t = Begins g b.next t
 
-    elif_turn_on : (b : Branched) (s : State) → Begins g b.next s
-        → Goes g (elif_turn inner b) (Steps g BranchedShown s) s
+    elif_turn_on : (b : BranchesSoFar) (s : State) → Begins g b.next s
+        → Goes g (elif_turn inner b) (Steps g BranchesShown s) s
     unfolding elif_turn
     elif_turn_on b s so =
         picks_by g (is_closing closings.Elif b.next.token)
         (λ e. first g (reserved_or_paren_on _ false Command s)
-        (λ k t one. led g BranchedShown s (one.1 (read_here g (is_closing closings.Elif) refl b.next s so e))
+        (λ k t one. led g BranchesShown s (one.1 (read_here g (is_closing closings.Elif) refl b.next s so e))
         (first g (branch_on k.1 t one.0) (λ x u good. pushes g (gives g good)))))
         (λ e. gives g so)
 
@@ -171,7 +171,7 @@ module _ (g : Given) where
     unfolding an_if
     if_on n s so =
         first g (branch_on n s so)
-        (λ f t one. first g (repeats g BranchedShown elif_turn_on (branched [] f.1) t one)
+        (λ f t one. first g (repeats g BranchesShown elif_turn_on (branches_so_far [] f.1) t one)
         (λ b u two. first g (else_on b.next u two) (λ e v three. first g (closing_on closings.Fi e.1 v three)
         (λ c w good. gives g good.0))))
 
@@ -199,7 +199,7 @@ module _ (g : Given) where
         first g (semicolon_on g n s so) (λ x t one. first g (linebreak_on cs x.1 t one)
         (λ l u good. picks g _ (gives g good) (stopped g inner fine l.next)))
 
-    word_turn_on : (i : Items) (s : State) → Begins g i.next s
+    word_turn_on : (i : ItemsSoFar) (s : State) → Begins g i.next s
         → Goes g (word_turn inner i) (Steps g (ItemsShown g) s) s
     unfolding word_turn
     word_turn_on i s so =
@@ -214,7 +214,7 @@ module _ (g : Given) where
     unfolding for_words
     for_words_on cs s =
         first g (reserved_or_paren_only _ false Suffix s)
-        (λ i t one. first g (repeats g (ItemsShown g) word_turn_on (so_many [] Suffix i.1) t one)
+        (λ i t one. first g (repeats g (ItemsShown g) word_turn_on (items_so_far [] Suffix i.1) t one)
         (λ ws u two. first g (sep_on cs ws.next u two) (λ l v good. gives g good)))
 
     for_head_on : (n : Next) (s : State) → Begins g n s → Goes g (a_for_head inner n) HeadShown s
@@ -239,31 +239,31 @@ module _ (g : Given) where
         (first g (word_on g inner fine s) (λ w t one. next_given g Command t))
         (stopped g inner fine n)
 
-    abbrev PatternedShown : Patterned → State → Type 0
-    PatternedShown p t = Begins g p.next t
+    abbrev PatternsShown : PatternsSoFar → State → Type 0
+    PatternsShown p t = Begins g p.next t
 
-    pattern_on : (ws : Row AWord) (s : State) → Goes g (a_pattern inner ws) PatternedShown s
+    pattern_on : (ws : Row AWord) (s : State) → Goes g (a_pattern inner ws) PatternsShown s
     unfolding a_pattern
     pattern_on ws s =
         first g (word_on g inner fine s)
         (λ w t one. pushes g (first g (next_on g Suffix t) (λ n u good. gives g good)))
 
-    pattern_turn_on : (p : Patterned) (s : State) → Begins g p.next s
-        → Goes g (pattern_turn inner p) (Steps g PatternedShown s) s
+    pattern_turn_on : (p : PatternsSoFar) (s : State) → Begins g p.next s
+        → Goes g (pattern_turn inner p) (Steps g PatternsShown s) s
     unfolding pattern_turn one_pattern
     pattern_turn_on p s so =
         picks_by g (is_pipe p.next.token)
         (λ e. first g (byte_passed g s (read_here g is_pipe refl p.next s so e))
-        (λ x t on. led g PatternedShown s on (first g (next_on g Suffix t)
+        (λ x t on. led g PatternsShown s on (first g (next_on g Suffix t)
         (λ n u one. picks g (begins_word n.token)
         (first g (pattern_on p.patterns u) (λ q v good. gives g good)) (stopped g inner fine n)))))
         (λ e. gives g so)
 
-    patterns_on : (n : Next) (s : State) → Goes g (a_pattern_list inner n) PatternedShown s
+    patterns_on : (n : Next) (s : State) → Goes g (a_pattern_list inner n) PatternsShown s
     unfolding a_pattern_list
     patterns_on n s =
         picks g (begins_pattern n.token)
-        (first g (pattern_on [] s) (λ p t one. repeats g PatternedShown pattern_turn_on p t one))
+        (first g (pattern_on [] s) (λ p t one. repeats g PatternsShown pattern_turn_on p t one))
         (stopped g inner fine n)
 
     bracket_on : (n : Next) (s : State) → Begins g n s → Goes g (an_open_bracket n) (Begins g) s
@@ -287,10 +287,10 @@ module _ (g : Given) where
         picks g (ends_item n.token) (ender_on (falls_through n.token) s)
         (picks g (is_closing closings.Esac n.token) (gives g so) (stopped g inner fine n))
 
-    abbrev CasesShown : CasesSo → State → Type 0
+    abbrev CasesShown : CasesSoFar → State → Type 0
     CasesShown c t = Begins g c.next t
 
-    case_turn_on : (c : CasesSo) (s : State) → Begins g c.next s
+    case_turn_on : (c : CasesSoFar) (s : State) → Begins g c.next s
         → Goes g (case_turn inner c) (Steps g CasesShown s) s
     unfolding case_turn one_case a_body
     case_turn_on c s so =
@@ -312,7 +312,7 @@ module _ (g : Given) where
     unfolding a_case
     case_on n s =
         first g (case_head_on n s)
-        (λ h t one. first g (repeats g CasesShown case_turn_on (cases_so [] h.1 h.2) t one)
+        (λ h t one. first g (repeats g CasesShown case_turn_on (cases_so_far [] h.1 h.2) t one)
         (λ c u two. first g (closing_on closings.Esac c.next u two) (λ e v good. gives g good.0)))
 
     form_on : (o : Opener) (n : Next) (s : State) → Begins g n s → Goes g (a_form inner o n) ClosedShown s

@@ -9,7 +9,7 @@ use Rattle.shast.specs.declared.tree.Span.{Span}
 use Rattle.shgrammar.specs.Commands.{an_entry, begins_pipeline, is_empty}
 use Rattle.shgrammar.specs.Form.{Form, Spelled, Step, again, done, may, step_if}
 use Rattle.shgrammar.specs.Levels.{level}
-use Rattle.shgrammar.specs.Lists.{ListSo, Listed, a_remark, entry_turn, is_blank_next, list_so, list_turn, next_line, on_line, one_entry, remark_by, with_command}
+use Rattle.shgrammar.specs.Lists.{ListSoFar, Listed, a_remark, entry_turn, is_blank_next, list_so_far, list_turn, next_line, on_line, one_entry, remark_by, with_command}
 use Rattle.shgrammar.specs.States.{Given, State}
 use Rattle.shgrammar.specs.Words.{Inner}
 use Rattle.shgrammar.specs.declared.keep.Keep.TheVariants.{Whole}
@@ -64,7 +64,7 @@ module _ (inner : Inner) (g : Given) (before : Listed) where
   abbrev T : {X : Type 0} → Form X → (X → State → Type 0) → State → Type 0
   T r P s = Tells Whole g r P s
 
-  abbrev So : ListSo → State → Type 0
+  abbrev So : ListSoFar → State → Type 0
   So l t = HasMore before l.list
 
   told_flag : (blank : Bool) (n : Next) (s : State)
@@ -74,12 +74,12 @@ module _ (inner : Inner) (g : Given) (before : Listed) where
       after
       (λ a t. after (λ z u. after (λ c v. gives refl)))
 
-  step_so : (goes : Bool) (l : ListSo) (t : State) → HasMore before l.list
+  step_so : (goes : Bool) (l : ListSoFar) (t : State) → HasMore before l.list
       → Turned Whole g So (step_if goes l) t
   step_so true l t so = so
   step_so false l t so = so
 
-  entry_so : (l : ListSo) (s : State) → HasMore before l.list → T (one_entry inner l) (Turned Whole g So) s
+  entry_so : (l : ListSoFar) (s : State) → HasMore before l.list → T (one_entry inner l) (Turned Whole g So) s
   unfolding one_entry
   entry_so l s so =
       tells_then Whole g (told_flag (is_blank_next l.list) l.next s)
@@ -87,45 +87,45 @@ module _ (inner : Inner) (g : Given) (before : Listed) where
       (one_more before l.list
       (with_command l.list (l.list.entries ++ e.entry ∷ []) e.parted) e.entry so flag refl refl refl))))
 
-  turn_so : (l : ListSo) (s : State) → HasMore before l.list → T (entry_turn inner l) (Turned Whole g So) s
+  turn_so : (l : ListSoFar) (s : State) → HasMore before l.list → T (entry_turn inner l) (Turned Whole g So) s
   unfolding entry_turn
   turn_so l s so = picked (begins_pipeline l.next.token) (entry_so l s so) (gives so)
 
-  remark_so : (l : ListSo) (x : Option Span × Next) (s : State) → HasMore before l.list
+  remark_so : (l : ListSoFar) (x : Option Span × Next) (s : State) → HasMore before l.list
       → T (remark_by l x) So s
   remark_so l (Some c, n) s so =
       pushed_on (gives (one_more before l.list _ _ so refl refl refl refl))
   remark_so l (None, n) s so = gives so
 
-  line_so : (l : ListSo) (s : State) → HasMore before l.list → T (on_line inner l) So s
+  line_so : (l : ListSoFar) (s : State) → HasMore before l.list → T (on_line inner l) So s
   unfolding on_line a_remark
   line_so l s so =
       tells_then Whole g (tells_many Whole g (entry_turn inner) So turn_so l s so)
       (λ m t good. after (λ x u. remark_so m x u good))
 
-  abbrev Parted : Step ListSo → State → Type 0
+  abbrev Parted : Step ListSoFar → State → Type 0
   Parted (again m) t = (line : Listed) × HasMore before line × (m.list ≡ next_line line)
   Parted (done m) t = Unit {0}
 
   parted : (goes : Bool) (l : Listed) (n : Next) (t : State) → HasMore before l
-      → Parted (step_if goes (list_so (next_line l) n)) t
+      → Parted (step_if goes (list_so_far (next_line l) n)) t
   parted true l n t so = (l, so, refl)
   parted false l n t so = tt
 
-  newline_so : (l : ListSo) (s : State) → HasMore before l.list → T (list_turn inner l) Parted s
+  newline_so : (l : ListSoFar) (s : State) → HasMore before l.list → T (list_turn inner l) Parted s
   unfolding list_turn
   newline_so l s so =
       tells_then Whole g (line_so l s so)
       (λ m t good. after (λ x u. gives (parted x.0 m.list x.1 u good)))
 
-pub line_flags : (room : ℕ) (l m : ListSo) (g : Given) (s t : State) (told : Row Spelled)
+pub line_flags : (room : ℕ) (l m : ListSoFar) (g : Given) (s t : State) (told : Row Spelled)
     → may (on_line (level room) l) g s (Ok (m, t)) told → HasMore l.list m.list
 line_flags room l m g s t told part =
     let read = (computed_is_only (on_line (level room) l) g s).only _ _ part in
-    subst (Holds (λ (n : ListSo) (u : State). HasMore l.list n.list)) (sym read)
+    subst (Holds (λ (n : ListSoFar) (u : State). HasMore l.list n.list)) (sym read)
     (line_so (level room) g l.list l s (nothing_read l.list)).told
 
-pub newline_flags : (room : ℕ) (l m : ListSo) (g : Given) (s t : State) (told : Row Spelled)
+pub newline_flags : (room : ℕ) (l m : ListSoFar) (g : Given) (s t : State) (told : Row Spelled)
     → may (list_turn (level room) l) g s (Ok (again m, t)) told
     → (line : Listed) × HasMore l.list line × (m.list ≡ next_line line)
 newline_flags room l m g s t told part =

@@ -25,7 +25,7 @@ use Rattle.shgrammar.specs.Standing.{at_end, is_byte, raw_stands}
 use Rattle.shgrammar.specs.States.{Given, State, given, standing}
 use Rattle.shgrammar.specs.Tokens.{is_later}
 use Rattle.shgrammar.specs.Unquoting.{left_of}
-use Rattle.shgrammar.specs.Words.{WordSoFar, a_piece, a_word, contents, having, piece_row, single}
+use Rattle.shgrammar.specs.Words.{WordSoFar, a_piece, a_word, contents, word_so_far, piece_row, single}
 use Rattle.shgrammar.proofs.Anywhere.{anywhere}
 use Rattle.shgrammar.proofs.Levels.{level_below, level_closed}
 use Rattle.shgrammar.proofs.OneOutcome.{computed_is_only}
@@ -273,24 +273,24 @@ module _ (edition : Edition) (W : List ℕ) (o : ℕ) where
     inside_at = place s (past_byte W s.at)
 
     abbrev held_by : Read WordSoFar → Read (Step WordSoFar)
-    held_by x = x ▸ (λ k u. Ok (k.substs, u)) ▸ (λ ss u. Ok (again (having h.nested ss), u))
+    held_by x = x ▸ (λ k u. Ok (k.substs, u)) ▸ (λ ss u. Ok (again (word_so_far h.nested ss), u))
 
     double_turn : 0 < room
         → does (piece_row (level room) mode b h pieces.Double) Whole g s ≡ held_by
-        (all (room - 1) Double (o + past_continuations W s.at) (having 0 h.substs) inside_at)
+        (all (room - 1) Double (o + past_continuations W s.at) (word_so_far 0 h.substs) inside_at)
     unfolding contents
     double_turn some =
-        ap (λ x. x ▸ λ ss u. Ok (again (having h.nested ss), u))
+        ap (λ x. x ▸ λ ss u. Ok (again (word_so_far h.nested ss), u))
         (level_below Whole g inside_at room Double (o + past_continuations W s.at) h.substs some)
 
     double_closed : room ≡ 0
         → does (piece_row (level room) mode b h pieces.Double) Whole g s ≡ Err (fault_here TooDeep)
     double_closed none =
-        ap (λ x. x ▸ λ ss u. Ok (again (having h.nested ss), u))
+        ap (λ x. x ▸ λ ss u. Ok (again (word_so_far h.nested ss), u))
         (level_closed Whole g inside_at room Double (o + past_continuations W s.at) h.substs none)
 
     double_by : Is pieces.Double → 0 < room → (x : Read WordSoFar)
-        → all (room - 1) Double (o + past_continuations W s.at) (having 0 h.substs) inside_at ≡ x
+        → all (room - 1) Double (o + past_continuations W s.at) (word_so_far 0 h.substs) inside_at ≡ x
         → Goes mode s.at t.at
     double_by is some (Err f) inner =
         absurd (fails room mode b h h2 s t f
@@ -300,7 +300,7 @@ module _ (edition : Edition) (W : List ℕ) (o : ℕ) where
         let near = byte_within s.at quotation_mark there.0 in
         let opens = opened_leads edition W mode s.at read is in
         let held =
-        finds (room - 1) Double (o + past_continuations W s.at) (having 0 h.substs) k inside_at u refl
+        finds (room - 1) Double (o + past_continuations W s.at) (word_so_far 0 h.substs) k inside_at u refl
         (omega (arith, few, near, after_low W s.at)) near
         (clear_on (is_later edition) W (quoting_in mode) in_double s.at (past_byte W s.at) [] opens clear)
         inner in
@@ -311,7 +311,7 @@ module _ (edition : Edition) (W : List ℕ) (o : ℕ) where
         leads_on (is_later edition) W (quoting_in mode) in_double not_quoted s.at (past_byte W s.at) u.at
         [] held.0 opens (walk edition W Double (past_byte W s.at) u.at held.0 refl held.1) in
         let rest =
-        goes_on (having h.nested k.substs) u held.0 turn (omega (arith, bounds.0, after_low W s.at)) bounds.1
+        goes_on (word_so_far h.nested k.substs) u held.0 turn (omega (arith, bounds.0, after_low W s.at)) bounds.1
         (subst (λ (r : Quoting). Leads (is_later edition) W (quoting_in mode) s.at held.0 r u.at) plain leads)
         in
         (held.0 ++ rest.0, double {inside = held.0} {left = rest.0} is held.1 rest.1)
@@ -410,7 +410,7 @@ module _ (edition : Edition) (W : List ℕ) (o : ℕ) where
   word_by x = x ▸ (λ k u. Ok (k.substs, u)) ▸ with_span ▸ (λ y u. Ok (word y.1 (substs_of y.0), u))
 
   abbrev pieces_by : ℕ → Read WordSoFar
-  pieces_by room = all room Plain (o + 0) (having 0 []) (standing 0)
+  pieces_by room = all room Plain (o + 0) (word_so_far 0 []) (standing 0)
 
   word_is : (room : ℕ) → does (a_word (level room)) Whole g (standing 0) ≡ word_by (pieces_by room)
   unfolding a_word contents
@@ -433,7 +433,7 @@ module _ (edition : Edition) (W : List ℕ) (o : ℕ) where
           let same : ◌≡◌ {A = Read AWord} (Ok (w, standing n)) (Ok (v, u)) = read ∙ ap word_by whole in
           let pair : ◌≡◌ {A = AWord × State} (w, standing n) (v, u) = cc in
           let at : n ≡ u.at = ap (λ (z : AWord × State). z.1.at) pair in
-          let goes = find (suc (length W)) room Plain (o + 0) (having 0 []) k (standing 0) u refl
+          let goes = find (suc (length W)) room Plain (o + 0) (word_so_far 0 []) k (standing 0) u refl
           (omega arith) (omega arith) clear whole in
           subst (λ (q : ℕ). Goes Plain 0 q) (sym at) goes
 

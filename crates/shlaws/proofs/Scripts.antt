@@ -8,8 +8,8 @@ use Rattle.shgrammar.specs.Form.{Read, Spelled, may}
 use Rattle.shgrammar.specs.Levels.{level, most_open}
 use Rattle.shgrammar.specs.Commands.{is_newline_token}
 use Rattle.shgrammar.specs.Lines.{a_line, an_open_line, line_end_by, end_of_line}
-use Rattle.shgrammar.specs.Lists.{list_so, none_listed}
-use Rattle.shgrammar.specs.Scripts.{AScript, Lines, Passes, SoFar, faulty, is_blank_line, last_line, line_ended, the_line}
+use Rattle.shgrammar.specs.Lists.{list_so_far, none_listed}
+use Rattle.shgrammar.specs.Scripts.{AScript, Lines, Passes, LinesSoFar, faulty, is_blank_line, last_line, line_ended, the_line}
 use Rattle.shgrammar.specs.Sights.{Given, State, given, standing}
 use Rattle.shgrammar.specs.Tokens.{is_end}
 use Rattle.shgrammar.specs.Words.{Inner, a_word}
@@ -54,7 +54,7 @@ module _ (g : Given) where
     unfolding an_open_line
     open_line_on blank s =
         first g (next_on g _ s)
-        (λ n t one. first g (line_on g inner good (list_so (none_listed blank) n) t one)
+        (λ n t one. first g (line_on g inner good (list_so_far (none_listed blank) n) t one)
         (λ l u two. first g (end_on l.next u) (λ newline v three. gives g tt)))
 
     a_line_on : (blank : Bool) (s : State) → Goes g (a_line inner blank) (All g) s
@@ -71,13 +71,13 @@ word_onward room g s w k read = ((word_on g (level room) (fine g room) s).on w k
 
 -- ---- scripts
 
-line_at : (edition : Edition) (B : List ℕ) (so : SoFar) (p : ℕ) (x : Read (Row AnEntry × Bool))
+line_at : (edition : Edition) (B : List ℕ) (so : LinesSoFar) (p : ℕ) (x : Read (Row AnEntry × Bool))
     (k : Row Spelled) → may (the_line (is_blank_line so)) (given edition (drop p B) p) (standing 0) x k
     → LineOnward edition B so p x k
 line_at edition B so p x k read =
     ((line_onward (given edition (drop p B) p) (is_blank_line so) (standing 0)).on x k read).0
 
-lines_onward : (edition : Edition) (B : List ℕ) (so : SoFar) (p : ℕ) (s : AScript) (k : Row Spelled)
+lines_onward : (edition : Edition) (B : List ℕ) (so : LinesSoFar) (p : ℕ) (s : AScript) (k : Row Spelled)
     → Lines edition B so p s k → LinesOnward edition B so p s k
 lines_onward edition B so p s k (line_ended {l = l} es t k1 read rest) =
     line_ended_on es t k1 (line_at edition B so p _ k1 read) (lines_onward edition B _ _ s l rest)

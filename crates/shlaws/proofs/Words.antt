@@ -20,7 +20,7 @@ use Rattle.shgrammar.specs.Tokens.{is_later}
 use Rattle.shgrammar.specs.Form.{Step, again, give, leads_on, ◌>>=◌}
 use Rattle.shgrammar.specs.Shows.{IsRead, Shows}
 use Rattle.shgrammar.specs.Sights.{Given, State}
-use Rattle.shgrammar.specs.Words.{Inner, WordSoFar, a_piece, a_word, backquoted_text, contents, dollar_single, escaped_turn, having, opened, piece_row, single}
+use Rattle.shgrammar.specs.Words.{Inner, WordSoFar, a_piece, a_word, backquoted_text, contents, dollar_single, escaped_turn, word_so_far, opened, piece_row, single}
 use Rattle.shgrammar.proofs.Places.{after_low, next_escaped_low, next_of_low, not_end_low, parameter_low, word_longer}
 use Rattle.shgrammar.proofs.Stretches.{place_low}
 use Rattle.shlaws.proofs.Forms.{Goes, Stepped, Steps, ahead, beyond, first, follows, gives, leads_byte, led_until, moves, moves_to, repeats, repeats_until, sees, step_by, stops, tokens, whens, whens_by}
@@ -209,7 +209,7 @@ module _ (g : Given) where
 
       -- a substitution
       substitution_list : (q : ℕ) {t : State} → IsRead T p → p < t.at
-          → Goes g (inner.substitution q h.substs >>= λ ss. give (again (having h.nested ss))) Turn t
+          → Goes g (inner.substitution q h.substs >>= λ ss. give (again (word_so_far h.nested ss))) Turn t
       substitution_list q {t = t} read on =
           led_until g All (Last mode) s (leads_byte g s t read on)
           (first g (fine.substitution q h.substs t) (λ ss u so. gives g tt))
@@ -251,7 +251,7 @@ module _ (g : Given) where
         → Goes g (contents inner mode b ss) (λ x t. Last mode x t) s
     unfolding contents
     contents_on mode b ss s =
-        first g (repeats_until g {P = All} {Q = Last mode} (λ h t so. piece_on mode b h t) (having 0 ss) s tt)
+        first g (repeats_until g {P = All} {Q = Last mode} (λ h t so. piece_on mode b h t) (word_so_far 0 ss) s tt)
         (λ h t so. gives g so)
 
     -- ---- words

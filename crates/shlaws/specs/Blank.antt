@@ -4,7 +4,7 @@ use Rattle.shast.specs.Normal.{is_blank_entry}
 use Rattle.shast.specs.Tree.{AnEntry}
 use Rattle.shgrammar.specs.Commands.{is_empty}
 use Rattle.shgrammar.specs.Lists.{Listed, is_blank_next, next_line}
-use Rattle.shgrammar.specs.Scripts.{SoFar, with_line}
+use Rattle.shgrammar.specs.Scripts.{LinesSoFar, with_line}
 
 -- a list after so many newline tokens more
 abbrev pub past_newlines : ℕ → Listed → Listed
@@ -12,7 +12,7 @@ past_newlines zero l = l
 past_newlines (suc n) l = next_line (past_newlines n l)
 
 -- a script after so many lines more, which have no entry and end in newline tokens
-abbrev pub past_empty_lines : ℕ → SoFar → SoFar
+abbrev pub past_empty_lines : ℕ → LinesSoFar → LinesSoFar
 past_empty_lines zero so = so
 past_empty_lines (suc n) so = with_line (past_empty_lines n so) []
 

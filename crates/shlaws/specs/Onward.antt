@@ -8,7 +8,7 @@ use Rattle.shgrammar.specs.declared.fault.Fault.{Fault}
 use Rattle.shast.specs.Tree.{AnEntry, entries_of}
 use Rattle.shgrammar.specs.Form.{Changed, Comes, Either, Ending, Form, Halts, Just, OneToken, OwnLevel, Read, Spelled, Step, Then, WithBytes, again, done, leads_on, many, moved_on, give, see, move, push, stop, both, when, token, loop, ends_as, change, with_bytes, a_level, in_substitution}
 use Rattle.shgrammar.specs.HereDocuments.{changed}
-use Rattle.shgrammar.specs.Scripts.{AScript, SoFar, is_blank_line, nothing_yet, the_line, with_line}
+use Rattle.shgrammar.specs.Scripts.{AScript, LinesSoFar, is_blank_line, nothing_yet, the_line, with_line}
 use Rattle.shgrammar.specs.Sights.{Given, State, given, seen, standing}
 
 -- turns, of which each that goes on leads on
@@ -43,19 +43,19 @@ abbrev pub idle : Form (Unit {0})
 idle = many (λ u. give (again u)) tt
 
 -- what may be read of the line at p
-abbrev pub LineOnward : Edition → List ℕ → SoFar → ℕ → Read (Row AnEntry × Bool) → Row Spelled → Type 0
+abbrev pub LineOnward : Edition → List ℕ → LinesSoFar → ℕ → Read (Row AnEntry × Bool) → Row Spelled → Type 0
 LineOnward edition B so p x k =
     may_onward (the_line (is_blank_line so)) (given edition (drop p B) p) (standing 0) x k
 
 -- the lines from p on, and the tokens passed
-pub data LinesOnward (edition : Edition) (B : List ℕ) : SoFar → ℕ → AScript → Row Spelled → Type 0 where
-  line_ended : {so : SoFar} {p : ℕ} {s : AScript} {l : Row Spelled} (es : Row AnEntry) (t : State)
+pub data LinesOnward (edition : Edition) (B : List ℕ) : LinesSoFar → ℕ → AScript → Row Spelled → Type 0 where
+  line_ended : {so : LinesSoFar} {p : ℕ} {s : AScript} {l : Row Spelled} (es : Row AnEntry) (t : State)
       (k : Row Spelled) → LineOnward edition B so p (Ok ((es, true), t)) k
       → LinesOnward edition B (with_line so es) (p + t.at) s l → LinesOnward edition B so p s (k ++ l)
-  last_line : {so : SoFar} {p : ℕ} (es : Row AnEntry) (t : State) (k : Row Spelled)
+  last_line : {so : LinesSoFar} {p : ℕ} (es : Row AnEntry) (t : State) (k : Row Spelled)
       → LineOnward edition B so p (Ok ((es, false), t)) k
       → LinesOnward edition B so p (record { entries = entries_of (so.entries ++ es); fault = None }) k
-  faulty : {so : SoFar} {p : ℕ} (f : Fault) (k : Row Spelled) → LineOnward edition B so p (Err f) k
+  faulty : {so : LinesSoFar} {p : ℕ} (f : Fault) (k : Row Spelled) → LineOnward edition B so p (Err f) k
       → LinesOnward edition B so p (record { entries = entries_of so.entries; fault = Some f }) k
 
 -- what is read of the bytes of a script, and the tokens passed

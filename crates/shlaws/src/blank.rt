@@ -4,9 +4,9 @@ ghost use Rattle.std.specs.Prelude.{List as Row, Option, [], Ok};
 ghost use Rattle.shast.specs.Tree.{AnEntry};
 ghost use Rattle.shgrammar.specs.Form.{Spelled, again, may};
 ghost use Rattle.shgrammar.specs.Levels.{level};
-ghost use Rattle.shgrammar.specs.Lists.{ListSo, Listed, is_blank_next, list_turn, next_line, none_listed};
+ghost use Rattle.shgrammar.specs.Lists.{ListSoFar, Listed, is_blank_next, list_turn, next_line, none_listed};
 ghost use Rattle.shgrammar.specs.Lists.{on_line, with_command, with_remark};
-ghost use Rattle.shgrammar.specs.Scripts.{SoFar, is_blank_line, nothing_yet, with_line};
+ghost use Rattle.shgrammar.specs.Scripts.{LinesSoFar, is_blank_line, nothing_yet, with_line};
 ghost use Rattle.shgrammar.specs.States.{Given, State};
 ghost use Rattle.shlaws.specs.Blank.{HasMore, past_empty_lines, past_newlines};
 
@@ -24,7 +24,7 @@ pub fn blank_entries()
 /// So it is in a script, which is read line by line: between the last entry of one line and the first of
 /// another are one newline token more than lines without entries.
 pub fn blank_lines()
-    ensures after_line { (so : SoFar) (es : Row AnEntry) (e : AnEntry) (n : ℕ) →
+    ensures after_line { (so : LinesSoFar) (es : Row AnEntry) (e : AnEntry) (n : ℕ) →
         (is_blank_line (past_empty_lines n (with_line so (es ++ e ∷ []))) ≡ true) ↔ (2 ≤ n + 1) }
     ensures first { (n : ℕ) → is_blank_line (past_empty_lines n nothing_yet) ≡ false }
     ensures told { (blank : Bool) → is_blank_next (none_listed blank) ≡ blank }
@@ -33,9 +33,9 @@ pub fn blank_lines()
 /// What a list reads on one line are entries of which the first has the flag that is told before the line,
 /// and no other is blank. After the newline token that ends it the flag of the next line is told.
 pub fn flags_of_a_line()
-    ensures entries { (room : ℕ) (l m : ListSo) (g : Given) (s t : State) (told : Row Spelled) →
+    ensures entries { (room : ℕ) (l m : ListSoFar) (g : Given) (s t : State) (told : Row Spelled) →
         may (on_line (level room) l) g s (Ok (m, t)) told → HasMore l.list m.list }
-    ensures newline { (room : ℕ) (l m : ListSo) (g : Given) (s t : State) (told : Row Spelled) →
+    ensures newline { (room : ℕ) (l m : ListSoFar) (g : Given) (s t : State) (told : Row Spelled) →
         may (list_turn (level room) l) g s (Ok (again m, t)) told →
         (line : Listed) × HasMore l.list line × (m.list ≡ next_line line) }
 {}

@@ -12,7 +12,7 @@ use Rattle.shgrammar.proofs.Stretches.{get_drop, joined_none}
 use Rattle.shgrammar.proofs.Unbroken.{blanks_whole}
 use Rattle.shgrammar.specs.HereDocuments.{bodies_from}
 use Rattle.shgrammar.specs.Lines.{a_line, an_open_line, end_of_line}
-use Rattle.shgrammar.specs.Lists.{a_remark, list_so, none_listed, on_line}
+use Rattle.shgrammar.specs.Lists.{a_remark, list_so_far, none_listed, on_line}
 use Rattle.shgrammar.specs.Scripts.{line_told}
 use Rattle.shgrammar.specs.Sights.{given, standing}
 use Rattle.shgrammar.specs.Standing.{continues, count_front, raw_in, raw_past, raw_stands}
@@ -40,7 +40,8 @@ pub told : (edition : Edition) (U : List ℕ) (keep : Keep) (blank : Bool) (o : 
 unfolding a_line an_open_line nothing_waits filled_row next_token on_line a_remark a_comment end_of_line token_at
     comment_at raw_stands raw_in raw_past count_front continues is_broken_at bodies_from newline_first
 told edition U keep blank o =
-    let none = no_entries (level most_open) (list_so (none_listed blank) newline_first) keep (given edition (10 ∷ U) o)
+    let none = no_entries (level most_open) (list_so_far (none_listed blank) newline_first) keep
+    (given edition (10 ∷ U) o)
     (standing 0) refl in
     rw (place U, joins U, none, next U) refl
 

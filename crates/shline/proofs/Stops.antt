@@ -12,7 +12,7 @@ use Rattle.shline.specs.Limits.{Limits}
 use Rattle.shgrammar.specs.Sights.{Given, State, Waiting, given}
 use Rattle.shgrammar.specs.Form.{Form, Read, Step, does, many}
 use Rattle.shgrammar.specs.Plain.{ArePlain}
-use Rattle.shgrammar.specs.Words.{Inner, WordSoFar, a_piece, a_word, contents, having}
+use Rattle.shgrammar.specs.Words.{Inner, WordSoFar, a_piece, a_word, contents, word_so_far}
 use Rattle.shgrammar.proofs.PlainBytes.{given_by, placed, plain_contents}
 use Rattle.shgrammar.proofs.Turns.{turns_fault}
 use Rattle.shgrammar.specs.declared.edition.Edition.{Edition}
@@ -37,7 +37,7 @@ module _ (inner : Inner) (keep : Keep) (g : Given) (mode : Mode) (b : ℕ) (ws :
 
   -- a piece that stops, stops all
   pub contents_stop : (h : WordSoFar) (ss : Row ASubst) (vs : Row Waiting) (es : Row Span) (p s : ℕ) (bound : Limits)
-      (e : Stop) → all ws ds h p ≡ all vs es (having 0 ss) s
+      (e : Stop) → all ws ds h p ≡ all vs es (word_so_far 0 ss) s
       → Fails bound e (does (a_piece inner mode b h) keep g (placed ws ds p)) →
       Fails bound e (does (contents inner mode b ss) keep g (placed vs es s))
   unfolding contents

@@ -4,7 +4,7 @@ use Rattle.shline.specs.declared.case.Cases as the_cases
 use Rattle.shline.specs.declared.list.Listed as the_listed
 use Rattle.shgrammar.specs.declared.token.Next.{Next}
 use Rattle.shast.specs.View.{view_case_item, view_entry, view_join}
-use Rattle.shgrammar.specs.Compounds.{CasesSo, cases_so}
+use Rattle.shgrammar.specs.Compounds.{CasesSoFar, cases_so_far}
 use Rattle.shgrammar.specs.Lists.{Listed}
 
 abbrev pub view_listed : the_listed.Listed → Listed
@@ -16,5 +16,5 @@ view_listed l = record {
   parted = l.parted;
 }
 
-abbrev pub view_cases : the_cases.Cases → Next → CasesSo
-view_cases c n = cases_so (map view_case_item c.items.items) (view_join c.lines).comments n
+abbrev pub view_cases : the_cases.Cases → Next → CasesSoFar
+view_cases c n = cases_so_far (map view_case_item c.items.items) (view_join c.lines).comments n

@@ -2,7 +2,7 @@
 ghost use Rattle.std.specs.Prelude.{[]};
 ghost use Rattle.shgrammar.specs.Bytes.{past_byte};
 ghost use Rattle.shline.specs.Clauses.{Adds, IsLong, TokenToToken, Turns};
-ghost use Rattle.shgrammar.specs.Commands.{and_or_turn, joined_so, one_pipeline};
+ghost use Rattle.shgrammar.specs.Commands.{and_or_turn, and_or_so_far, one_pipeline};
 ghost use Rattle.shgrammar.specs.Form.{many};
 ghost use Rattle.shgrammar.specs.Levels.{level};
 ghost use Rattle.shline.specs.Rows.{view_and_or_parts};
@@ -26,8 +26,9 @@ impl<'a, S: Source, const TREE: u8> Cursor<'a, S, TREE> {
         room: usize,
     ) -> Result<(), Stop>
         requires { IsLong self.old }
-        ensures { Adds self.old (one_pipeline (level room) (joined_so (view_and_or_parts parts.old)
-            self.old.next) operator) result (joined_so (view_and_or_parts parts.new)
+        ensures { Adds self.old
+            (one_pipeline (level room) (and_or_so_far (view_and_or_parts parts.old)
+            self.old.next) operator) result (and_or_so_far (view_and_or_parts parts.new)
             self.new.next) self.new }
     {
         let broken = self.next.broken;
@@ -48,8 +49,8 @@ impl<'a, S: Source, const TREE: u8> Cursor<'a, S, TREE> {
     #[inline(always)]
     #[tactic(auto, unfolding(shgrammar::specs::Commands::and_or_turn, crate::specs::InHand::InHand))]
     fn and_or_turn(&mut self, parts: &mut Vec<AndOrPart>, room: usize) -> Result<bool, Stop>
-        ensures { Turns self.old (and_or_turn (level room) (joined_so (view_and_or_parts
-            parts.old) self.old.next)) result (joined_so (view_and_or_parts parts.new)
+        ensures { Turns self.old (and_or_turn (level room) (and_or_so_far (view_and_or_parts
+            parts.old) self.old.next)) result (and_or_so_far (view_and_or_parts parts.new)
             self.new.next) self.new }
     {
         let Some(operator) = self.next.token.and_or_operator() else {
@@ -65,8 +66,8 @@ impl<'a, S: Source, const TREE: u8> Cursor<'a, S, TREE> {
     #[tactic(auto, using(crate::proofs::Stops::many_stop))]
     pub(crate) fn joined_pipelines(&mut self, room: usize) -> Result<Vec<AndOrPart>, Stop>
         ensures { TokenToToken self.old
-            (many (and_or_turn (level room)) (joined_so [] self.old.next))
-            result (λ parts. joined_so (view_and_or_parts parts) self.new.next) self.new }
+            (many (and_or_turn (level room)) (and_or_so_far [] self.old.next))
+            result (λ parts. and_or_so_far (view_and_or_parts parts) self.new.next) self.new }
     {
         let mut parts = Vec::new(self.alloc);
         'turns: while self.and_or_turn(&mut parts, room)? {}

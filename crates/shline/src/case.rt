@@ -4,7 +4,7 @@ ghost use Rattle.shgrammar.specs.Bytes.{ends_word, past_byte};
 ghost use Rattle.shgrammar.specs.Shows.{IsRead};
 ghost use Rattle.shline.specs.Clauses.{Adds, Finds, IsLong, start_of, text_of, TokenToToken, Turns};
 ghost use Rattle.shgrammar.specs.Commands.{falls_through};
-ghost use Rattle.shgrammar.specs.Compounds.{a_case, a_case_head, a_case_word, an_ender, a_pattern, a_pattern_list, an_item_end, an_open_bracket, body_end, case_turn, item_end, one_case, one_pattern, pattern_turn, patterned, closed};
+ghost use Rattle.shgrammar.specs.Compounds.{a_case, a_case_head, a_case_word, an_ender, a_pattern, a_pattern_list, an_item_end, an_open_bracket, body_end, case_turn, item_end, one_case, one_pattern, pattern_turn, patterns_so_far, closed};
 ghost use Rattle.shgrammar.specs.Form.{many};
 ghost use Rattle.shgrammar.specs.Levels.{level};
 ghost use Rattle.shline.specs.Listed.{view_cases, view_listed};
@@ -76,7 +76,7 @@ impl<'a, S: Source, const TREE: u8> Cursor<'a, S, TREE> {
         requires { ends_word (text_of self.old) (start_of self.old) ≡ false }
         ensures value { TokenToToken self.old
             (a_pattern (level room) (view_words patterns.old)) result
-            (λ _. patterned (view_words patterns.new) self.new.next) self.new }
+            (λ _. patterns_so_far (view_words patterns.new) self.new.next) self.new }
         ensures onward { IfOk result (λ _. start_of self.old < start_of self.new) }
     {
         let start = self.start();
@@ -97,7 +97,7 @@ impl<'a, S: Source, const TREE: u8> Cursor<'a, S, TREE> {
     fn one_pattern(&mut self, patterns: &mut Vec<Word>, room: usize) -> Result<(), Stop>
         requires { IsRead (text_of self.old) (start_of self.old) }
         ensures { Adds self.old (one_pattern (level room) (view_words patterns.old)) result
-            (patterned (view_words patterns.new) self.new.next) self.new }
+            (patterns_so_far (view_words patterns.new) self.new.next) self.new }
     {
         self.step();
         self.next_token(Position::Suffix);
@@ -111,8 +111,10 @@ impl<'a, S: Source, const TREE: u8> Cursor<'a, S, TREE> {
     #[cycle(commands)]
     #[tactic(auto, unfolding(shgrammar::specs::Compounds::pattern_turn, crate::specs::InHand::InHand))]
     fn pattern_turn(&mut self, patterns: &mut Vec<Word>, room: usize) -> Result<bool, Stop>
-        ensures { Turns self.old (pattern_turn (level room) (patterned (view_words patterns.old)
-            self.old.next)) result (patterned (view_words patterns.new) self.new.next) self.new }
+        ensures { Turns self.old
+            (pattern_turn (level room) (patterns_so_far (view_words patterns.old)
+            self.old.next)) result
+            (patterns_so_far (view_words patterns.new) self.new.next) self.new }
     {
         let Token::Pipe = self.next.token else {
             return Ok(false);
@@ -125,8 +127,9 @@ impl<'a, S: Source, const TREE: u8> Cursor<'a, S, TREE> {
     #[cycle(commands)]
     #[tactic(auto, using(crate::proofs::Stops::many_stop))]
     fn more_patterns(&mut self, patterns: &mut Vec<Word>, room: usize) -> Result<(), Stop>
-        ensures { TokenToToken self.old (many (pattern_turn (level room)) (patterned (view_words
-            patterns.old) self.old.next)) result (λ _. patterned (view_words patterns.new)
+        ensures { TokenToToken self.old
+            (many (pattern_turn (level room)) (patterns_so_far (view_words
+            patterns.old) self.old.next)) result (λ _. patterns_so_far (view_words patterns.new)
             self.new.next) self.new }
     {
         'turns: while self.pattern_turn(patterns, room)? {}
@@ -139,7 +142,7 @@ impl<'a, S: Source, const TREE: u8> Cursor<'a, S, TREE> {
     fn patterns(&mut self, room: usize) -> Result<Vec<Word>, Stop>
         ensures { TokenToToken self.old (a_pattern_list (level room) self.old.next) result
             (λ patterns.
-            patterned (view_words patterns) self.new.next) self.new }
+            patterns_so_far (view_words patterns) self.new.next) self.new }
     {
         if !self.next.token.begins_pattern() {
             return Err(Stop::Wrong(self.what_is_wrong(room)?));

@@ -2,7 +2,7 @@
 ghost use Rattle.std.specs.Prelude.{◌≡◌, ◌<◌, ◌==◌, [], false, IfErr, IfOk, Some, true};
 ghost use Rattle.shgrammar.specs.Bytes.{ends_word};
 ghost use Rattle.shline.specs.Clauses.{keep_of, Keeps, start_of, text_of, TokenToToken, Turns};
-ghost use Rattle.shgrammar.specs.Commands.{a_command, a_simple, a_word_command, an_item, as_item, after_word, item_turn, so_many};
+ghost use Rattle.shgrammar.specs.Commands.{a_command, a_simple, a_word_command, an_item, as_item, after_word, item_turn, items_so_far};
 ghost use Rattle.shgrammar.specs.declared.token.Position.TheVariants.{Command as AsCommand, Suffix};
 ghost use Rattle.shgrammar.specs.declared.token.Position.{Position};
 ghost use Rattle.shgrammar.specs.Form.{again, grows, many, pushed};
@@ -41,8 +41,9 @@ impl<'a, S: Source, const TREE: u8> Cursor<'a, S, TREE> {
         room: usize,
     ) -> Result<(), Stop>
         requires { ends_word (text_of self.old) (start_of self.old) ≡ false }
-        ensures value { (place : Position) → TokenToToken self.old (an_item (level room) (so_many
-            (view_items items.old) place self.old.next) position) result (λ _. again (so_many
+        ensures value { (place : Position) →
+            TokenToToken self.old (an_item (level room) (items_so_far
+            (view_items items.old) place self.old.next) position) result (λ _. again (items_so_far
             (view_items items.new) position self.new.next)) self.new }
         ensures onward { IfOk result (λ _. start_of self.old < start_of self.new) }
         ensures same { Keeps self.old self.new }
@@ -77,8 +78,8 @@ impl<'a, S: Source, const TREE: u8> Cursor<'a, S, TREE> {
         position: &mut Position,
         room: usize,
     ) -> Result<bool, Stop>
-        ensures { Turns self.old (item_turn (level room) (so_many (view_items items.old)
-            position.old self.old.next)) result (so_many (view_items items.new) position.new
+        ensures { Turns self.old (item_turn (level room) (items_so_far (view_items items.old)
+            position.old self.old.next)) result (items_so_far (view_items items.new) position.new
             self.new.next) self.new }
     {
         if let Some(word_position) = self.next.token.after_word() {
@@ -105,8 +106,9 @@ impl<'a, S: Source, const TREE: u8> Cursor<'a, S, TREE> {
         room: usize,
     ) -> Result<(), Stop>
         ensures { TokenToToken self.old
-            (many (item_turn (level room)) (so_many (view_items items.old)
-            position.old self.old.next)) result (λ _. so_many (view_items items.new) position.new
+            (many (item_turn (level room)) (items_so_far (view_items items.old)
+            position.old self.old.next)) result
+            (λ _. items_so_far (view_items items.new) position.new
             self.new.next) self.new }
     {
         'turns: while self.item_turn(items, position, room)? {}
@@ -119,7 +121,7 @@ impl<'a, S: Source, const TREE: u8> Cursor<'a, S, TREE> {
     #[tactic(auto, unfolding(shgrammar::specs::Commands::a_simple))]
     fn simple(&mut self, room: usize) -> Result<Command, Stop>
         ensures { TokenToToken self.old
-            (a_simple (level room) (so_many [] AsCommand self.old.next)) result
+            (a_simple (level room) (items_so_far [] AsCommand self.old.next)) result
             (λ x. (view_command x, self.new.next)) self.new }
     {
         let mut items = self.room_for_items();

@@ -3,7 +3,7 @@
 ghost use Rattle.std.specs.Prelude.{◌<◌, [], IfOk};
 ghost use Rattle.shgrammar.specs.Shows.{IsRead};
 ghost use Rattle.shline.specs.Clauses.{Boxed, Finds, Keeps, start_of, text_of, TokenToToken, Turns};
-ghost use Rattle.shgrammar.specs.Compounds.{a_branch, a_form, a_group, a_loop, an_else, an_if, branched, closing, elif_turn, reserved_or_paren, closed};
+ghost use Rattle.shgrammar.specs.Compounds.{a_branch, a_form, a_group, a_loop, an_else, an_if, branches_so_far, closing, elif_turn, reserved_or_paren, closed};
 ghost use Rattle.shgrammar.specs.Form.{many, Spelled};
 ghost use Rattle.shgrammar.specs.Levels.{level};
 ghost use Rattle.shline.specs.Rows.{view_branches};
@@ -84,8 +84,10 @@ impl<'a, S: Source, const TREE: u8> Cursor<'a, S, TREE> {
     #[cycle(commands)]
     #[tactic(auto, unfolding(shgrammar::specs::Compounds::elif_turn, crate::specs::InHand::InHand))]
     fn elif_turn(&mut self, branches: &mut Vec<Branch>, room: usize) -> Result<bool, Stop>
-        ensures { Turns self.old (elif_turn (level room) (branched (view_branches branches.old)
-            self.old.next)) result (branched (view_branches branches.new) self.new.next) self.new }
+        ensures { Turns self.old
+            (elif_turn (level room) (branches_so_far (view_branches branches.old)
+            self.old.next)) result
+            (branches_so_far (view_branches branches.new) self.new.next) self.new }
     {
         if !self.next.token.is_closing(Closing::Elif) {
             return Ok(false);
@@ -103,8 +105,8 @@ impl<'a, S: Source, const TREE: u8> Cursor<'a, S, TREE> {
     #[tactic(auto, using(crate::proofs::Stops::many_stop))]
     fn elifs(&mut self, room: usize) -> Result<Vec<Branch>, Stop>
         ensures { TokenToToken self.old
-            (many (elif_turn (level room)) (branched [] self.old.next)) result
-            (λ branches. branched (view_branches branches) self.new.next) self.new }
+            (many (elif_turn (level room)) (branches_so_far [] self.old.next)) result
+            (λ branches. branches_so_far (view_branches branches) self.new.next) self.new }
     {
         let mut branches = Vec::new(self.alloc);
         'turns: while self.elif_turn(&mut branches, room)? {}

@@ -2,7 +2,7 @@
 ghost use Rattle.std.specs.Prelude.{◌≡◌, ◌<◌, [], false, length, true, map, option_map, IfErr, IfOk, Some};
 ghost use Rattle.shgrammar.specs.Shows.{IsRead};
 ghost use Rattle.shline.specs.Clauses.{GrowsNone, start_of, text_of, TokenToToken, Turns};
-ghost use Rattle.shgrammar.specs.Commands.{join_so, so_many};
+ghost use Rattle.shgrammar.specs.Commands.{join_so_far, items_so_far};
 ghost use Rattle.shgrammar.specs.Compounds.{a_for, a_for_head, a_for_name, a_linebreak, a_sequential_sep, begins_words, after_remarks, for_words, headed, word_turn, closed};
 ghost use Rattle.shgrammar.specs.declared.token.Position.TheVariants.{Suffix};
 ghost use Rattle.shgrammar.specs.Form.{many};
@@ -77,7 +77,7 @@ impl<'a, S: Source, const TREE: u8> Cursor<'a, S, TREE> {
     pub(crate) fn linebreak(&mut self, lines: &mut Join) -> Result<(), Stop>
         ensures value { TokenToToken self.old
             (a_linebreak (view_join lines.old).comments self.old.next)
-            result (λ _. join_so (view_join lines.new) self.new.next) self.new }
+            result (λ _. join_so_far (view_join lines.new) self.new.next) self.new }
         ensures tree { IfOk result (λ _. GrowsNone TREE lines.old lines.new) }
     {
         lines.broken = false;
@@ -90,7 +90,7 @@ impl<'a, S: Source, const TREE: u8> Cursor<'a, S, TREE> {
     fn sequential_sep(&mut self, lines: &mut Join, room: usize) -> Result<(), Stop>
         ensures value { TokenToToken self.old
             (a_sequential_sep (level room) (view_join lines.old).comments
-            self.old.next) result (λ _. join_so (view_join lines.new) self.new.next) self.new }
+            self.old.next) result (λ _. join_so_far (view_join lines.new) self.new.next) self.new }
         ensures tree { IfOk result (λ _. GrowsNone TREE lines.old lines.new) }
     {
         let semicolon = self.semicolon();
@@ -106,8 +106,9 @@ impl<'a, S: Source, const TREE: u8> Cursor<'a, S, TREE> {
     #[cycle(commands)]
     #[tactic(auto, unfolding(shgrammar::specs::Compounds::word_turn, crate::specs::InHand::InHand))]
     fn word_turn(&mut self, words: &mut Vec<Item>, room: usize) -> Result<bool, Stop>
-        ensures { Turns self.old (word_turn (level room) (so_many (view_items words.old) Suffix
-            self.old.next)) result (so_many (view_items words.new) Suffix self.new.next) self.new }
+        ensures { Turns self.old (word_turn (level room) (items_so_far (view_items words.old) Suffix
+            self.old.next)) result
+            (items_so_far (view_items words.new) Suffix self.new.next) self.new }
     {
         let Token::Word = self.next.token else {
             return Ok(false);
@@ -121,8 +122,8 @@ impl<'a, S: Source, const TREE: u8> Cursor<'a, S, TREE> {
     #[tactic(auto, using(crate::proofs::Stops::many_stop))]
     fn words(&mut self, room: usize) -> Result<Vec<Item>, Stop>
         ensures { TokenToToken self.old
-            (many (word_turn (level room)) (so_many [] Suffix self.old.next))
-            result (λ words. so_many (view_items words) Suffix self.new.next) self.new }
+            (many (word_turn (level room)) (items_so_far [] Suffix self.old.next))
+            result (λ words. items_so_far (view_items words) Suffix self.new.next) self.new }
     {
         let mut words = Vec::new(self.alloc);
         'turns: while self.word_turn(&mut words, room)? {}
@@ -136,7 +137,7 @@ impl<'a, S: Source, const TREE: u8> Cursor<'a, S, TREE> {
         requires { IsRead (text_of self.old) (start_of self.old) }
         ensures value { TokenToToken self.old
             (for_words (level room) (view_join lines.old).comments)
-            result (λ words. headed (for_words_of (Some (view_items words))) (join_so (view_join
+            result (λ words. headed (for_words_of (Some (view_items words))) (join_so_far (view_join
             lines.new) self.new.next)) self.new }
         ensures tree { IfOk result (λ words. GrowsNone TREE lines.old lines.new) }
     {
@@ -154,7 +155,7 @@ impl<'a, S: Source, const TREE: u8> Cursor<'a, S, TREE> {
         requires { (view_join lines.old).comments ≡ [] }
         ensures value { TokenToToken self.old (a_for_head (level room) self.old.next) result
             (λ words.
-            headed (for_words_of (option_map (view_items) words)) (join_so (view_join lines.new)
+            headed (for_words_of (option_map (view_items) words)) (join_so_far (view_join lines.new)
             self.new.next)) self.new }
         ensures tree { IfOk result (λ words. GrowsNone TREE lines.old lines.new) }
     {

@@ -1,7 +1,7 @@
 //! What stands around an operator that joins two operands (XCU 2.9.2, 2.9.3).
 ghost use Rattle.std.specs.Prelude.{IfOk};
 ghost use Rattle.shline.specs.Clauses.{GrowsNone, PlaceToToken, TokenToToken, Turns};
-ghost use Rattle.shgrammar.specs.Commands.{a_join, join_so, join_turn};
+ghost use Rattle.shgrammar.specs.Commands.{a_join, join_so_far, join_turn};
 ghost use Rattle.shgrammar.specs.Form.{many};
 ghost use Rattle.shast.specs.View.{view_join};
 
@@ -15,8 +15,8 @@ impl<'a, S: Source, const TREE: u8> Cursor<'a, S, TREE> {
     /// One more comment and newline after an operator. Answers whether there was a newline.
     #[tactic(auto, unfolding(shgrammar::specs::Commands::join_turn))]
     fn join_turn(&mut self, join: &mut Join) -> Result<bool, Stop>
-        ensures value { Turns self.old (join_turn (join_so (view_join join.old) self.old.next))
-            result (join_so (view_join join.new) self.new.next) self.new }
+        ensures value { Turns self.old (join_turn (join_so_far (view_join join.old) self.old.next))
+            result (join_so_far (view_join join.new) self.new.next) self.new }
         ensures tree { IfOk result (λ more. GrowsNone TREE join.old join.new) }
     {
         if let Some(comment) = self.comment() {
@@ -34,8 +34,8 @@ impl<'a, S: Source, const TREE: u8> Cursor<'a, S, TREE> {
     #[tactic(auto, using(shgrammar::proofs::Turns::many_again, shgrammar::proofs::Turns::many_done, crate::proofs::Stops::many_stop))]
     pub(crate) fn join_on(&mut self, join: &mut Join) -> Result<(), Stop>
         ensures value { TokenToToken self.old
-            (many join_turn (join_so (view_join join.old) self.old.next))
-            result (λ _. join_so (view_join join.new) self.new.next) self.new }
+            (many join_turn (join_so_far (view_join join.old) self.old.next))
+            result (λ _. join_so_far (view_join join.new) self.new.next) self.new }
         ensures tree { IfOk result (λ _. GrowsNone TREE join.old join.new) }
     {
         'turns: while self.join_turn(join)? {}

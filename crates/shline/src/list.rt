@@ -6,7 +6,7 @@ ghost use Rattle.shgrammar.specs.Compounds.{a_body};
 ghost use Rattle.shgrammar.specs.Form.{many};
 ghost use Rattle.shgrammar.specs.Levels.{level};
 ghost use Rattle.shline.specs.Listed.{view_listed};
-ghost use Rattle.shgrammar.specs.Lists.{a_list, a_remark, entry_turn, list_so, list_turn, next_line, none_listed, on_line};
+ghost use Rattle.shgrammar.specs.Lists.{a_list, a_remark, entry_turn, list_so_far, list_turn, next_line, none_listed, on_line};
 ghost use Rattle.shast.specs.Tree.{entry, remark};
 ghost use Rattle.shast.specs.View.{view_comment, view_entry, view_list};
 
@@ -129,8 +129,8 @@ impl<'a, S: Source, const TREE: u8> Cursor<'a, S, TREE> {
     #[inline(always)]
     #[tactic(auto, unfolding(shgrammar::specs::Lists::entry_turn, shgrammar::specs::Lists::one_entry, shgrammar::specs::Commands::an_entry, shgrammar::specs::Commands::an_and_or, shgrammar::specs::Commands::a_pipeline))]
     fn entry_turn(&mut self, listed: &mut Listed, room: usize) -> Result<bool, Stop>
-        ensures { Turns self.old (entry_turn (level room) (list_so (view_listed listed.old)
-            self.old.next)) result (list_so (view_listed listed.new) self.new.next) self.new }
+        ensures { Turns self.old (entry_turn (level room) (list_so_far (view_listed listed.old)
+            self.old.next)) result (list_so_far (view_listed listed.new) self.new.next) self.new }
     {
         if !self.next.token.begins_pipeline() {
             return Ok(false);
@@ -169,8 +169,9 @@ impl<'a, S: Source, const TREE: u8> Cursor<'a, S, TREE> {
     #[tactic(auto, using(shgrammar::proofs::Turns::many_again, shgrammar::proofs::Turns::many_done, crate::proofs::Stops::many_stop, shgrammar::proofs::Turns::last_entry))]
     fn entries(&mut self, listed: &mut Listed, room: usize) -> Result<(), Stop>
         ensures { TokenToToken self.old
-            (many (entry_turn (level room)) (list_so (view_listed listed.old)
-            self.old.next)) result (λ _. list_so (view_listed listed.new) self.new.next) self.new }
+            (many (entry_turn (level room)) (list_so_far (view_listed listed.old)
+            self.old.next)) result
+            (λ _. list_so_far (view_listed listed.new) self.new.next) self.new }
     {
         'turns: while self.entry_turn(listed, room)? && self.next.token.begins_pipeline() {}
         Ok(())
@@ -181,8 +182,8 @@ impl<'a, S: Source, const TREE: u8> Cursor<'a, S, TREE> {
     #[tactic(auto, unfolding(shgrammar::specs::Lists::a_remark))]
     fn own_comment(&mut self, listed: &mut Listed) -> Result<(), Stop>
         ensures { TokenToToken self.old
-            (a_remark (list_so (view_listed listed.old) self.old.next)) result
-            (λ _. list_so (view_listed listed.new) self.new.next) self.new }
+            (a_remark (list_so_far (view_listed listed.old) self.old.next)) result
+            (λ _. list_so_far (view_listed listed.new) self.new.next) self.new }
     {
         if let Some(comment) = self.comment() {
             let blank = listed.blank && !listed.begun;
@@ -201,8 +202,9 @@ impl<'a, S: Source, const TREE: u8> Cursor<'a, S, TREE> {
     #[inline(always)]
     #[tactic(auto, unfolding(shgrammar::specs::Lists::on_line), using(shgrammar::proofs::Turns::no_entries))]
     pub(crate) fn on_line(&mut self, listed: &mut Listed, room: usize) -> Result<(), Stop>
-        ensures { TokenToToken self.old (on_line (level room) (list_so (view_listed listed.old)
-            self.old.next)) result (λ _. list_so (view_listed listed.new) self.new.next) self.new }
+        ensures { TokenToToken self.old (on_line (level room) (list_so_far (view_listed listed.old)
+            self.old.next)) result
+            (λ _. list_so_far (view_listed listed.new) self.new.next) self.new }
     {
         if self.next.token.begins_pipeline() {
             self.entries(listed, room)?;
@@ -216,8 +218,8 @@ impl<'a, S: Source, const TREE: u8> Cursor<'a, S, TREE> {
     #[inline(always)]
     #[tactic(auto, unfolding(shgrammar::specs::Lists::list_turn))]
     fn list_turn(&mut self, listed: &mut Listed, room: usize) -> Result<bool, Stop>
-        ensures { Turns self.old (list_turn (level room) (list_so (view_listed listed.old)
-            self.old.next)) result (list_so (view_listed listed.new) self.new.next) self.new }
+        ensures { Turns self.old (list_turn (level room) (list_so_far (view_listed listed.old)
+            self.old.next)) result (list_so_far (view_listed listed.new) self.new.next) self.new }
     {
         self.on_line(listed, room)?;
         let newline = self.newline()?;
@@ -230,8 +232,9 @@ impl<'a, S: Source, const TREE: u8> Cursor<'a, S, TREE> {
     #[tactic(auto, using(crate::proofs::Stops::many_stop))]
     pub(crate) fn list_lines(&mut self, listed: &mut Listed, room: usize) -> Result<(), Stop>
         ensures { TokenToToken self.old
-            (many (list_turn (level room)) (list_so (view_listed listed.old)
-            self.old.next)) result (λ _. list_so (view_listed listed.new) self.new.next) self.new }
+            (many (list_turn (level room)) (list_so_far (view_listed listed.old)
+            self.old.next)) result
+            (λ _. list_so_far (view_listed listed.new) self.new.next) self.new }
     {
         'turns: while self.list_turn(listed, room)? {}
         Ok(())
@@ -242,7 +245,7 @@ impl<'a, S: Source, const TREE: u8> Cursor<'a, S, TREE> {
     #[tactic(auto, unfolding(shgrammar::specs::Compounds::a_body))]
     pub(crate) fn body(&mut self, room: usize) -> Result<Listed, Stop>
         ensures { TokenToToken self.old (a_body (level room) self.old.next) result
-            (λ listed. list_so (view_listed listed) self.new.next) self.new }
+            (λ listed. list_so_far (view_listed listed) self.new.next) self.new }
     {
         let mut listed = Listed::new(self.alloc, false);
         self.list_lines(&mut listed, room)?;

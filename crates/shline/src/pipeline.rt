@@ -2,7 +2,7 @@
 ghost use Rattle.std.specs.Prelude.{[]};
 ghost use Rattle.shgrammar.specs.Shows.{IsRead};
 ghost use Rattle.shline.specs.Clauses.{Adds, Finds, start_of, text_of, TokenToToken, Turns};
-ghost use Rattle.shgrammar.specs.Commands.{a_bang, a_pipeline, one_command, pipe_turn, piped};
+ghost use Rattle.shgrammar.specs.Commands.{a_bang, a_pipeline, one_command, pipe_turn, pipes_so_far};
 ghost use Rattle.shgrammar.specs.Form.{many};
 ghost use Rattle.shgrammar.specs.Levels.{level};
 ghost use Rattle.shline.specs.Rows.{view_pipeline_parts};
@@ -39,8 +39,10 @@ impl<'a, S: Source, const TREE: u8> Cursor<'a, S, TREE> {
     #[tactic(auto, unfolding(shgrammar::specs::Commands::one_command))]
     fn one_command(&mut self, parts: &mut Vec<PipelinePart>, room: usize) -> Result<(), Stop>
         requires { IsRead (text_of self.old) (start_of self.old) }
-        ensures { Adds self.old (one_command (level room) (piped (view_pipeline_parts parts.old)
-            self.old.next)) result (piped (view_pipeline_parts parts.new) self.new.next) self.new }
+        ensures { Adds self.old
+            (one_command (level room) (pipes_so_far (view_pipeline_parts parts.old)
+            self.old.next)) result
+            (pipes_so_far (view_pipeline_parts parts.new) self.new.next) self.new }
     {
         let broken = self.next.broken;
         self.step();
@@ -59,8 +61,10 @@ impl<'a, S: Source, const TREE: u8> Cursor<'a, S, TREE> {
     #[inline(always)]
     #[tactic(auto, unfolding(shgrammar::specs::Commands::pipe_turn, crate::specs::InHand::InHand))]
     fn pipe_turn(&mut self, parts: &mut Vec<PipelinePart>, room: usize) -> Result<bool, Stop>
-        ensures { Turns self.old (pipe_turn (level room) (piped (view_pipeline_parts parts.old)
-            self.old.next)) result (piped (view_pipeline_parts parts.new) self.new.next) self.new }
+        ensures { Turns self.old
+            (pipe_turn (level room) (pipes_so_far (view_pipeline_parts parts.old)
+            self.old.next)) result
+            (pipes_so_far (view_pipeline_parts parts.new) self.new.next) self.new }
     {
         let Token::Pipe = self.next.token else {
             return Ok(false);
@@ -75,8 +79,8 @@ impl<'a, S: Source, const TREE: u8> Cursor<'a, S, TREE> {
     #[tactic(auto, using(crate::proofs::Stops::many_stop))]
     pub(crate) fn pipes(&mut self, room: usize) -> Result<Vec<PipelinePart>, Stop>
         ensures { TokenToToken self.old
-            (many (pipe_turn (level room)) (piped [] self.old.next)) result
-            (λ parts. piped (view_pipeline_parts parts) self.new.next) self.new }
+            (many (pipe_turn (level room)) (pipes_so_far [] self.old.next)) result
+            (λ parts. pipes_so_far (view_pipeline_parts parts) self.new.next) self.new }
     {
         let mut parts = Vec::new(self.alloc);
         'turns: while self.pipe_turn(&mut parts, room)? {}

@@ -1,7 +1,7 @@
 //! Redirections (XCU 2.7): among the items of a simple command, and after a compound command.
 ghost use Rattle.std.specs.Prelude.{◌≡◌, ◌+◌, ◌<◌, ◌≤◌, [], IfOk, Some};
 ghost use Rattle.shline.specs.Clauses.{Adds, at_place, at_token, end_of, Finds, here_of, is_compound, Leads, PlaceToPlace, start_of, text_of, TokenToToken};
-ghost use Rattle.shgrammar.specs.Commands.{a_number, a_target, an_operator, is_long, one_redirect, redirect_operator_of, redirect_turn, so_many, with_redirect_list};
+ghost use Rattle.shgrammar.specs.Commands.{a_number, a_target, an_operator, is_long, one_redirect, redirect_operator_of, redirect_turn, items_so_far, with_redirect_list};
 ghost use Rattle.shgrammar.specs.declared.token.Position.TheVariants.{Command as AsCommand};
 ghost use Rattle.shgrammar.specs.Form.{many, raw};
 ghost use Rattle.shgrammar.specs.Levels.{level};
@@ -92,7 +92,8 @@ impl<'a, S: Source, const TREE: u8> Cursor<'a, S, TREE> {
         room: usize,
     ) -> Result<(), Stop>
         ensures { Adds self.old (one_redirect (level room) broken position (view_items items.old)
-            self.old.next) result (so_many (view_items items.new) position self.new.next) self.new }
+            self.old.next) result (items_so_far (view_items items.new) position self.new.next)
+            self.new }
     {
         let start = self.start();
         let number = self.number();
@@ -116,8 +117,9 @@ impl<'a, S: Source, const TREE: u8> Cursor<'a, S, TREE> {
     #[cycle(commands)]
     #[tactic(auto, unfolding(shgrammar::specs::Commands::redirect_turn), using(shgrammar::proofs::Turns::many_again, shgrammar::proofs::Turns::many_done, crate::proofs::Stops::many_stop))]
     fn redirects(&mut self, room: usize) -> Result<Vec<Item>, Stop>
-        ensures { TokenToToken self.old (many (redirect_turn (level room)) (so_many [] AsCommand
-            self.old.next)) result (λ redirects. so_many (view_items redirects) AsCommand
+        ensures { TokenToToken self.old
+            (many (redirect_turn (level room)) (items_so_far [] AsCommand
+            self.old.next)) result (λ redirects. items_so_far (view_items redirects) AsCommand
             self.new.next) self.new }
     {
         let mut redirects = Vec::new(self.alloc);

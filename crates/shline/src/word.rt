@@ -9,7 +9,7 @@ ghost use Rattle.shgrammar.specs.Pieces.{past_closer};
 ghost use Rattle.shline.specs.Rows.{view_substs};
 ghost use Rattle.shast.specs.Tree.{ASubst};
 ghost use Rattle.shast.specs.View.{view_word};
-ghost use Rattle.shgrammar.specs.Words.{a_piece, a_word, contents, having, holds_others, piece_row};
+ghost use Rattle.shgrammar.specs.Words.{a_piece, a_word, contents, word_so_far, holds_others, piece_row};
 ghost use Rattle.shgrammar.specs.Levels.{level};
 
 use crate::cursor::Cursor;
@@ -88,8 +88,8 @@ impl<'a, S: Source, const TREE: u8> Cursor<'a, S, TREE> {
         requires shows { PieceShows mode nested.old piece (text_of self.old) (on self.old here) }
         requires before { (opener ≤ here_of self.old) × (nested.old ≤ here_of self.old) }
         ensures value { (ss : Row ASubst) → PlaceToPlace self.old
-            (piece_row (level 0) mode (self.old.origin + opener) (having nested.old ss) piece)
-            result (λ _. again (having nested.new ss)) self.new }
+            (piece_row (level 0) mode (self.old.origin + opener) (word_so_far nested.old ss) piece)
+            result (λ _. again (word_so_far nested.new ss)) self.new }
         ensures onward { IfOk result (λ _. here_of self.old < here_of self.new) }
         ensures nested { IfOk result (λ _. nested.new ≤ here_of self.new) }
         ensures same { Keeps self.old self.new }
@@ -138,8 +138,9 @@ impl<'a, S: Source, const TREE: u8> Cursor<'a, S, TREE> {
     ) -> Result<bool, Stop>
         requires before { (opener ≤ here_of self.old) × (nested.old ≤ here_of self.old) }
         ensures value { PlaceToPlace self.old
-            (a_piece (level room) mode (self.old.origin + opener) (having
-            nested.old (view_substs substs.old))) result (λ more. step_if more (having nested.new
+            (a_piece (level room) mode (self.old.origin + opener) (word_so_far
+            nested.old (view_substs substs.old))) result
+            (λ more. step_if more (word_so_far nested.new
             (view_substs substs.new))) self.new }
         ensures onward { IfOk result (Onward (here_of self.old) (here_of self.new)) }
         ensures nested { IfOk result (λ more. nested.new ≤ here_of self.new) }
@@ -166,8 +167,9 @@ impl<'a, S: Source, const TREE: u8> Cursor<'a, S, TREE> {
     ) -> Result<bool, Stop>
         requires before { (opener ≤ here_of self.old) × (nested.old ≤ here_of self.old) }
         ensures value { PlaceToPlace self.old
-            (a_piece (level room) mode (self.old.origin + opener) (having
-            nested.old (view_substs substs.old))) result (λ more. step_if more (having nested.new
+            (a_piece (level room) mode (self.old.origin + opener) (word_so_far
+            nested.old (view_substs substs.old))) result
+            (λ more. step_if more (word_so_far nested.new
             (view_substs substs.new))) self.new }
         ensures onward { IfOk result (Onward (here_of self.old) (here_of self.new)) }
         ensures nested { IfOk result (λ more. nested.new ≤ here_of self.new) }

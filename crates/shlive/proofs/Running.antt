@@ -30,7 +30,7 @@ step_how before after print reply step = ap (λ (h : Held). h.how) step.1
 step_how before after unknown reply step = ap (λ (h : Held). h.how) step.1
 
 -- what was done so far: these requests were taken, and the replies to them written
-pub record SoFar (old new : TurnState) : Type 0 where
+pub record RunSoFar (old new : TurnState) : Type 0 where
   pub taken : List ℕ
   pub asked : List Request
   pub takes : TakesBytes old.ahead new.ahead taken
@@ -49,7 +49,7 @@ seen_of state = record {
   broken = state.broken;
 }
 
-module _ (old now new : TurnState) (so : SoFar old now) where
+module _ (old now new : TurnState) (so : RunSoFar old now) where
   begins_more : (taken : List ℕ) (request : Request) → Spells next_request_of taken (asks request) → (rest : List ℕ)
       → Begins ((so.taken ++ taken) ++ rest) (so.asked ++ request ∷ []) rest
   begins_more taken request spelled rest =
@@ -58,7 +58,7 @@ module _ (old now new : TurnState) (so : SoFar old now) where
       (so.begins (taken ++ rest))) (spelled rest)
 
   -- one more request, and its reply
-  pub goes_on : Replied next_request_of now new false → SoFar old new
+  pub goes_on : Replied next_request_of now new false → RunSoFar old new
   goes_on r = record {
     taken = so.taken ++ r.taken;
     asked = so.asked ++ r.request ∷ [];

@@ -21,17 +21,18 @@ use Rattle.shpass.specs.declared.script_lines.LinesBefore.{LinesBefore}
 use Rattle.shpass.specs.LineByLine.{Before, IsReadBy, LineReads, OuterReads, Rest, Stands, is_blank_after}
 use Rattle.shgrammar.proofs.Within.{more_within}
 use Rattle.shgrammar.specs.Moved.{Same, SameBy}
-use Rattle.shgrammar.specs.Scripts.{AScript, Outcome, SoFar, faulty, is_blank_line, last_line, line_ended, line_from, line_told, the_line, with_line}
+use Rattle.shgrammar.specs.Scripts.{AScript, Outcome, LinesSoFar, faulty, is_blank_line, last_line, line_ended, line_from, line_told, the_line, with_line}
 use Rattle.shgrammar.proofs.MovedLine.{line_moved, line_outer}
 use Rattle.shgrammar.proofs.OneOutcome.{computed_is_only}
 
 -- ---- what is read of a line, where its first entry is blank as the lines before it have it
 
-pub blank_is : (before : LinesBefore) (so : SoFar) → Before before so
+pub blank_is : (before : LinesBefore) (so : LinesSoFar) → Before before so
     → is_blank_after before ≡ is_blank_line so
 blank_is before so stood = ap (λ b. b && before.begun) stood.0 ∙ ap (λ b. so.gap && b) stood.1
 
-pub line_read : (edition : Edition) (B : Row ℕ) (so : SoFar) (p : ℕ) (blank : Bool) (x : Read (Row AnEntry × Bool)) →
+pub line_read : (edition : Edition) (B : Row ℕ) (so : LinesSoFar) (p : ℕ) (blank : Bool) (x : Read (Row AnEntry × Bool))
+    →
     blank ≡ is_blank_line so → line_from edition B Whole blank p ≡ x → LineReads edition B so p x
 line_read edition B so p blank x is_blank read =
     let one = (computed_is_only (the_line blank) (given edition (drop p B) p) (standing 0)).some in (
@@ -41,7 +42,7 @@ line_read edition B so p blank x is_blank read =
     )
 
 -- what the grammar reads of a line is what is computed
-pub line_only : (edition : Edition) (B : Row ℕ) (so : SoFar) (p : ℕ) (x : Read (Row AnEntry × Bool)) →
+pub line_only : (edition : Edition) (B : Row ℕ) (so : LinesSoFar) (p : ℕ) (x : Read (Row AnEntry × Bool)) →
     LineReads edition B so p x → line_from edition B Whole (is_blank_line so) p ≡ x
 line_only edition B so p x read =
     sym ((computed_is_only (the_line (is_blank_line so)) (given edition (drop p B) p) (standing 0)).only
@@ -54,7 +55,7 @@ whole_fault p blank f x (Ok y) outer whole = absurd outer
 whole_fault p blank f (Ok x) (Err h) outer whole = absurd whole
 whole_fault p blank f (Err g) (Err h) outer whole = ap Err (whole ∙ sym outer)
 
-outer_read : (edition : Edition) (B : Row ℕ) (so : SoFar) (p : ℕ) (x : Read (Row AnEntry × Bool))
+outer_read : (edition : Edition) (B : Row ℕ) (so : LinesSoFar) (p : ℕ) (x : Read (Row AnEntry × Bool))
     → line_from edition B Outer (is_blank_line so) p ≡ x → OuterReads edition B so p x
 outer_read edition B so p (Ok x) read = read
 outer_read edition B so p (Err f) read =
@@ -73,7 +74,7 @@ told_by bound reads read is (Ok told) gives = subst reads gives is
 told_by bound reads read is (Err (Wrong f)) fails = subst reads fails.0 is
 told_by bound reads read is (Err Memory) fails = tt
 
-module _ {S : Type 0} (B : Row ℕ) (bound : Limits) (old : ScriptLines S) (r : Result ParsedLine Stop) (so : SoFar)
+module _ {S : Type 0} (B : Row ℕ) (bound : Limits) (old : ScriptLines S) (r : Result ParsedLine Stop) (so : LinesSoFar)
     (stood : Stands old so) where
   pub next_line : Gives bound view_told r (line_from old.edition B Whole (is_blank_after old.before) old.at) →
       IsReadBy (LineReads old.edition B so old.at) r
@@ -97,17 +98,17 @@ told_in reads B other edition by r same is told =
 
 -- What the lines after a line with these entries give is what they give with it. Where no newline ended it,
 -- it is the script's last.
-abbrev pub LeadsOn : Edition → Row ℕ → SoFar → ℕ → Row AnEntry → Bool → ℕ → Type 0
+abbrev pub LeadsOn : Edition → Row ℕ → LinesSoFar → ℕ → Row AnEntry → Bool → ℕ → Type 0
 LeadsOn edition B so p es true q = (s : AScript) → Rest edition B (with_line so es) q s → Rest edition B so p s
 LeadsOn edition B so p es false q =
     Rest edition B so p (record { entries = entries_of (so.entries ++ es); fault = None })
 
-line_leads : (edition : Edition) (B : Row ℕ) (so : SoFar) (p n : ℕ) (es : Row AnEntry) (newline : Bool)
+line_leads : (edition : Edition) (B : Row ℕ) (so : LinesSoFar) (p n : ℕ) (es : Row AnEntry) (newline : Bool)
     → LineReads edition B so p (Ok ((es, newline), standing n)) → LeadsOn edition B so p es newline (p + n)
 line_leads edition B so p n es true read = λ s rest. (read.0 ++ rest.0, line_ended es (standing n) read.0 read.1 rest.1)
 line_leads edition B so p n es false read = (read.0, last_line es (standing n) read.0 read.1)
 
-pub leads_on : (edition : Edition) (B : Row ℕ) (so : SoFar) (p : ℕ) (told : ParsedLine) (newline : Bool) →
+pub leads_on : (edition : Edition) (B : Row ℕ) (so : LinesSoFar) (p : ℕ) (told : ParsedLine) (newline : Bool) →
     told.newline ≡ newline
     → IsReadBy (LineReads edition B so p) (Ok told) →
     LeadsOn edition B so p (map view_entry told.entries.items) newline (p + told.len)
@@ -115,7 +116,7 @@ leads_on edition B so p told newline is read =
     subst (λ b. LeadsOn edition B so p (map view_entry told.entries.items) b (p + told.len)) is
     (line_leads edition B so p told.len (map view_entry told.entries.items) told.newline read)
 
-pub leads_nowhere : (edition : Edition) (B : Row ℕ) (so : SoFar) (p : ℕ) (stop : Stop) (f : Fault) → stop ≡ Wrong f
+pub leads_nowhere : (edition : Edition) (B : Row ℕ) (so : LinesSoFar) (p : ℕ) (stop : Stop) (f : Fault) → stop ≡ Wrong f
     → IsReadBy (LineReads edition B so p) (Err stop) →
     Rest edition B so p (record { entries = entries_of so.entries; fault = Some f })
 leads_nowhere edition B so p stop f is told =
@@ -129,7 +130,7 @@ fault_told e f bound x is told = (subst (λ z. Fails bound z x) is told).0
 -- ---- all lines
 
 -- what entries of the code, and whether a line without entries is after them, are
-abbrev pub so_far : Row Entry → Bool → SoFar
+abbrev pub so_far : Row Entry → Bool → LinesSoFar
 so_far xs gap = record { entries = map view_entry xs; gap = gap }
 
 all_is : (before all line : Row Entry) → all ≡ before ++ line →

@@ -16,18 +16,18 @@ use Rattle.shast.specs.View.{view_entry}
 use Rattle.shgrammar.specs.Characters.{newline_char}
 use Rattle.shgrammar.specs.Commands.{is_empty}
 use Rattle.shgrammar.specs.Form.{Read, Spelled, may}
-use Rattle.shgrammar.specs.Scripts.{AScript, Lines, SoFar, is_blank_line, line_from, the_line, with_line}
+use Rattle.shgrammar.specs.Scripts.{AScript, Lines, LinesSoFar, is_blank_line, line_from, the_line, with_line}
 use Rattle.shgrammar.specs.Search.{StopsAt}
 use Rattle.shgrammar.specs.Sights.{State, given, standing}
 use Rattle.shgrammar.specs.Standing.{raw_stands}
 
 -- what the grammar reads of the line at p, after lines that gave this
-abbrev pub LineReads : Edition → List ℕ → SoFar → ℕ → Read (Row AnEntry × Bool) → Type 0
+abbrev pub LineReads : Edition → List ℕ → LinesSoFar → ℕ → Read (Row AnEntry × Bool) → Type 0
 LineReads edition B so p x = (k : Row Spelled)
     × may (the_line (is_blank_line so)) (given edition (drop p B) p) (standing 0) x k
 
 -- The same, but that the trees in command substitutions are left out. A fault is that of the line with them.
-abbrev pub OuterReads : Edition → List ℕ → SoFar → ℕ → Read (Row AnEntry × Bool) → Type 0
+abbrev pub OuterReads : Edition → List ℕ → LinesSoFar → ℕ → Read (Row AnEntry × Bool) → Type 0
 OuterReads edition B so p (Ok x) = line_from edition B Outer (is_blank_line so) p ≡ Ok x
 OuterReads edition B so p (Err f) = LineReads edition B so p (Err f)
 
@@ -44,7 +44,7 @@ LineWithin limit (Err (Wrong f)) = f.at ≤ limit
 LineWithin limit (Err Memory) = Unit {0}
 
 -- the script of lines that gave this and of the lines from p on
-abbrev pub Rest : Edition → List ℕ → SoFar → ℕ → AScript → Type 0
+abbrev pub Rest : Edition → List ℕ → LinesSoFar → ℕ → AScript → Type 0
 Rest edition B so p s = (k : Row Spelled) × Lines edition B so p s k
 
 -- no line stands before
@@ -56,7 +56,7 @@ abbrev pub is_blank_after : LinesBefore → Bool
 is_blank_after before = before.gap && before.begun
 
 -- the lines before gave this
-abbrev pub Before : LinesBefore → SoFar → Type 0
+abbrev pub Before : LinesBefore → LinesSoFar → Type 0
 Before before so = (before.gap ≡ so.gap) × (before.begun ≡ not (is_empty so.entries))
 
 module _ {S : Type 0} where
@@ -81,7 +81,7 @@ module _ {S : Type 0} where
   AtStart lines = (lines.at ≡ 0) × (lines.before.gap ≡ false) × (lines.before.begun ≡ false)
 
   -- the lines so far gave this
-  abbrev pub Stands : ScriptLines S → SoFar → Type 0
+  abbrev pub Stands : ScriptLines S → LinesSoFar → Type 0
   Stands lines so = Before lines.before so
 
   -- the script stays, and by which edition and with whose memory it is read
@@ -92,7 +92,7 @@ module _ {S : Type 0} where
   abbrev pub GoesPast : ScriptLines S → ParsedLine → ScriptLines S → Type 0
   GoesPast old told new =
       SameScript old new × (new.at ≡ old.at + told.len)
-      × ((so : SoFar) → Stands old so → Stands new (with_line so (map view_entry told.entries.items)))
+      × ((so : LinesSoFar) → Stands old so → Stands new (with_line so (map view_entry told.entries.items)))
 
   -- It goes past the line at its place: further on where a newline ended it, and never past the end. At a
   -- fault nothing moves, nor where memory ran out.
@@ -103,7 +103,7 @@ module _ {S : Type 0} where
 
   -- A line with these entries, but for the trees in command substitutions, after lines that gave this, from
   -- `old` to `new`. A newline ended it and is its last byte.
-  abbrev pub IsWholeLine : List ℕ → SoFar → ScriptLines S → Vec Entry Global → ScriptLines S → Type 0
+  abbrev pub IsWholeLine : List ℕ → LinesSoFar → ScriptLines S → Vec Entry Global → ScriptLines S → Type 0
   IsWholeLine B so old es new =
       (t : State) × (new.at ≡ old.at + t.at)
       × OuterReads old.edition B so old.at (Ok ((map view_entry es.items, true), t)) × (0 < t.at)
@@ -116,15 +116,15 @@ module _ {S : Type 0} where
   PassesWhole bytes old (Ok (Some es)) new =
       SameScript old new × (old.at < new.at) × (new.at ≤ length (bytes_of bytes old))
       × (slice_get (bytes_of bytes old) (new.at - 1) ≡ Some newline_char)
-      × ((so : SoFar) → Stands old so → IsWholeLine (bytes_of bytes old) so old es new)
+      × ((so : LinesSoFar) → Stands old so → IsWholeLine (bytes_of bytes old) so old es new)
   PassesWhole bytes old (Ok None) new = (new ≡ old) × StopsAt old.edition (bytes_of bytes old) old.at
   PassesWhole bytes old (Err e) new = new ≡ old
 
 -- One more line is read, by these rules. No node of its entries names an offset above the script's length,
 -- nor does a fault.
-pub record ReadsLine {S : Type 0} (reads : Edition → List ℕ → SoFar → ℕ → Read (Row AnEntry × Bool) → Type 0)
+pub record ReadsLine {S : Type 0} (reads : Edition → List ℕ → LinesSoFar → ℕ → Read (Row AnEntry × Bool) → Type 0)
     (bytes : S → List ℕ)
     (old : ScriptLines S) (result : Result ParsedLine Stop) (new : ScriptLines S) : Type 0 where
-  pub line : (so : SoFar) → Stands old so → IsReadBy (reads old.edition (bytes_of bytes old) so old.at) result
+  pub line : (so : LinesSoFar) → Stands old so → IsReadBy (reads old.edition (bytes_of bytes old) so old.at) result
   pub moves : MovesOn bytes old result new
   pub within : LineWithin (length (bytes_of bytes old)) result

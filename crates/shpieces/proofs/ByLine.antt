@@ -14,7 +14,7 @@ use Rattle.shpass.specs.LineByLine.{Before, IsReadBy, IsWholeLine, LineWithin, O
 use Rattle.shgrammar.specs.declared.keep.Keep.TheVariants.{Whole}
 use Rattle.shast.specs.Moved.{blanked_row, moved_entry, outer_entry, placed_body}
 use Rattle.shgrammar.specs.Moved.{moved_fault}
-use Rattle.shgrammar.specs.Scripts.{AScript, FirstFault, Outcome, SoFar, faulty, is_blank_line, last_line, line_ended, nothing_yet, with_line}
+use Rattle.shgrammar.specs.Scripts.{AScript, FirstFault, Outcome, LinesSoFar, faulty, is_blank_line, last_line, line_ended, nothing_yet, with_line}
 use Rattle.shgrammar.specs.Sights.{State, standing}
 use Rattle.shpass.proofs.LineByLine.{line_only, line_read, told_in}
 use Rattle.shgrammar.proofs.LineInPiece.{There, outer_alone, fault_there, stands_there, told_same}
@@ -75,11 +75,12 @@ begun_as [] es fs is = is
 begun_as (e ∷ before) es fs is = refl
 
 -- what a line leaves, of whose entries it is asked only whether there are some
-left_as : (left : LinesBefore) (so : SoFar) (es fs : List AnEntry) → is_empty es ≡ is_empty fs →
+left_as : (left : LinesBefore) (so : LinesSoFar) (es fs : List AnEntry) → is_empty es ≡ is_empty fs →
     Before left (with_line so es) → Before left (with_line so fs)
 left_as left so es fs is stands = (stands.0 ∙ is, stands.1 ∙ ap not (begun_as so.entries es fs is))
 
-module _ (edition : Edition) (y : Layout) (H S : List ℕ) (q n : ℕ) (so : SoFar) (newline : Bool) (es : List AnEntry)
+module _ (edition : Edition) (y : Layout) (H S : List ℕ) (q n : ℕ) (so : LinesSoFar) (newline : Bool)
+    (es : List AnEntry)
     (t : State) (there : There edition H S q n (is_blank_line so) newline es t) where
   abbrev here : List AnEntry
   here = blanked_row (is_blank_line so) (map (moved_entry n) es)
@@ -92,7 +93,8 @@ module _ (edition : Edition) (y : Layout) (H S : List ℕ) (q n : ℕ) (so : SoF
       is ∙ ap (λ r. written text (print_entries y [] r)) (sym there.shape)
       ∙ line_after y S so.entries here text text_is
 
-module _ (edition : Edition) (y : Layout) (H S : List ℕ) (q n : ℕ) (so : SoFar) (es : List AnEntry) (t : State) where
+module _ (edition : Edition) (y : Layout) (H S : List ℕ) (q n : ℕ) (so : LinesSoFar) (es : List AnEntry)
+    (t : State) where
   -- what is read after a line is read with it
   rest_more : There edition H S q n (is_blank_line so) true es t → (s : AScript) (p : ℕ) → p ≡ n + t.at →
       Rest edition S (with_line so (blanked_row (is_blank_line so) (map (moved_entry n) es))) p s →
@@ -150,7 +152,7 @@ whole_there edition H P more q blank es t read some low stands =
 module _ {S : Type 0} (edition : Edition) (y : Layout) (H : List ℕ) (old new : ScriptLines S)
     (by : old.edition ≡ edition) (text then : Sheet) (line : Vec Entry Global) where
   one_more : (P : List ℕ) → ArePrinted edition y P old.before text →
-      ((so : SoFar) → Stands old so → IsWholeLine H so old line new) → new.at ≤ length H
+      ((so : LinesSoFar) → Stands old so → IsWholeLine H so old line new) → new.at ≤ length H
       → then ≡ written text (print_entries y [] (shape_of H (entries_of (map view_entry line.items)))) → (L : ℕ) →
       new.at ≡ old.at + L → ArePrinted edition y (P ++ take L (drop old.at H)) new.before then
   one_more P b whole low is L ends_at =
@@ -194,7 +196,7 @@ module _ {S : Type 0} (edition : Edition) (y : Layout) (H : List ℕ) (old new :
       subst (λ (k : ℕ). ArePrinted edition y (P ++ take k D) new.before then) size done
 
   pub front_after : (front : List ℕ) → ArePrinted edition y (front ++ take old.at H) old.before text →
-      ((so : SoFar) → Stands old so → IsWholeLine H so old line new) → old.at < new.at → new.at ≤ length H
+      ((so : LinesSoFar) → Stands old so → IsWholeLine H so old line new) → old.at < new.at → new.at ≤ length H
       → then ≡ written text (print_entries y [] (shape_of H (entries_of (map view_entry line.items)))) →
       ArePrinted edition y (front ++ take new.at H) new.before then
   front_after front b whole onward low is =
@@ -229,7 +231,7 @@ none_printed edition y left s none empty = record {
 module _ {S : Type 0} (edition : Edition) (y : Layout) (H front : List ℕ) where
   -- between two lines: what they gave is printed, and what the lines to come give is the script with it
   pub record Between (lines : ScriptLines S) (printed_so : Sheet) : Type 0 where
-    pub so : SoFar
+    pub so : LinesSoFar
     pub stands : Stands lines so
     pub from : (s : AScript) → Rest edition (front ++ H) so (length front + place_of lines) s →
         Outcome edition (front ++ H) s

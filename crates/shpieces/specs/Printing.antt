@@ -4,7 +4,7 @@ use Rattle.shpass.specs.declared.script_lines.LinesBefore.{LinesBefore}
 use Rattle.shpass.specs.LineByLine.{Before, Rest}
 use Rattle.shgrammar.specs.declared.edition.Edition.{Edition}
 use Rattle.shgrammar.specs.Moved.{moved_fault}
-use Rattle.shgrammar.specs.Scripts.{AScript, FirstFault, Outcome, SoFar}
+use Rattle.shgrammar.specs.Scripts.{AScript, FirstFault, Outcome, LinesSoFar}
 use Rattle.shast.specs.Shape.{shape_of}
 use Rattle.shast.specs.Tree.{entries_of}
 use Rattle.shline.specs.declared.stop.Stop.{Stop}
@@ -26,7 +26,7 @@ IsNoText edition bytes Memory = Unit {0}
 -- printed for them. Whatever follows it, the script is that of these lines and of what is read after them.
 pub record ArePrinted (edition : Edition) (y : Layout) (front : List ℕ) (left : LinesBefore)
     (so_far : Sheet) : Type 0 where
-  pub so : SoFar
+  pub so : LinesSoFar
   pub left_so : Before left so
   pub from : (more : List ℕ) (s : AScript) → Rest edition (front ++ more) so (length front) s →
       Outcome edition (front ++ more) s

@@ -13,7 +13,7 @@ use Rattle.shgrammar.specs.Bytes.{past_blanks}
 use Rattle.shgrammar.specs.Form.{leads_on, again, many}
 use Rattle.shgrammar.specs.Levels.{level}
 use Rattle.shast.specs.Normal.{is_normal_form, is_normal_else, are_normal_branches, is_normal_branch}
-use Rattle.shgrammar.specs.Compounds.{an_if, a_loop, an_else, elif_turn, branched, a_branch, closing_text, is_closing}
+use Rattle.shgrammar.specs.Compounds.{an_if, a_loop, an_else, elif_turn, branches_so_far, a_branch, closing_text, is_closing}
 use Rattle.shgrammar.specs.Commands.{begins_pipeline}
 use Rattle.shgrammar.proofs.Places.{blanks_low}
 use Rattle.shast.specs.Opened.{entries_bodies, form_bodies, branch_bodies, branches_bodies, else_bodies, opened, open_form, open_branch, open_branches, open_else}
@@ -264,23 +264,27 @@ module _ {edition : Edition} {B T : List ℕ} {o : ℕ} {S : StandsIn edition B 
     f : ℕ
     later : Held
     at : At S later f ms
-    reads : Gives (g S) (many (elif_turn (level room)) (branched acc (asked S Command e))) (state h (past_blanks T e))
-        (branched (acc ++ value) (asked S Command f)) (state later (past_blanks T f))
+    reads : Gives (g S) (many (elif_turn (level room)) (branches_so_far acc (asked S Command e)))
+        (state h (past_blanks T e))
+        (branches_so_far (acc ++ value) (asked S Command f)) (state later (past_blanks T f))
     shape : shape_of_branches B (branches_of value) ≡ open_branches [] bs
     texts : Adds S h later (branches_bodies bs)
 
   -- one branch before others
   branches_turned : (h k later : Held) (acc : Row ABranch) (n : Next) (p : ℕ) (v : ABranch) (next : Next) (r : ℕ)
       (vs : Row ABranch) (z : Next) (f : ℕ)
-      → Gives (g S) (elif_turn (level room) (branched acc n)) (state h p) (again (branched (acc ++ v ∷ []) next))
+      → Gives (g S) (elif_turn (level room) (branches_so_far acc n)) (state h p)
+      (again (branches_so_far (acc ++ v ∷ []) next))
       (state k r)
       → leads_on (g S) (state h p) (state k r) ≡ true
-      → Gives (g S) (many (elif_turn (level room)) (branched (acc ++ v ∷ []) next)) (state k r)
-      (branched ((acc ++ v ∷ []) ++ vs) z) (state later f)
-      → Gives (g S) (many (elif_turn (level room)) (branched acc n)) (state h p) (branched (acc ++ (v ∷ vs)) z)
+      → Gives (g S) (many (elif_turn (level room)) (branches_so_far (acc ++ v ∷ []) next)) (state k r)
+      (branches_so_far ((acc ++ v ∷ []) ++ vs) z) (state later f)
+      → Gives (g S) (many (elif_turn (level room)) (branches_so_far acc n)) (state h p)
+      (branches_so_far (acc ++ (v ∷ vs)) z)
       (state later f)
   branches_turned h k later acc n p v next r vs z f one on rest =
-      subst (λ all. Gives (g S) (many (elif_turn (level room)) (branched acc n)) (state h p) (branched all z)
+      subst (λ all. Gives (g S) (many (elif_turn (level room)) (branches_so_far acc n)) (state h p)
+      (branches_so_far all z)
       (state later f)) (append_assoc acc (v ∷ []) vs) (one_turn (elif_turn (level room)) one on rest)
 
   -- the shape of branches by that of the first and those of the others

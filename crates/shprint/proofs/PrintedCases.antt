@@ -21,9 +21,9 @@ use Rattle.shgrammar.specs.Form.{◌>>◌, by, move, again, many}
 use Rattle.shgrammar.specs.Words.{a_word}
 use Rattle.shgrammar.specs.Levels.{level}
 use Rattle.shast.specs.Normal.{is_normal_form, holds_command, first_not_blank, are_normal, are_normal_cases, is_normal_case, are_normal_patterns}
-use Rattle.shgrammar.specs.Compounds.{a_linebreak, closing, closing_text, is_closing, a_case, a_case_head, a_case_word, begins_pattern, patterned, a_pattern, one_pattern, pattern_turn, a_pattern_list, an_open_bracket, a_body, body_end, item_end, an_item_end, an_ender, ender_told, cases_so, one_case, case_turn}
-use Rattle.shgrammar.specs.Lists.{Listed, list_so, list_turn}
-use Rattle.shgrammar.specs.Commands.{begins_pipeline, is_pipe, join_turn, join_so, a_join_of, is_newline_token, begins_word, is_paren, ends_item, falls_through}
+use Rattle.shgrammar.specs.Compounds.{a_linebreak, closing, closing_text, is_closing, a_case, a_case_head, a_case_word, begins_pattern, patterns_so_far, a_pattern, one_pattern, pattern_turn, a_pattern_list, an_open_bracket, a_body, body_end, item_end, an_item_end, an_ender, ender_told, cases_so_far, one_case, case_turn}
+use Rattle.shgrammar.specs.Lists.{Listed, list_so_far, list_turn}
+use Rattle.shgrammar.specs.Commands.{begins_pipeline, is_pipe, join_turn, join_so_far, a_join_of, is_newline_token, begins_word, is_paren, ends_item, falls_through}
 use Rattle.shgrammar.proofs.Places.{blanks_low}
 use Rattle.shast.specs.Opened.{entries_bodies, form_bodies, cases_bodies, case_bodies, opened, open_form, open_cases, open_case}
 use Rattle.shast.specs.declared.tree.Span.{Span}
@@ -263,9 +263,9 @@ module _ {edition : Edition} {B T : List ℕ} {o : ℕ} {S : StandsIn edition B 
     value : Row AWord
     e : ℕ
     at : At S h e (text (codes ")") ∷ ms)
-    reads : Gives (g S) (many (pattern_turn (level room)) (patterned acc (asked S Suffix f)))
+    reads : Gives (g S) (many (pattern_turn (level room)) (patterns_so_far acc (asked S Suffix f)))
         (state h (past_blanks T f))
-        (patterned (acc ++ value) (asked S Suffix e)) (state h (past_blanks T e))
+        (patterns_so_far (acc ++ value) (asked S Suffix e)) (state h (past_blanks T e))
     shape : shape_of_patterns B (patterns_of value) ≡ ws
 
   -- the shape of patterns by that of the first and those of the others
@@ -311,8 +311,8 @@ module _ {edition : Edition} {B T : List ℕ} {o : ℕ} {S : StandsIn edition B 
       (more_follows ws ms) the_bar.rest in
       let others = patterns_read h ws (acc ++ v.value ∷ []) v.e ms good.1 v.at in
       let n = asked S Suffix f in
-      let turned : Gives (g S) (pattern_turn (level room) (patterned acc n)) (state h q)
-      (again (patterned (acc ++ v.value ∷ []) (asked S Suffix v.e))) (state h (past_blanks T v.e)) =
+      let turned : Gives (g S) (pattern_turn (level room) (patterns_so_far acc n)) (state h q)
+      (again (patterns_so_far (acc ++ v.value ∷ []) (asked S Suffix v.e))) (state h (past_blanks T v.e)) =
       first_of _ _ (ap (λ (n : Next). is_pipe n.token) n_is)
       (told_here (by (codes "|")) moved ⟫ next_read S h Suffix (q + 1) ⟫ first_of _ _ v.begin
       ((v.reads ⟫ pushed_here acc v.value ⟫ next_read S h Suffix v.e ⟫ given_here) ⟫ given_here)) in
@@ -322,8 +322,8 @@ module _ {edition : Edition} {B T : List ℕ} {o : ℕ} {S : StandsIn edition B 
         value = v.value ∷ others.value;
         e = others.e;
         at = others.at;
-        reads = subst (λ all. Gives (g S) (many (pattern_turn (level room)) (patterned acc n)) (state h q)
-            (patterned all (asked S Suffix others.e)) (state h (past_blanks T others.e)))
+        reads = subst (λ all. Gives (g S) (many (pattern_turn (level room)) (patterns_so_far acc n)) (state h q)
+            (patterns_so_far all (asked S Suffix others.e)) (state h (past_blanks T others.e)))
             (append_assoc acc (v.value ∷ []) others.value)
             (one_turn (pattern_turn (level room)) turned on others.reads);
         shape = patterns_shape v.value others.value w ws v.shape others.shape;
@@ -351,8 +351,8 @@ module _ {edition : Edition} {B T : List ℕ} {o : ℕ} {S : StandsIn edition B 
     e : ℕ
     later : Held
     at : At S later e (text m ∷ ms)
-    reads : Gives (g S) (many join_turn (join_so (a_join_of b acc) n)) (state h p)
-        (join_so (a_join_of true (acc ++ comments)) (asked S Command e)) (state later (past_blanks T e))
+    reads : Gives (g S) (many join_turn (join_so_far (a_join_of b acc) n)) (state h p)
+        (join_so_far (a_join_of true (acc ++ comments)) (asked S Command e)) (state later (past_blanks T e))
     shape : shape_of_comments B comments ≡ cs
     texts : Adds S h later no_more
 
@@ -484,7 +484,7 @@ module _ {edition : Edition} {B T : List ℕ} {o : ℕ} {S : StandsIn edition B 
     later : Held
     ended : EnderRead later e falls (line_end ∷ ms)
     reads : Gives (g S) (a_body (level room) (asked S Command f)) (state h (past_blanks T f))
-        (list_so list (asked S Command e))
+        (list_so_far list (asked S Command e))
         (state later (past_blanks T e))
     shape : shape_of B (entries_of list.entries) ≡ opened [] body
     texts : Adds S h later (entries_bodies body)
@@ -587,9 +587,9 @@ module _ {edition : Edition} {B T : List ℕ} {o : ℕ} {S : StandsIn edition B 
     f : ℕ
     later : Held
     key : ReservedRead S later f reserved.Esac rest
-    reads : Gives (g S) (many (case_turn (level room)) (cases_so acc before (asked S Command e)))
+    reads : Gives (g S) (many (case_turn (level room)) (cases_so_far acc before (asked S Command e)))
         (state h (past_blanks T e))
-        (cases_so (acc ++ value) comments (asked S Command f)) (state later (past_blanks T f))
+        (cases_so_far (acc ++ value) comments (asked S Command f)) (state later (past_blanks T f))
     shape : shape_of_cases B (cases_of value) ≡ open_cases [] items
     texts : Adds S h later (cases_bodies items)
     tail_shape : shape_of_comments B comments ≡ tail
@@ -672,8 +672,8 @@ module _ {edition : Edition} {B T : List ℕ} {o : ℕ} {S : StandsIn edition B 
       (acc ++ it ∷ []) l.comments l.e rest blank good.1 comments parts.1 stop l.shape l.at in
       let body_low = gives_on (a_body (level room) (asked S Command (z + 1))) _ _ _ b.reads in
       let patterns_low = gives_on
-      (many (pattern_turn (level room)) (patterned (v.value ∷ []) (asked S Suffix v.e))) _ _ _ vs.reads in
-      let lines_low = gives_on (many join_turn (join_so (a_join_of false []) (asked S Command d.f))) _ _ _
+      (many (pattern_turn (level room)) (patterns_so_far (v.value ∷ []) (asked S Suffix v.e))) _ _ _ vs.reads in
+      let lines_low = gives_on (many join_turn (join_so_far (a_join_of false []) (asked S Command d.f))) _ _ _
       l.reads in
       let ended : Gives (g S) (an_item_end (level room) (body_end (o + (z + 1)) b.list) (asked S Command b.e))
       (state b.later (past_blanks T b.e)) (item_end (o + d.f) l.comments (asked S Command l.e))
@@ -682,11 +682,11 @@ module _ {edition : Edition} {B T : List ℕ} {o : ℕ} {S : StandsIn edition B 
       (told_here (ender_told (falls_through (asked S Command b.e).token)) d.on ⟫ seen_here the_place ⟫ next_read S
       b.later Command d.f ⟫ l.reads ⟫ given_here) in
       let listed : Gives (g S) (a_pattern_list (level room) n) (state h q)
-      (patterned (v.value ∷ vs.value) (asked S Suffix vs.e)) (state h z) =
+      (patterns_so_far (v.value ∷ vs.value) (asked S Suffix vs.e)) (state h z) =
       first_of _ _ v.begin ((v.reads ⟫ pushed_here [] v.value ⟫ next_read S h Suffix v.e ⟫ given_here) ⟫
       vs.reads) in
-      let turned : Gives (g S) (case_turn (level room) (cases_so acc before n)) (state h q)
-      (again (cases_so (acc ++ it ∷ []) l.comments (asked S Command l.e))) (state l.later (past_blanks T l.e)) =
+      let turned : Gives (g S) (case_turn (level room) (cases_so_far acc before n)) (state h q)
+      (again (cases_so_far (acc ++ it ∷ []) l.comments (asked S Command l.e))) (state l.later (past_blanks T l.e)) =
       second_of _ _ other.esac
       (seen_here the_place ⟫ second_of _ _ other.bracket given_here ⟫ listed
       ⟫ first_of _ _ (ap (λ (n : Next). is_closing closings.Paren n.token) bracket.0)
@@ -711,8 +711,8 @@ module _ {edition : Edition} {B T : List ℕ} {o : ℕ} {S : StandsIn edition B 
         f = others.f;
         later = others.later;
         key = others.key;
-        reads = subst (λ all. Gives (g S) (many (case_turn (level room)) (cases_so acc before n)) (state h q)
-            (cases_so all others.comments (asked S Command others.f)) (state others.later (past_blanks T others.f)))
+        reads = subst (λ all. Gives (g S) (many (case_turn (level room)) (cases_so_far acc before n)) (state h q)
+            (cases_so_far all others.comments (asked S Command others.f)) (state others.later (past_blanks T others.f)))
             (append_assoc acc (it ∷ []) others.value) (one_turn (case_turn (level room)) turned on others.reads);
         shape = cases_shape it others.value (case_item cs (more_patterns w ws) body mark) items
             (item_shape_of before v.value vs.value b.list.entries it_mark cs w ws body mark falls_is same v.shape

@@ -19,7 +19,7 @@ use Rattle.shgrammar.specs.Form.{◌>>=◌, ◌>>◌, by, move, leads_on, again,
 use Rattle.shgrammar.specs.Levels.{level}
 use Rattle.shast.specs.Nodes.{word_span}
 use Rattle.shast.specs.Normal.{is_normal_and_or, are_normal_and_ors, is_normal_pipeline, are_normal_pipes, is_normal_join, is_normal_compound, is_normal_command}
-use Rattle.shgrammar.specs.Commands.{an_and_or, one_pipeline, and_or_turn, joined_so, a_bang, a_pipeline, begins_pipeline, and_or_operator_of, is_pipe, piped, one_command, pipe_turn, a_command, a_join, begins_simple, opener_of, is_newline_token, is_bang, with_redirect_list, is_word, is_paren, a_word_command, compound_by}
+use Rattle.shgrammar.specs.Commands.{an_and_or, one_pipeline, and_or_turn, and_or_so_far, a_bang, a_pipeline, begins_pipeline, and_or_operator_of, is_pipe, pipes_so_far, one_command, pipe_turn, a_command, a_join, begins_simple, opener_of, is_newline_token, is_bang, with_redirect_list, is_word, is_paren, a_word_command, compound_by}
 use Rattle.shgrammar.proofs.Anywhere.{word_span as spanned}
 use Rattle.shast.specs.Opened.{items_bodies, and_or_bodies, and_or_parts_bodies, pipeline_bodies, pipes_bodies, command_bodies, compound_bodies, open_items, open_and_or, open_and_or_parts, open_pipeline, open_pipes, open_command, open_compound, open_form}
 use Rattle.shast.specs.declared.tree.AndOrOperator.{AndOrOperator}
@@ -305,8 +305,8 @@ module _ {edition : Edition} {B T : List ℕ} {o : ℕ} {S : StandsIn edition B 
     «end» : ℕ
     later : Held
     at : At S later «end» rest
-    reads : Gives (g S) (many (pipe_turn (level room)) (piped acc n)) (state h p)
-        (piped (acc ++ parts) (asked S Command «end»)) (state later (past_blanks T «end»))
+    reads : Gives (g S) (many (pipe_turn (level room)) (pipes_so_far acc n)) (state h p)
+        (pipes_so_far (acc ++ parts) (asked S Command «end»)) (state later (past_blanks T «end»))
     shape : shape_of_pipes B (pipeline_parts_of parts) ≡ open_pipes [] cs
     texts : Adds S h later (pipes_bodies cs)
 
@@ -321,14 +321,16 @@ module _ {edition : Edition} {B T : List ℕ} {o : ℕ} {S : StandsIn edition B 
   -- one command before others
   pipes_more : (h k later : Held) (acc : Row APipelinePart) (n : Next) (p : ℕ) (q : APipelinePart) (next : Next)
       (r : ℕ) (qs : Row APipelinePart) (z : Next) (e : ℕ)
-      → Gives (g S) (pipe_turn (level room) (piped acc n)) (state h p) (again (piped (acc ++ q ∷ []) next)) (state k r)
+      → Gives (g S) (pipe_turn (level room) (pipes_so_far acc n)) (state h p)
+      (again (pipes_so_far (acc ++ q ∷ []) next)) (state k r)
       → leads_on (g S) (state h p) (state k r) ≡ true
-      → Gives (g S) (many (pipe_turn (level room)) (piped (acc ++ q ∷ []) next)) (state k r)
-      (piped ((acc ++ q ∷ []) ++ qs) z) (state later e)
-      → Gives (g S) (many (pipe_turn (level room)) (piped acc n)) (state h p) (piped (acc ++ (q ∷ qs)) z)
+      → Gives (g S) (many (pipe_turn (level room)) (pipes_so_far (acc ++ q ∷ []) next)) (state k r)
+      (pipes_so_far ((acc ++ q ∷ []) ++ qs) z) (state later e)
+      → Gives (g S) (many (pipe_turn (level room)) (pipes_so_far acc n)) (state h p) (pipes_so_far (acc ++ (q ∷ qs)) z)
       (state later e)
   pipes_more h k later acc n p q next r qs z e one on rest =
-      subst (λ all. Gives (g S) (many (pipe_turn (level room)) (piped acc n)) (state h p) (piped all z) (state later e))
+      subst (λ all. Gives (g S) (many (pipe_turn (level room)) (pipes_so_far acc n)) (state h p) (pipes_so_far all z)
+      (state later e))
       (append_assoc acc (q ∷ []) qs) (one_turn (pipe_turn (level room)) one on rest)
 
   -- one more command
@@ -338,8 +340,8 @@ module _ {edition : Edition} {B T : List ℕ} {o : ℕ} {S : StandsIn edition B 
     «end» : ℕ
     later : Held
     at : At S later «end» ms
-    reads : Gives (g S) (pipe_turn (level room) (piped acc n)) (state h p)
-        (again (piped (acc ++ part ∷ []) (asked S Command «end»))) (state later (past_blanks T «end»))
+    reads : Gives (g S) (pipe_turn (level room) (pipes_so_far acc n)) (state h p)
+        (again (pipes_so_far (acc ++ part ∷ []) (asked S Command «end»))) (state later (past_blanks T «end»))
     on : leads_on (g S) (state h p) (state later (past_blanks T «end»)) ≡ true
     join_is : shape_of_join B part.join ≡ j
     command_is : shape_of_command B part.command ≡ open_command [] c
@@ -618,7 +620,7 @@ module _ {edition : Edition} {B T : List ℕ} {o : ℕ} {S : StandsIn edition B 
 
   -- no further pipeline is read where no operator stands
   no_part : (h : Held) (acc : Row AnAndOrPart) (n : Next) (p : ℕ) → and_or_operator_of n.token ≡ None →
-      Gives (g S) (and_or_turn (level room) (joined_so acc n)) (state h p) (done (joined_so acc n)) (state h p)
+      Gives (g S) (and_or_turn (level room) (and_or_so_far acc n)) (state h p) (done (and_or_so_far acc n)) (state h p)
   unfolding and_or_turn
   no_part h acc n p none = rw none given_here
 
@@ -643,8 +645,8 @@ module _ {edition : Edition} {B T : List ℕ} {o : ℕ} {S : StandsIn edition B 
     «end» : ℕ
     later : Held
     at : At S later «end» ms
-    reads : Gives (g S) (and_or_turn (level room) (joined_so acc n)) (state h p)
-        (again (joined_so (acc ++ part ∷ []) (asked S Command «end»))) (state later (past_blanks T «end»))
+    reads : Gives (g S) (and_or_turn (level room) (and_or_so_far acc n)) (state h p)
+        (again (and_or_so_far (acc ++ part ∷ []) (asked S Command «end»))) (state later (past_blanks T «end»))
     on : leads_on (g S) (state h p) (state later (past_blanks T «end»)) ≡ true
     operator_is : part.operator ≡ k
     join_is : shape_of_join B part.join ≡ j
@@ -709,22 +711,25 @@ module _ {edition : Edition} {B T : List ℕ} {o : ℕ} {S : StandsIn edition B 
     «end» : ℕ
     later : Held
     at : At S later «end» rest
-    reads : Gives (g S) (many (and_or_turn (level room)) (joined_so acc n)) (state h p)
-        (joined_so (acc ++ parts) (asked S Command «end»)) (state later (past_blanks T «end»))
+    reads : Gives (g S) (many (and_or_turn (level room)) (and_or_so_far acc n)) (state h p)
+        (and_or_so_far (acc ++ parts) (asked S Command «end»)) (state later (past_blanks T «end»))
     shape : shape_of_and_or_parts B (and_or_parts_of parts) ≡ open_and_or_parts [] xs
     texts : Adds S h later (and_or_parts_bodies xs)
 
   -- one pipeline before others
   parts_more : (h k later : Held) (acc : Row AnAndOrPart) (n : Next) (p : ℕ) (q : AnAndOrPart) (next : Next)
       (r : ℕ) (qs : Row AnAndOrPart) (z : Next) (e : ℕ)
-      → Gives (g S) (and_or_turn (level room) (joined_so acc n)) (state h p) (again (joined_so (acc ++ q ∷ []) next))
+      → Gives (g S) (and_or_turn (level room) (and_or_so_far acc n)) (state h p)
+      (again (and_or_so_far (acc ++ q ∷ []) next))
       (state k r) → leads_on (g S) (state h p) (state k r) ≡ true
-      → Gives (g S) (many (and_or_turn (level room)) (joined_so (acc ++ q ∷ []) next)) (state k r)
-      (joined_so ((acc ++ q ∷ []) ++ qs) z) (state later e)
-      → Gives (g S) (many (and_or_turn (level room)) (joined_so acc n)) (state h p) (joined_so (acc ++ (q ∷ qs)) z)
+      → Gives (g S) (many (and_or_turn (level room)) (and_or_so_far (acc ++ q ∷ []) next)) (state k r)
+      (and_or_so_far ((acc ++ q ∷ []) ++ qs) z) (state later e)
+      → Gives (g S) (many (and_or_turn (level room)) (and_or_so_far acc n)) (state h p)
+      (and_or_so_far (acc ++ (q ∷ qs)) z)
       (state later e)
   parts_more h k later acc n p q next r qs z e one on rest =
-      subst (λ all. Gives (g S) (many (and_or_turn (level room)) (joined_so acc n)) (state h p) (joined_so all z)
+      subst (λ all. Gives (g S) (many (and_or_turn (level room)) (and_or_so_far acc n)) (state h p)
+      (and_or_so_far all z)
       (state later e)) (append_assoc acc (q ∷ []) qs) (one_turn (and_or_turn (level room)) one on rest)
 
   -- the shape of further pipelines by that of the first and those of the others

@@ -13,7 +13,7 @@ use Rattle.shgrammar.specs.Sights.{here as the_place, is_a_name}
 use Rattle.shgrammar.specs.Levels.{level}
 use Rattle.shast.specs.Normal.{is_normal_form, are_normal_words}
 use Rattle.shgrammar.specs.Compounds.{a_for, a_for_head, a_for_name, a_sequential_sep, for_words, headed, a_group, closing_text, is_closing}
-use Rattle.shgrammar.specs.Commands.{a_semicolon, is_semicolon, join_so, a_join_of, is_newline_token, begins_word}
+use Rattle.shgrammar.specs.Commands.{a_semicolon, is_semicolon, join_so_far, a_join_of, is_newline_token, begins_word}
 use Rattle.shast.specs.Opened.{entries_bodies, form_bodies, opened, open_form}
 use Rattle.shgrammar.proofs.Elsewhere.{item_is_word}
 use Rattle.shast.specs.Shape.{Text, Shape, shape_of, shape_of_form, shape_of_for_words, shape_of_word}
@@ -112,7 +112,7 @@ module _ {edition : Edition} {B T : List ℕ} {o : ℕ} {S : StandsIn edition B 
     later : Held
     key : ReservedRead S later e reserved.Do ms
     reads : Gives (g S) (a_for_head (level room) (asked S Command f)) (state h (past_blanks T f))
-        (headed value (join_so (a_join_of false []) (asked S Command e))) (state later (past_blanks T e))
+        (headed value (join_so_far (a_join_of false []) (asked S Command e))) (state later (past_blanks T e))
     shape : shape_of_for_words B value ≡ words
     texts : Adds S h later no_more
 
@@ -121,7 +121,7 @@ module _ {edition : Edition} {B T : List ℕ} {o : ℕ} {S : StandsIn edition B 
       At S h e (text (codes "; ") ∷ text w ∷ ms)
       → (k : ReservedRead S h (past_blanks T e + 1) r ms)
       × Gives (g S) (a_sequential_sep (level room) [] (asked S Command e)) (state h (past_blanks T e))
-      (join_so (a_join_of false []) (asked S Command (past_blanks T e + 1)))
+      (join_so_far (a_join_of false []) (asked S Command (past_blanks T e + 1)))
       (state h (past_blanks T (past_blanks T e + 1)))
   unfolding a_sequential_sep a_semicolon
   sep_read h e w r ms key at =

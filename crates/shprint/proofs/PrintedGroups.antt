@@ -17,7 +17,7 @@ use Rattle.shgrammar.specs.Form.{again, done}
 use Rattle.shgrammar.specs.Levels.{level}
 use Rattle.shast.specs.Normal.{is_whole, are_normal, is_normal_and_or}
 use Rattle.shgrammar.specs.Compounds.{a_group, closing, closing_text, is_closing}
-use Rattle.shgrammar.specs.Lists.{list_so, none_listed, one_entry, entry_turn, on_line, list_turn, a_list}
+use Rattle.shgrammar.specs.Lists.{list_so_far, none_listed, one_entry, entry_turn, on_line, list_turn, a_list}
 use Rattle.shgrammar.specs.Commands.{an_entry, separator_of, an_and_or, begins_pipeline, is_newline_token}
 use Rattle.shgrammar.proofs.Places.{blanks_low}
 use Rattle.shast.specs.Opened.{entries_bodies, entry_bodies, content_bodies, and_or_bodies, opened, open_entry, open_content}
@@ -188,14 +188,14 @@ module _ {edition : Edition} {B T : List ℕ} {o : ℕ} {S : StandsIn edition B 
       let q = past_blanks T one_read.f in
       let past = Some (o + one_read.f) in
       let l = on_this_line (v ∷ []) false true past in
-      let one_entry_read : Gives (g S) (entry_turn (level room) (list_so (none_listed false) n)) (state h p)
-      (again (list_so l z)) (state k q) =
+      let one_entry_read : Gives (g S) (entry_turn (level room) (list_so_far (none_listed false) n)) (state h p)
+      (again (list_so_far l z)) (state k q) =
       first_of _ _ b.begins (one_read.reads ⟫ pushed_here [] v ⟫ given_here) in
       let entries_read = one_turn (entry_turn (level room)) one_entry_read
       (leads S h k p q one_read.on (pipeline_within S p b))
       (last_turn (entry_turn (level room)) (no_entry_turn fine k l z q c.not_entry)) in
-      let line_read : Gives (g S) (list_turn (level room) (list_so (none_listed false) n)) (state h p)
-      (done (list_so (at_line_start (v ∷ []) false true past) z)) (state k q) =
+      let line_read : Gives (g S) (list_turn (level room) (list_so_far (none_listed false) n)) (state h p)
+      (done (list_so_far (at_line_start (v ∷ []) false true past) z)) (state k q) =
       (entries_read ⟫ no_remark S k l z q c.not_comment) ⟫ no_newline_read S k z q c.not_newline ⟫ given_here in
       let got = list_of fine h k (one_command_list a) n p (text (codes " ") ∷ text w ∷ ms)
       (v ∷ []) false past one_read.f (last_turn (list_turn (level room)) line_read) refl one_read.at one_read.texts

@@ -15,7 +15,7 @@ use Rattle.shgrammar.specs.Form.{Form, Step, leads_on, again, done, many}
 use Rattle.shgrammar.specs.Levels.{level}
 use Rattle.shast.specs.Normal.{first_not_broken}
 use Rattle.shgrammar.specs.Compounds.{word_turn}
-use Rattle.shgrammar.specs.Commands.{a_command, begins_simple, is_empty, Items, after_word, begins_redirect, after_redirect, redirect_turn, so_many, breaks, as_item, an_item, item_turn, a_simple, is_word, is_paren, a_word_command}
+use Rattle.shgrammar.specs.Commands.{a_command, begins_simple, is_empty, ItemsSoFar, after_word, begins_redirect, after_redirect, redirect_turn, items_so_far, breaks, as_item, an_item, item_turn, a_simple, is_word, is_paren, a_word_command}
 use Rattle.shgrammar.proofs.MovedTrees.{pushed_some}
 use Rattle.shgrammar.proofs.Places.{blanks_low}
 use Rattle.shgrammar.proofs.Anywhere.{WordOf}
@@ -69,13 +69,13 @@ module _ {edition : Edition} {B T : List ℕ} {o : ℕ} (S : StandsIn edition B 
   -- ---- one item
 
   -- the turn that reads one more item of a kind
-  abbrev turn_of : Kind → Items → Form (Step Items)
+  abbrev turn_of : Kind → ItemsSoFar → Form (Step ItemsSoFar)
   turn_of of_command = item_turn (level room)
   turn_of of_for = word_turn (level room)
   turn_of of_compound = redirect_turn (level room)
 
   -- whether that item is broken
-  abbrev broken_by : Kind → Items → Bool
+  abbrev broken_by : Kind → ItemsSoFar → Bool
   broken_by of_command i = breaks i
   broken_by of_for i = breaks i
   broken_by of_compound i = i.next.broken
@@ -94,10 +94,10 @@ module _ {edition : Edition} {B T : List ℕ} {o : ℕ} (S : StandsIn edition B 
     pub «end» : ℕ
     pub later : Held
     pub at : At S later «end» rest
-    pub reads : Gives (g S) (turn_of kind (so_many acc position n)) (state h p)
-        (again (so_many (acc ++ it ∷ []) next (asked S next «end»))) (state later (past_blanks T «end»))
+    pub reads : Gives (g S) (turn_of kind (items_so_far acc position n)) (state h p)
+        (again (items_so_far (acc ++ it ∷ []) next (asked S next «end»))) (state later (past_blanks T «end»))
     pub on : leads_on (g S) (state h p) (state later (past_blanks T «end»)) ≡ true
-    pub is : shape_of_item B it ≡ open_item [] (with_broken (broken_by kind (so_many acc position n)) i)
+    pub is : shape_of_item B it ≡ open_item [] (with_broken (broken_by kind (items_so_far acc position n)) i)
     pub texts : Adds S h later (item_bodies i)
 
   -- the shape of an item that is a word
@@ -126,8 +126,8 @@ module _ {edition : Edition} {B T : List ℕ} {o : ℕ} (S : StandsIn edition B 
   -- a word as an item
   word_item : (h : Held) (next : Position) (w : Text) (ss : Shape SubstsOf) (acc : Row AnItem) (place : Position)
       (n : Next) (p : ℕ) (v : WordOf room (g S) p (length w) B (word w ss))
-      → Gives (g S) (an_item (level room) (so_many acc place n) next) (state h p)
-      (again (so_many (acc ++ item (breaks (so_many acc place n)) (as_item next v.0) ∷ []) next
+      → Gives (g S) (an_item (level room) (items_so_far acc place n) next) (state h p)
+      (again (items_so_far (acc ++ item (breaks (items_so_far acc place n)) (as_item next v.0) ∷ []) next
       (asked S next (p + length w)))) (state h (past_blanks T (p + length w)))
   unfolding an_item
   word_item h next w ss acc place n p v =
@@ -198,21 +198,21 @@ module _ {edition : Edition} {B T : List ℕ} {o : ℕ} (S : StandsIn edition B 
       let v = found.word B (sym S.here) in
       let is_here : n.token ≡ token = token_is ∙ tell_word S (item_is_word token (ap is_some some)) found.token_is in
       record {
-        it = item (breaks (so_many acc position n)) (as_item next v.0);
+        it = item (breaks (items_so_far acc position n)) (as_item next v.0);
         «end» = p + length w;
         later = h;
         at = at_text S h p w rest at_p;
         reads = rw (is_here, some) (word_item h next w ss acc position n p v);
         on = word_on h w p rest good.some at_p;
         is = item_shape next _ v.0 (word w ss) v.1.1
-            ∙ ap (λ i. open_item [] i) (broken_item (breaks (so_many acc position n)) b next (word w ss));
+            ∙ ap (λ i. open_item [] i) (broken_item (breaks (items_so_far acc position n)) b next (word w ss));
         texts = word_adds h b next (word w ss);
       }
   item_read h y (of_argument {broken = b} {t = w} {ss = ss} good) acc n p rest token_is follow at =
       let found = good.there (g S) p (lay h rest) (at ∙ laid_text h w rest) (follow (held_bytes h.waiting)) in
       let v = found.word B (sym S.here) in
       record {
-        it = item (breaks (so_many acc Suffix n)) (as_item Suffix v.0);
+        it = item (breaks (items_so_far acc Suffix n)) (as_item Suffix v.0);
         «end» = p + length w;
         later = h;
         at = at_text S h p w rest at;
@@ -224,7 +224,8 @@ module _ {edition : Edition} {B T : List ℕ} {o : ℕ} (S : StandsIn edition B 
   item_read h y (of_redirect {position = position} {broken = b} {number = number} {o = k} {t = t} {ss = ss}
       {h = doc} good) acc n p rest token_is follow at =
       let there = redirect_there S room y number k t ss doc good rest follow h position b p at in
-      let r = redirect_read S room y number k t ss doc good rest follow h position (breaks (so_many acc position n)) b
+      let r = redirect_read S room y number k t ss doc good rest follow h position
+      (breaks (items_so_far acc position n)) b
       acc (after_redirect position) n p token_is at in
       let none : after_word n.token ≡ None = ap after_word token_is ∙ there.no_word in
       let begins : begins_redirect n.token ≡ true = ap begins_redirect token_is ∙ there.redirect in
@@ -268,8 +269,8 @@ module _ {edition : Edition} {B T : List ℕ} {o : ℕ} (S : StandsIn edition B 
     pub «end» : ℕ
     pub later : Held
     pub at : At S later «end» rest
-    pub reads : Gives (g S) (many (turn_of kind) (so_many acc position n)) (state h p)
-        (so_many (acc ++ more_items_read) last (asked S Command «end»)) (state later (past_blanks T «end»))
+    pub reads : Gives (g S) (many (turn_of kind) (items_so_far acc position n)) (state h p)
+        (items_so_far (acc ++ more_items_read) last (asked S Command «end»)) (state later (past_blanks T «end»))
     pub shape : Shapes more_items_read ≡ open_items [] is
     pub texts : Adds S h later (items_bodies is)
 
@@ -277,7 +278,7 @@ module _ {edition : Edition} {B T : List ℕ} {o : ℕ} (S : StandsIn edition B 
   items_on : (h : Held) {kind : Kind} {acc : Row AnItem} {position : Position} {n : Next} {p : ℕ}
       {next last : Position} {i : Shape AnItemOf} {is : Shape ItemsOf} {ms rest : Marks}
       (one : ItemRead h kind acc position n p next i ms)
-      → broken_by kind (so_many acc position n) ≡ is_broken_item i →
+      → broken_by kind (items_so_far acc position n) ≡ is_broken_item i →
       ItemsRead one.later kind (acc ++ one.it ∷ []) next (asked S next one.«end»)
       (past_blanks T one.«end») last is rest
       → ItemsRead h kind acc position n p last (more_items i is) rest
@@ -288,8 +289,8 @@ module _ {edition : Edition} {B T : List ℕ} {o : ℕ} (S : StandsIn edition B 
         «end» = others.«end»;
         later = others.later;
         at = others.at;
-        reads = subst (λ is. Gives (g S) (many (turn_of kind) (so_many acc position n)) (state h p)
-            (so_many is last (asked S Command others.«end»)) (state others.later (past_blanks T others.«end»)))
+        reads = subst (λ is. Gives (g S) (many (turn_of kind) (items_so_far acc position n)) (state h p)
+            (items_so_far is last (asked S Command others.«end»)) (state others.later (past_blanks T others.«end»)))
             (append_assoc acc (one.it ∷ []) others.more_items_read)
             (one_turn (turn_of kind) one.reads one.on others.reads);
         shape = ap2 (one.is ∙ ap (λ b. open_item [] (with_broken b i)) same
@@ -304,7 +305,8 @@ module _ {edition : Edition} {B T : List ℕ} {o : ℕ} (S : StandsIn edition B 
   -- no more item
   item_stops : (h : Held) (kind : Kind) (acc : Row AnItem) (position : Position) (n : Next) (p : ℕ) →
       begins_simple n.token ≡ false →
-      Gives (g S) (turn_of kind (so_many acc position n)) (state h p) (done (so_many acc position n)) (state h p)
+      Gives (g S) (turn_of kind (items_so_far acc position n)) (state h p) (done (items_so_far acc position n))
+      (state h p)
   unfolding item_turn word_turn redirect_turn
   item_stops h of_command acc position n p none = let no = no_item_token n.token none in
       rw (no.after, no.redirect) given_here
@@ -363,14 +365,14 @@ module _ {edition : Edition} {B T : List ℕ} {o : ℕ} (S : StandsIn edition B 
 
   -- an item is broken as its token is, where a first one is not
   breaks_by : (acc : Row AnItem) (position : Position) (n : Next) (b : Bool) → (is_empty acc ≡ true → not b ≡ true) →
-      n.broken ≡ b → breaks (so_many acc position n) ≡ b
+      n.broken ≡ b → breaks (items_so_far acc position n) ≡ b
   breaks_by [] position n b none is = sym (not_true b (none refl))
   breaks_by (i ∷ is) position n b none same = same
 
   -- a printed item is broken as the shape has it
   broken_is : (kind : Kind) (acc : Row AnItem) (position : Position) (n : Next) (i : Shape AnItemOf)
       (is : Shape ItemsOf) → Unbroken kind acc (more_items i is) → n.broken ≡ is_broken_item i
-      → broken_by kind (so_many acc position n) ≡ is_broken_item i
+      → broken_by kind (items_so_far acc position n) ≡ is_broken_item i
   broken_is of_command acc position n (item b what) is first same = breaks_by acc position n b first same
   broken_is of_for acc position n (item b what) is first same = breaks_by acc position n b first same
   broken_is of_compound acc position n (item b what) is first same = same
@@ -437,7 +439,7 @@ module _ {edition : Edition} {B T : List ℕ} {o : ℕ} (S : StandsIn edition B 
 
     -- its first item is not broken
     first_unbroken : (n : Next) (i : Shape AnItemOf) (is : Shape ItemsOf) → first_not_broken (more_items i is) ≡ true
-        → broken_by of_command (so_many [] Command n) ≡ is_broken_item i
+        → broken_by of_command (items_so_far [] Command n) ≡ is_broken_item i
     first_unbroken n (item b what) is first = sym (not_true b first)
 
     -- all items of a simple command, and the token after them
@@ -456,7 +458,7 @@ module _ {edition : Edition} {B T : List ℕ} {o : ℕ} (S : StandsIn edition B 
     -- a simple command
     pub simple_read : (h : Held) (is : Shape ItemsOf) (n : Next) (p : ℕ) → GoodSimple edition room is →
         first_not_broken is ≡ true → n.token ≡ told S Command p → At S h p (print_simple y m is ++ rest)
-        → Got S h (a_simple (level room) (so_many [] Command n)) p rest (command_bodies (simple is))
+        → Got S h (a_simple (level room) (items_so_far [] Command n)) p rest (command_bodies (simple is))
         (λ c. shape_of_command B c ≡ open_command [] (simple is))
     unfolding a_simple open_command command_bodies
     simple_read h is n p good first token_is at =

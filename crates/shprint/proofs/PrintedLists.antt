@@ -20,7 +20,7 @@ use Rattle.shgrammar.specs.Tokens.{token_in, token_of, token_at}
 use Rattle.shgrammar.specs.Form.{give, leads_on, again, done, many, step_if}
 use Rattle.shgrammar.specs.Levels.{level}
 use Rattle.shast.specs.Normal.{is_whole, is_command, holds_command, is_normal_entry, first_not_blank, are_normal, is_normal_and_or}
-use Rattle.shgrammar.specs.Lists.{Listed, list_so, none_listed, one_entry, entry_turn, a_remark, on_line, list_turn, a_list}
+use Rattle.shgrammar.specs.Lists.{Listed, list_so_far, none_listed, one_entry, entry_turn, a_remark, on_line, list_turn, a_list}
 use Rattle.shgrammar.specs.Commands.{Entered, an_entry, a_separator, separator_of, told_separator, is_background, begins_pipeline, and_or_operator_of, is_pipe, a_comment, begins_simple, is_newline_token, is_empty, ASeparator, past_separator}
 use Rattle.shgrammar.proofs.MovedTrees.{pushed_some}
 use Rattle.shgrammar.proofs.Places.{blanks_low}
@@ -292,7 +292,7 @@ module _ {edition : Edition} {B T : List ℕ} {o : ℕ} (S : StandsIn edition B 
 
   -- where none stands no comment is read
   pub no_remark : (h : Held) (l : Listed) (n : Next) (p : ℕ) → raw_stands T p number_sign ≡ false →
-      Gives (g S) (a_remark (list_so l n)) (state h p) (list_so l n) (state h p)
+      Gives (g S) (a_remark (list_so_far l n)) (state h p) (list_so_far l n) (state h p)
   unfolding a_remark
   no_remark h l n p e = no_comment_read S h n p e ⟫ given_here
 
@@ -408,14 +408,14 @@ module _ {edition : Edition} {B T : List ℕ} {o : ℕ} {S : StandsIn edition B 
 
   -- no entry begins here
   pub no_entry_turn : (h : Held) (l : Listed) (n : Next) (p : ℕ) → begins_pipeline n.token ≡ false →
-      Gives (g S) (entry_turn (level room) (list_so l n)) (state h p) (done (list_so l n)) (state h p)
+      Gives (g S) (entry_turn (level room) (list_so_far l n)) (state h p) (done (list_so_far l n)) (state h p)
   unfolding entry_turn
   no_entry_turn h l n p e = second_of _ _ e given_here
 
   -- a line without entries, up to what ends it
   pub nothing_on_line : (h : Held) (l : Listed) (n : Next) (p : ℕ) → begins_pipeline n.token ≡ false →
       raw_stands T p number_sign ≡ false →
-      Gives (g S) (on_line (level room) (list_so l n)) (state h p) (list_so l n) (state h p)
+      Gives (g S) (on_line (level room) (list_so_far l n)) (state h p) (list_so_far l n) (state h p)
   unfolding on_line
   nothing_on_line h l n p e f = last_turn (entry_turn (level room)) (no_entry_turn h l n p e) ⟫ no_remark S h l n p f
 
@@ -427,8 +427,8 @@ module _ {edition : Edition} {B T : List ℕ} {o : ℕ} {S : StandsIn edition B 
     pub parted : Option ℕ
     pub later : Held
     pub at : At S later «end» (line_end ∷ rest)
-    pub reads : Gives (g S) (on_line (level room) (list_so (at_line_start acc blank commands before) n)) (state h p)
-        (list_so (on_this_line (acc ++ value ∷ []) blank (commands || is_a_command) parted) (asked S Command «end»))
+    pub reads : Gives (g S) (on_line (level room) (list_so_far (at_line_start acc blank commands before) n)) (state h p)
+        (list_so_far (on_this_line (acc ++ value ∷ []) blank (commands || is_a_command) parted) (asked S Command «end»))
         (state later (past_blanks T «end»))
     pub shape : shape_of_entry B value ≡ open_entry [] e
     pub texts : Adds S h later (entry_bodies e)
@@ -438,26 +438,27 @@ module _ {edition : Edition} {B T : List ℕ} {o : ℕ} {S : StandsIn edition B 
       (a : Shape AnAndOrOf) (background : Bool) (comment : Option Text) (rest : Marks)
       → begins_pipeline n.token ≡ true → p < length T →
       (r : EntryRead h (blank && true) n p a background comment rest) → p < past_blanks T r.«end»
-      → Gives (g S) (many (entry_turn (level room)) (list_so (at_line_start acc blank commands before) n)) (state h p)
-      (list_so (on_this_line (acc ++ r.value ∷ []) blank true r.parted) (asked S Command r.«end»))
+      → Gives (g S) (many (entry_turn (level room)) (list_so_far (at_line_start acc blank commands before) n))
+      (state h p)
+      (list_so_far (on_this_line (acc ++ r.value ∷ []) blank true r.parted) (asked S Command r.«end»))
       (state r.later (past_blanks T r.«end»))
   unfolding entry_turn one_entry
   one_entry_by h acc blank commands before n p a true comment rest begins within r on =
       let line = line_end_here S r.later r.«end» rest r.at in
-      let more = list_so (on_this_line (acc ++ r.value ∷ []) blank true r.parted) (asked S Command r.«end») in
+      let more = list_so_far (on_this_line (acc ++ r.value ∷ []) blank true r.parted) (asked S Command r.«end») in
       let turned = first_of _ _ begins (r.reads ⟫ pushed_here acc r.value ⟫ given_here) in
       let read_one = subst (λ b. Gives (g S)
-      (entry_turn (level room) (list_so (at_line_start acc blank commands before) n))
+      (entry_turn (level room) (list_so_far (at_line_start acc blank commands before) n))
       (state h p) (step_if b more) (state r.later (past_blanks T r.«end»))) r.parted_is turned in
       one_turn (entry_turn (level room)) read_one (leads S h r.later p (past_blanks T r.«end») on within)
       (last_turn (entry_turn (level room))
       (no_entry_turn r.later (on_this_line (acc ++ r.value ∷ []) blank true r.parted) (asked S Command r.«end»)
       (past_blanks T r.«end») (ap (λ (n : Next). begins_pipeline n.token) line.n_is)))
   one_entry_by h acc blank commands before n p a false comment rest begins within r on =
-      let more = list_so (on_this_line (acc ++ r.value ∷ []) blank true r.parted) (asked S Command r.«end») in
+      let more = list_so_far (on_this_line (acc ++ r.value ∷ []) blank true r.parted) (asked S Command r.«end») in
       let turned = first_of _ _ begins (r.reads ⟫ pushed_here acc r.value ⟫ given_here) in
       last_turn (entry_turn (level room))
-      (subst (λ b. Gives (g S) (entry_turn (level room) (list_so (at_line_start acc blank commands before) n))
+      (subst (λ b. Gives (g S) (entry_turn (level room) (list_so_far (at_line_start acc blank commands before) n))
       (state h p)
       (step_if b more) (state r.later (past_blanks T r.«end»))) r.parted_is turned)
 
@@ -488,8 +489,8 @@ module _ {edition : Edition} {B T : List ℕ} {o : ℕ} {S : StandsIn edition B 
         parted = r.parted;
         later = r.later;
         at = r.at;
-        reads = subst (λ c. Gives (g S) (on_line (level room) (list_so (at_line_start acc blank commands before) n))
-            (state h p) (list_so (on_this_line (acc ++ r.value ∷ []) blank c r.parted) (asked S Command r.«end»))
+        reads = subst (λ c. Gives (g S) (on_line (level room) (list_so_far (at_line_start acc blank commands before) n))
+            (state h p) (list_so_far (on_this_line (acc ++ r.value ∷ []) blank c r.parted) (asked S Command r.«end»))
             (state r.later (past_blanks T r.«end»)))
             (sym (or-true commands)) (turns ⟫ no_remark S r.later
             (on_this_line (acc ++ r.value ∷ []) blank true r.parted) (asked S Command r.«end»)
@@ -525,8 +526,8 @@ module _ {edition : Edition} {B T : List ℕ} {o : ℕ} {S : StandsIn edition B 
         parted = before;
         later = h;
         at = at_text S h p c (line_end ∷ rest) at;
-        reads = subst (λ k. Gives (g S) (on_line (level room) (list_so (at_line_start acc blank commands before) n))
-            (state h p) (list_so (on_this_line (acc ++ v ∷ []) blank k before) (asked S Command e))
+        reads = subst (λ k. Gives (g S) (on_line (level room) (list_so_far (at_line_start acc blank commands before) n))
+            (state h p) (list_so_far (on_this_line (acc ++ v ∷ []) blank k before) (asked S Command e))
             (state h (past_blanks T e)))
             (sym (or-false commands))
             (last_turn (entry_turn (level room))
@@ -583,8 +584,8 @@ module _ {edition : Edition} {B T : List ℕ} {o : ℕ} {S : StandsIn edition B 
     parted : Option ℕ
     later : Held
     at : At S later f rest
-    reads : Gives (g S) (list_turn (level room) (list_so (at_line_start acc blank commands before) n)) (state h p)
-        (again (list_so (at_line_start (acc ++ value ∷ []) false (commands || is_command x) parted)
+    reads : Gives (g S) (list_turn (level room) (list_so_far (at_line_start acc blank commands before) n)) (state h p)
+        (again (list_so_far (at_line_start (acc ++ value ∷ []) false (commands || is_command x) parted)
         (asked S Command f))) (state later (past_blanks T f))
     on : leads_on (g S) (state h p) (state later (past_blanks T f)) ≡ true
     shape : shape_of_entry B value ≡ open_entry [] x
@@ -598,7 +599,8 @@ module _ {edition : Edition} {B T : List ℕ} {o : ℕ} {S : StandsIn edition B 
   line_by h acc blank commands before n p x rest r =
       let line = line_end_here S r.later r.«end» rest r.at in
       let q = past_blanks T r.«end» in
-      let low = gives_on (on_line (level room) (list_so (at_line_start acc blank commands before) n)) _ _ _ r.reads in
+      let low = gives_on (on_line (level room) (list_so_far (at_line_start acc blank commands before) n)) _ _ _
+      r.reads in
       let within = some_here S q newline_char (after_line r.later rest) (line.at_q ∙ laid_line r.later rest) in
       let z = newline_read S r.later (asked S Command r.«end») q rest
       (ap (λ (n : Next). is_newline_token n.token) line.n_is) line.at_q in
@@ -622,9 +624,9 @@ module _ {edition : Edition} {B T : List ℕ} {o : ℕ} {S : StandsIn edition B 
     pub q : ℕ
     pub at : At S later q rest
     pub reads : Gives (g S) (list_turn (level room)
-        (list_so (at_line_start acc blank commands before) (asked S Command e)))
+        (list_so_far (at_line_start acc blank commands before) (asked S Command e)))
         (state h (past_blanks T e))
-        (again (list_so (at_line_start acc (not (is_empty acc)) commands before) (asked S Command q)))
+        (again (list_so_far (at_line_start acc (not (is_empty acc)) commands before) (asked S Command q)))
         (state later (past_blanks T q))
     pub on : leads_on (g S) (state h (past_blanks T e)) (state later (past_blanks T q)) ≡ true
     pub texts : Adds S h later no_more
@@ -658,18 +660,18 @@ module _ {edition : Edition} {B T : List ℕ} {o : ℕ} {S : StandsIn edition B 
     pub parted : Option ℕ
     pub later : Held
     pub at : At S later «end» rest
-    pub reads : Gives (g S) (many (list_turn (level room)) (list_so (at_line_start acc false commands before) n))
+    pub reads : Gives (g S) (many (list_turn (level room)) (list_so_far (at_line_start acc false commands before) n))
         (state h p)
-        (list_so (at_line_start (acc ++ value) blank (commands || holds_command es) parted) (asked S Command «end»))
+        (list_so_far (at_line_start (acc ++ value) blank (commands || holds_command es) parted) (asked S Command «end»))
         (state later (past_blanks T «end»))
     pub shape : shape_of B (entries_of value) ≡ opened [] es
     pub texts : Adds S h later (entries_bodies es)
 
   -- a list ends where what closes it stands
   pub list_ends : (h : Held) (acc : Row AnEntry) (blank commands : Bool) (before : Option ℕ) (e : ℕ) → Closes S e
-      → Gives (g S) (list_turn (level room) (list_so (at_line_start acc blank commands before) (asked S Command e)))
+      → Gives (g S) (list_turn (level room) (list_so_far (at_line_start acc blank commands before) (asked S Command e)))
       (state h (past_blanks T e))
-      (done (list_so (at_line_start acc (not (is_empty acc)) commands before) (asked S Command e)))
+      (done (list_so_far (at_line_start acc (not (is_empty acc)) commands before) (asked S Command e)))
       (state h (past_blanks T e))
   unfolding list_turn
   list_ends h acc blank commands before e c =
@@ -687,8 +689,8 @@ module _ {edition : Edition} {B T : List ℕ} {o : ℕ} {S : StandsIn edition B 
     later : Held
     at : At S later «end» rest
     reads : Gives (g S) (many (list_turn (level room))
-        (list_so (at_line_start acc first_blank commands before) (asked S Command e))) (state h (past_blanks T e))
-        (list_so (at_line_start (acc ++ value) blank (commands || holds_command es) parted) (asked S Command «end»))
+        (list_so_far (at_line_start acc first_blank commands before) (asked S Command e))) (state h (past_blanks T e))
+        (list_so_far (at_line_start (acc ++ value) blank (commands || holds_command es) parted) (asked S Command «end»))
         (state later (past_blanks T «end»))
     shape : shape_of B (entries_of value) ≡ opened [] es
     texts : Adds S h later (entries_bodies es)
@@ -697,23 +699,23 @@ module _ {edition : Edition} {B T : List ℕ} {o : ℕ} {S : StandsIn edition B 
   list_turned : (h k later : Held) (acc : Row AnEntry) (b commands : Bool) (before between last : Option ℕ)
       (n : Next) (p : ℕ) (v : AnEntry) (c : Bool) (next : Next) (r : ℕ) (vs : Row AnEntry) (blank d : Bool)
       (z : Next) (f : ℕ)
-      → Gives (g S) (list_turn (level room) (list_so (at_line_start acc b commands before) n)) (state h p)
-      (again (list_so (at_line_start (acc ++ v ∷ []) false (commands || c) between) next)) (state k r) →
+      → Gives (g S) (list_turn (level room) (list_so_far (at_line_start acc b commands before) n)) (state h p)
+      (again (list_so_far (at_line_start (acc ++ v ∷ []) false (commands || c) between) next)) (state k r) →
       leads_on (g S) (state h p) (state k r) ≡ true
       → Gives (g S) (many (list_turn (level room))
-      (list_so (at_line_start (acc ++ v ∷ []) false (commands || c) between) next)) (state k r)
-      (list_so (at_line_start ((acc ++ v ∷ []) ++ vs) blank ((commands || c) || d) last) z) (state later f)
-      → Gives (g S) (many (list_turn (level room)) (list_so (at_line_start acc b commands before) n)) (state h p)
-      (list_so (at_line_start (acc ++ (v ∷ vs)) blank (commands || (c || d)) last) z) (state later f)
+      (list_so_far (at_line_start (acc ++ v ∷ []) false (commands || c) between) next)) (state k r)
+      (list_so_far (at_line_start ((acc ++ v ∷ []) ++ vs) blank ((commands || c) || d) last) z) (state later f)
+      → Gives (g S) (many (list_turn (level room)) (list_so_far (at_line_start acc b commands before) n)) (state h p)
+      (list_so_far (at_line_start (acc ++ (v ∷ vs)) blank (commands || (c || d)) last) z) (state later f)
   list_turned h k later acc b commands before between last n p v c next r vs blank d z f one on rest =
       let all = one_turn (list_turn (level room)) one on rest in
       let entries_are = subst (λ es. Gives (g S)
-      (many (list_turn (level room)) (list_so (at_line_start acc b commands before) n)) (state h p)
-      (list_so (at_line_start es blank ((commands || c) || d) last) z) (state later f))
+      (many (list_turn (level room)) (list_so_far (at_line_start acc b commands before) n)) (state h p)
+      (list_so_far (at_line_start es blank ((commands || c) || d) last) z) (state later f))
       (append_assoc acc (v ∷ []) vs) all in
-      subst (λ q. Gives (g S) (many (list_turn (level room)) (list_so (at_line_start acc b commands before) n))
+      subst (λ q. Gives (g S) (many (list_turn (level room)) (list_so_far (at_line_start acc b commands before) n))
       (state h p)
-      (list_so (at_line_start (acc ++ (v ∷ vs)) blank q last) z) (state later f))
+      (list_so_far (at_line_start (acc ++ (v ∷ vs)) blank q last) z) (state later f))
       (or_assoc commands c d) entries_are
 
   -- the shape of entries by that of the first and those of the others
@@ -795,13 +797,13 @@ module _ {edition : Edition} {B T : List ℕ} {o : ℕ} {S : StandsIn edition B 
         later = h;
         at = at;
         reads = subst (λ k. Gives (g S)
-            (many (list_turn (level room)) (list_so (at_line_start acc false commands before) (asked S Command e)))
+            (many (list_turn (level room)) (list_so_far (at_line_start acc false commands before) (asked S Command e)))
             (state h (past_blanks T e))
-            (list_so (at_line_start (acc ++ []) (not (is_empty acc)) k before) (asked S Command e))
+            (list_so_far (at_line_start (acc ++ []) (not (is_empty acc)) k before) (asked S Command e))
             (state h (past_blanks T e))) (sym (or-false commands))
             (subst (λ es. Gives (g S) (many (list_turn (level room))
-            (list_so (at_line_start acc false commands before) (asked S Command e))) (state h (past_blanks T e))
-            (list_so (at_line_start es (not (is_empty acc)) commands before) (asked S Command e))
+            (list_so_far (at_line_start acc false commands before) (asked S Command e))) (state h (past_blanks T e))
+            (list_so_far (at_line_start es (not (is_empty acc)) commands before) (asked S Command e))
             (state h (past_blanks T e))) (sym (append-nil acc))
             (last_turn (list_turn (level room)) (list_ends h acc false commands before e c)));
         shape = refl;
@@ -838,9 +840,9 @@ module _ {edition : Edition} {B T : List ℕ} {o : ℕ} {S : StandsIn edition B 
       line.at in
       let flag : not (is_empty acc) ≡ true = ap not filled in
       let one_line = subst (λ b. Gives (g S)
-      (list_turn (level room) (list_so (at_line_start acc false commands before) (asked S Command e)))
+      (list_turn (level room) (list_so_far (at_line_start acc false commands before) (asked S Command e)))
       (state h (past_blanks T e))
-      (again (list_so (at_line_start acc b commands before) (asked S Command line.q)))
+      (again (list_so_far (at_line_start acc b commands before) (asked S Command line.q)))
       (state line.later (past_blanks T line.q))) flag line.reads in
       record {
         value = others.value;
@@ -860,8 +862,8 @@ module _ {edition : Edition} {B T : List ℕ} {o : ℕ} {S : StandsIn edition B 
   -- a list, by what is read of its lines
   pub list_of : (h later : Held) (es : Shape EntriesOf) (n : Next) (p : ℕ) (rest : Marks) (acc : Row AnEntry)
       (blank : Bool) (parted : Option ℕ) (e : ℕ)
-      → Gives (g S) (many (list_turn (level room)) (list_so (none_listed false) n)) (state h p)
-      (list_so (at_line_start acc blank (holds_command es) parted) (asked S Command e))
+      → Gives (g S) (many (list_turn (level room)) (list_so_far (none_listed false) n)) (state h p)
+      (list_so_far (at_line_start acc blank (holds_command es) parted) (asked S Command e))
       (state later (past_blanks T e))
       → holds_command es ≡ true → At S later e rest → Adds S h later (entries_bodies es) →
       shape_of B (entries_of acc) ≡ opened [] es

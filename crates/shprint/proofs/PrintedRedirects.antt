@@ -16,7 +16,7 @@ use Rattle.shgrammar.specs.Form.{raw, with_bytes, with_its_bytes, Form, ◌>>◌
 use Rattle.shgrammar.specs.Words.{a_word}
 use Rattle.shgrammar.specs.Levels.{level}
 use Rattle.shast.specs.Nodes.{word_span}
-use Rattle.shgrammar.specs.Commands.{a_document, open_document, is_strip, pick, after_word, begins_redirect, is_number_token, redirect_operator_of, is_long, a_number, an_operator, operator_by, a_target, one_redirect, so_many, is_word}
+use Rattle.shgrammar.specs.Commands.{a_document, open_document, is_strip, pick, after_word, begins_redirect, is_number_token, redirect_operator_of, is_long, a_number, an_operator, operator_by, a_target, one_redirect, items_so_far, is_word}
 use Rattle.shgrammar.proofs.Places.{blanks_low}
 use Rattle.shgrammar.specs.HereDocuments.{delimiter_of}
 use Rattle.shast.specs.Opened.{here_bodies, item_bodies, item_content_bodies, open_here, open_item, open_item_content}
@@ -300,7 +300,7 @@ module _ {edition : Edition} {B T : List ℕ} {o : ℕ} (S : StandsIn edition B 
     pub later : Held
     pub at : At S later «end» rest
     pub reads : Gives (g S) (one_redirect (level room) broken next acc n) (state h p)
-        (again (so_many (acc ++ it ∷ []) next (asked S next «end»))) (state later (past_blanks T «end»))
+        (again (items_so_far (acc ++ it ∷ []) next (asked S next «end»))) (state later (past_blanks T «end»))
     pub on : leads_on (g S) (state h p) (state later (past_blanks T «end»)) ≡ true
     pub is : shape_of_item B it ≡ open_item [] i
     pub texts : Adds S h later (item_bodies i)

@@ -19,7 +19,7 @@ use Rattle.shgrammar.specs.Sights.{the_reserved}
 use Rattle.shgrammar.specs.Form.{Spelled, Form, by, move}
 use Rattle.shgrammar.specs.Levels.{level}
 use Rattle.shgrammar.specs.Compounds.{a_linebreak, Closed, reserved_or_paren, closing, closing_text, is_closing, is_close_paren}
-use Rattle.shgrammar.specs.Commands.{a_semicolon, is_semicolon, begins_pipeline, join_turn, join_so, a_join_of, is_newline_token}
+use Rattle.shgrammar.specs.Commands.{a_semicolon, is_semicolon, begins_pipeline, join_turn, join_so_far, a_join_of, is_newline_token}
 use Rattle.shgrammar.proofs.Elsewhere.{follows}
 use Rattle.shast.specs.declared.tree.Span.{Span}
 use Rattle.shast.specs.Shape.{Text}
@@ -204,7 +204,7 @@ module _ {edition : Edition} {B T : List ℕ} {o : ℕ} (S : StandsIn edition B 
 
   -- no comment, and no newline
   pub no_lines : (h : Held) (n : Next) (p : ℕ) → raw_stands T p number_sign ≡ false → is_newline_token n.token ≡ false →
-      Gives (g S) (a_linebreak [] n) (state h p) (join_so (a_join_of false []) n) (state h p)
+      Gives (g S) (a_linebreak [] n) (state h p) (join_so_far (a_join_of false []) n) (state h p)
   unfolding a_linebreak
   no_lines h n p no_comment no_newline = last_turn join_turn (last_join_turn S h false [] n p no_comment no_newline)
 

@@ -27,7 +27,7 @@ use Rattle.shast.specs.Normal.{is_normal_form, is_normal_entry, is_normal_compou
 use Rattle.shgrammar.specs.Compounds.{a_compound, is_open_paren, position_after, a_linebreak, a_form, opener_text, reserved_or_paren, closing, closing_text, is_closing, under_name, a_function}
 use Rattle.shgrammar.specs.Lines.{a_line, an_open_line, end_of_line}
 use Rattle.shgrammar.specs.Lists.{none_listed}
-use Rattle.shgrammar.specs.Commands.{nothing_waits, begins_pipeline, join_turn, join_so, a_join_of, begins_simple, opener_of, is_newline_token}
+use Rattle.shgrammar.specs.Commands.{nothing_waits, begins_pipeline, join_turn, join_so_far, a_join_of, begins_simple, opener_of, is_newline_token}
 use Rattle.shast.specs.Bodies.{fill_row, filled_row}
 use Rattle.shast.specs.Opened.{items_bodies, entry_bodies, compound_bodies, form_bodies, open_items, open_command, open_compound, open_form}
 use Rattle.shast.specs.declared.tree.Span.{Span}
@@ -355,7 +355,7 @@ module _ {edition : Edition} {B T : List ℕ} {o : ℕ} {S : StandsIn edition B 
     q : ℕ
     later : Held
     reads : Gives (g S) (a_linebreak [] (asked S Command e)) (state h (past_blanks T e))
-        (join_so (a_join_of broken comments) next) (state later q)
+        (join_so_far (a_join_of broken comments) next) (state later q)
     at : At S later q ms
     token_is : next.token ≡ told S Command q
     shape : shape_of_comments B comments ≡ cs

@@ -27,7 +27,7 @@ use Rattle.shgrammar.specs.Levels.{level}
 use Rattle.shgrammar.proofs.Anywhere.{WordOf}
 use Rattle.shgrammar.proofs.WordsWaiting.{word_waiting}
 use Rattle.shast.specs.Normal.{is_normal_join}
-use Rattle.shgrammar.specs.Commands.{begins_pipeline, a_newline, a_comment, join_turn, join_so, a_join_of, a_join, begins_simple, opener_of, is_newline_token, is_bang, next_token, is_paren}
+use Rattle.shgrammar.specs.Commands.{begins_pipeline, a_newline, a_comment, join_turn, join_so_far, a_join_of, a_join, begins_simple, opener_of, is_newline_token, is_bang, next_token, is_paren}
 use Rattle.shgrammar.proofs.Places.{must_fail, blanks_low}
 use Rattle.shgrammar.proofs.Elsewhere.{is_a_word}
 use Rattle.shgrammar.proofs.CommentsElsewhere.{CommentAnywhere}
@@ -402,21 +402,21 @@ module _ {edition : Edition} {B T : List ℕ} {o : ℕ} (S : StandsIn edition B 
   -- the turns of a join: none, a comment and its newline, a newline
   pub last_join_turn : (h : Held) (b : Bool) (acc : Row Span) (n : Next) (p : ℕ) → raw_stands T p number_sign ≡ false →
       is_newline_token n.token ≡ false
-      → Gives (g S) (join_turn (join_so (a_join_of b acc) n)) (state h p) (done (join_so (a_join_of b acc) n))
+      → Gives (g S) (join_turn (join_so_far (a_join_of b acc) n)) (state h p) (done (join_so_far (a_join_of b acc) n))
       (state h p)
   unfolding join_turn
   last_join_turn h b acc n p no_comment no_newline =
       no_comment_read h n p no_comment ⟫ given_here ⟫ no_newline_read h n p no_newline
-      ⟫ subst (λ c. Gives (g S) (give (done (join_so (a_join_of c acc) n))) (state h p)
-      (done (join_so (a_join_of b acc) n)) (state h p)) (sym (or-false (b || false) ∙ or-false b)) given_here
+      ⟫ subst (λ c. Gives (g S) (give (done (join_so_far (a_join_of c acc) n))) (state h p)
+      (done (join_so_far (a_join_of b acc) n)) (state h p)) (sym (or-false (b || false) ∙ or-false b)) given_here
 
   -- a turn that read the end of a line
   pub record TurnRead (h : Held) (b : Bool) (acc all : Row Span) (n : Next) (p : ℕ) (ms : Marks) : Type 0 where
     pub later : Held
     pub q : ℕ
     pub at : At S later q ms
-    pub reads : Gives (g S) (join_turn (join_so (a_join_of b acc) n)) (state h p)
-        (again (join_so (a_join_of true all) (asked Command q))) (state later (past_blanks T q))
+    pub reads : Gives (g S) (join_turn (join_so_far (a_join_of b acc) n)) (state h p)
+        (again (join_so_far (a_join_of true all) (asked Command q))) (state later (past_blanks T q))
     pub on : leads_on (g S) (state h p) (state later (past_blanks T q)) ≡ true
     pub texts : Adds h later no_more
 
@@ -445,8 +445,8 @@ module _ {edition : Edition} {B T : List ℕ} {o : ℕ} (S : StandsIn edition B 
         q = r.q;
         at = r.at;
         reads = comment_read h c n p ms good at ⟫ pushed_here acc s ⟫ r.reads
-            ⟫ subst (λ d. Gives (g S) (give (again (join_so (a_join_of d (acc ++ s ∷ [])) z))) last_state
-            (again (join_so (a_join_of true (acc ++ s ∷ [])) z)) last_state)
+            ⟫ subst (λ d. Gives (g S) (give (again (join_so_far (a_join_of d (acc ++ s ∷ [])) z))) last_state
+            (again (join_so_far (a_join_of true (acc ++ s ∷ [])) z)) last_state)
             (sym (or-true (b || true))) given_here;
         on = leads h r.later p (past_blanks T r.q) (omega (arith, r.on, blanks_low T e, blanks_low T r.q))
             (comment_within h c p (line_end ∷ ms) good at);
@@ -468,8 +468,8 @@ module _ {edition : Edition} {B T : List ℕ} {o : ℕ} (S : StandsIn edition B 
         at = r.at;
         reads = no_comment_read h n p (no_byte p newline_char (after_line h ms) number_sign refl there) ⟫
             given_here ⟫ r.reads
-            ⟫ subst (λ d. Gives (g S) (give (again (join_so (a_join_of d acc) z))) last_state
-            (again (join_so (a_join_of true acc) z)) last_state) (sym (or-true (b || false))) given_here;
+            ⟫ subst (λ d. Gives (g S) (give (again (join_so_far (a_join_of d acc) z))) last_state
+            (again (join_so_far (a_join_of true acc) z)) last_state) (sym (or-true (b || false))) given_here;
         on = leads h r.later p (past_blanks T r.q) (omega (arith, r.on, blanks_low T r.q))
             (some_here p newline_char (after_line h ms) there);
         texts = r.texts;
@@ -484,8 +484,8 @@ module _ {edition : Edition} {B T : List ℕ} {o : ℕ} (S : StandsIn edition B 
     pub q : ℕ
     pub next : Next
     pub later : Held
-    pub reads : Gives (g S) (many join_turn (join_so (a_join_of b acc) n)) (state h p)
-        (join_so (a_join_of true (acc ++ comments)) next) (state later q)
+    pub reads : Gives (g S) (many join_turn (join_so_far (a_join_of b acc) n)) (state h p)
+        (join_so_far (a_join_of true (acc ++ comments)) next) (state later q)
     pub at : At S later q ms
     pub token_is : next.token ≡ told Command q
     pub shape : shape_of_comments B comments ≡ cs
@@ -499,13 +499,13 @@ module _ {edition : Edition} {B T : List ℕ} {o : ℕ} (S : StandsIn edition B 
   -- one comment more in front
   pub joined : (h later : Held) (b : Bool) (n : Next) (p : ℕ) (acc : Row Span) (s : Span) (ss : Row Span) (q : ℕ)
       (next : Next)
-      → Gives (g S) (many join_turn (join_so (a_join_of b acc) n)) (state h p)
-      (join_so (a_join_of true ((acc ++ s ∷ []) ++ ss)) next) (state later q)
-      → Gives (g S) (many join_turn (join_so (a_join_of b acc) n)) (state h p)
-      (join_so (a_join_of true (acc ++ s ∷ ss)) next) (state later q)
+      → Gives (g S) (many join_turn (join_so_far (a_join_of b acc) n)) (state h p)
+      (join_so_far (a_join_of true ((acc ++ s ∷ []) ++ ss)) next) (state later q)
+      → Gives (g S) (many join_turn (join_so_far (a_join_of b acc) n)) (state h p)
+      (join_so_far (a_join_of true (acc ++ s ∷ ss)) next) (state later q)
   joined h later b n p acc s ss q next r =
-      subst (λ all. Gives (g S) (many join_turn (join_so (a_join_of b acc) n)) (state h p)
-      (join_so (a_join_of true all) next) (state later q)) (append_assoc acc (s ∷ []) ss) r
+      subst (λ all. Gives (g S) (many join_turn (join_so_far (a_join_of b acc) n)) (state h p)
+      (join_so_far (a_join_of true all) next) (state later q)) (append_assoc acc (s ∷ []) ss) r
 
   -- after an operator: the join, and where its operand begins
   pub record JoinRead (h : Held) (e : ℕ) (j : AJoinOf Text) (ms : Marks) : Type 0 where
@@ -623,11 +623,11 @@ module _ {edition : Edition} {B T : List ℕ} {o : ℕ} (S : StandsIn edition B 
         let at_q = subst (λ r. At S h r ms) (sym gap.blanks) at_after in
         let it = operand h q at_q in
         let n = asked Command e in
-        let last_one : Gives (g S) (many join_turn (join_so (a_join_of false []) n)) (state h q)
-        (join_so (a_join_of false []) n) (state h q) =
+        let last_one : Gives (g S) (many join_turn (join_so_far (a_join_of false []) n)) (state h q)
+        (join_so_far (a_join_of false []) n) (state h q) =
         last_turn join_turn (last_join_turn h false [] n q it.no_comment it.no_newline) in
-        let turns = subst (λ b. Gives (g S) (many join_turn (join_so (a_join_of b []) n)) (state h q)
-        (join_so (a_join_of false []) n) (state h q)) (sym gap.breaks) last_one in
+        let turns = subst (λ b. Gives (g S) (many join_turn (join_so_far (a_join_of b []) n)) (state h q)
+        (join_so_far (a_join_of false []) n) (state h q)) (sym gap.breaks) last_one in
         record {
           join = a_join_of false [];
           q = q;

@@ -10,7 +10,7 @@ use Rattle.shgrammar.specs.declared.edition.Edition.{Edition}
 use Rattle.shgrammar.specs.Form.{Spelled}
 use Rattle.shgrammar.specs.Commands.{is_empty}
 use Rattle.shgrammar.specs.Levels.{most_open}
-use Rattle.shgrammar.specs.Scripts.{AScript, SoFar, is_blank_line, with_line, Lines, line_ended, last_line, nothing_yet, Outcome}
+use Rattle.shgrammar.specs.Scripts.{AScript, LinesSoFar, is_blank_line, with_line, Lines, line_ended, last_line, nothing_yet, Outcome}
 use Rattle.shgrammar.proofs.MovedTrees.{pushed_some}
 use Rattle.shgrammar.proofs.Scripts.{script_only}
 use Rattle.shgrammar.proofs.NormalForm.{script_in_normal_form}
@@ -26,7 +26,7 @@ use Rattle.shprint.proofs.PrintedRows.{ScriptLine, EntryLine, entry_line, blank_
 
 module _ (edition : Edition) (y : Layout) (B : List ℕ) where
   -- these entries are read from p on, after what was read so far
-  record ScriptRead (so : SoFar) (p : ℕ) (es : Shape EntriesOf) : Type 0 where
+  record ScriptRead (so : LinesSoFar) (p : ℕ) (es : Shape EntriesOf) : Type 0 where
     value : Row AnEntry
     told : Row Spelled
     reads : Lines edition B so p (record { entries = entries_of (so.entries ++ value); fault = None }) told
@@ -45,13 +45,13 @@ module _ (edition : Edition) (y : Layout) (B : List ℕ) where
   at_next p f ms at = sym (drop-drop f p B) ∙ at
 
   -- the last line, which is empty
-  end_read : (so : SoFar) (p : ℕ) → At p [] → ScriptRead so p no_entry
+  end_read : (so : LinesSoFar) (p : ℕ) → At p [] → ScriptRead so p no_entry
   end_read so p at =
       let r = end_line_read (from_here p) y (is_blank_line so) at in
       record { value = []; told = r.reads.passes; reads = last_line [] _ r.reads.passes r.reads.reads; shape = refl }
 
   -- one entry more in front
-  entry_read : (so : SoFar) (p : ℕ) (x : Shape AnEntryOf) (es : Shape EntriesOf) (rest : Marks)
+  entry_read : (so : LinesSoFar) (p : ℕ) (x : Shape AnEntryOf) (es : Shape EntriesOf) (rest : Marks)
       (one : EntryLine (from_here p) (is_blank_line so) x rest)
       → ScriptRead (with_line so (one.value ∷ [])) (p + one.line.f) es → ScriptRead so p (more_entries x es)
   entry_read so p x es rest one others =
@@ -73,12 +73,12 @@ module _ (edition : Edition) (y : Layout) (B : List ℕ) where
   and_false b c e = rw e refl
 
   -- an entry from the beginning of its line on
-  from_margin : (so : SoFar) (p : ℕ) (what : Shape AContentOf) (background blank : Bool) (comment : Option Text)
+  from_margin : (so : LinesSoFar) (p : ℕ) (what : Shape AContentOf) (background blank : Bool) (comment : Option Text)
       (es : Shape EntriesOf) → GoodEntries edition most_open (more_entries (entry what background blank comment) es)
       → are_normal (more_entries (entry what background blank comment) es) ≡ true → is_blank_line so ≡ blank
       → At p (text [] ∷ (print_content y [] what
       ++ entry_rest background comment (print_entries y [] es)))
-      → ((to : SoFar) (q : ℕ) → to.gap ≡ false → is_empty to.entries ≡ false → At q (print_entries y [] es) →
+      → ((to : LinesSoFar) (q : ℕ) → to.gap ≡ false → is_empty to.entries ≡ false → At q (print_entries y [] es) →
       ScriptRead to q es)
       → ScriptRead so p (more_entries (entry what background blank comment) es)
   from_margin so p what background blank comment es good normal blank_is at others =
@@ -104,7 +104,7 @@ module _ (edition : Edition) (y : Layout) (B : List ℕ) where
       ++ entry_rest background comment more))) (append-nil (print_entries y [] es))
 
   -- after an empty line
-  blank_read : (so : SoFar) (p : ℕ) (es : Shape EntriesOf) (rest : Marks)
+  blank_read : (so : LinesSoFar) (p : ℕ) (es : Shape EntriesOf) (rest : Marks)
       (line : ScriptLine (from_here p) (is_blank_line so) [] true rest) →
       ScriptRead (with_line so []) (p + line.f) es → ScriptRead so p es
   blank_read so p es rest line others =
@@ -118,7 +118,8 @@ module _ (edition : Edition) (y : Layout) (B : List ℕ) where
       }
 
   -- all lines of the script are read
-  lines_read : (es : Shape EntriesOf) (so : SoFar) (p : ℕ) → GoodEntries edition most_open es → are_normal es ≡ true →
+  lines_read : (es : Shape EntriesOf) (so : LinesSoFar) (p : ℕ) → GoodEntries edition most_open es →
+      are_normal es ≡ true →
       (is_empty so.entries ≡ true → first_not_blank es ≡ true) → so.gap ≡ false
       → At p (print_entries y [] es) → ScriptRead so p es
   lines_read no_entry so p good normal first gap at = end_read so p at

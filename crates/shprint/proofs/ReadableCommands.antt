@@ -21,7 +21,7 @@ use Rattle.shgrammar.specs.Sights.{Given, the_delimiter}
 use Rattle.shgrammar.specs.HereDocuments.{ADelimiter, delimiter_in}
 use Rattle.shgrammar.specs.Form.{Spelled, Form, see, give, ◌>>=◌, with_bytes, Step, again, done, raw}
 use Rattle.shgrammar.specs.Words.{Inner, a_word}
-use Rattle.shgrammar.specs.Commands.{pick, is_pipe, begins_simple, begins_word, begins_redirect, opener_of, compound_by, and_or_operator_of, Items, so_many, after_word, is_number_token, redirect_operator_of, takes_here, a_number, an_operator, operator_by, a_target, one_redirect, after_redirect, redirect_turn, with_redirect_list, as_item, breaks, an_item, item_by, item_turn, a_simple, a_command, Piped, piped, one_command, pipe_turn, a_pipeline, Joined, joined_so, one_pipeline, joined_by, and_or_turn, an_and_or, an_entry, is_word, is_paren, a_word_command, ASeparator, past_separator, a_document, document_by, open_document, is_long, is_strip}
+use Rattle.shgrammar.specs.Commands.{pick, is_pipe, begins_simple, begins_word, begins_redirect, opener_of, compound_by, and_or_operator_of, ItemsSoFar, items_so_far, after_word, is_number_token, redirect_operator_of, takes_here, a_number, an_operator, operator_by, a_target, one_redirect, after_redirect, redirect_turn, with_redirect_list, as_item, breaks, an_item, item_by, item_turn, a_simple, a_command, PipesSoFar, pipes_so_far, one_command, pipe_turn, a_pipeline, AndOrSoFar, and_or_so_far, one_pipeline, joined_by, and_or_turn, an_and_or, an_entry, is_word, is_paren, a_word_command, ASeparator, past_separator, a_document, document_by, open_document, is_long, is_strip}
 use Rattle.shgrammar.specs.Levels.{level}
 use Rattle.shgrammar.proofs.BodiesAnywhere.{DocumentAnywhere}
 use Rattle.shgrammar.proofs.Spelling.{raw_at}
@@ -97,17 +97,17 @@ module _ (B : List ℕ) (g : Given) (here : g.text ≡ drop g.offset B) where
     -- ---- simple commands
 
     -- the items so far, after the documents C, and the token after them; where it begins none there is one
-    record ItemsSo (C : Row Due) (i : Items) (D : Row Due) (p : ℕ) : Type 0 where
+    record ItemsSo (C : Row Due) (i : ItemsSoFar) (D : Row Due) (p : ℕ) : Type 0 where
       pub good : OpenItems of_command Command C i.items D i.position
       pub stands : Stands g i.position i.next p
       pub begun : begins_simple i.next.token ≡ false → SomeOf g i.items
 
     -- after an item there is one
-    abbrev ItemsOn : Row Due → Items → Row Due → ℕ → Type 0
+    abbrev ItemsOn : Row Due → ItemsSoFar → Row Due → ℕ → Type 0
     ItemsOn C i D p = ItemsSo C i D p × SomeOf g i.items
 
     -- they are a simple command
-    abbrev ItemsDone : Row Due → Items → Row Due → ℕ → Type 0
+    abbrev ItemsDone : Row Due → ItemsSoFar → Row Due → ℕ → Type 0
     ItemsDone C i D p = Opens g fill_items (λ is. GoodSimple g.edition room (shape_of_items B is)) C
         (items_of i.items) D
 
@@ -117,7 +117,7 @@ module _ (B : List ℕ) (g : Given) (here : g.text ≡ drop g.offset B) where
     some_item (i ∷ is) some = tt
 
     -- items of which there is one are a simple command
-    simple_is : (C : Row Due) (i : Items) (D : Row Due) (p : ℕ) → ItemsOn C i D p → ItemsDone C i D p
+    simple_is : (C : Row Due) (i : ItemsSoFar) (D : Row Due) (p : ℕ) → ItemsOn C i D p → ItemsDone C i D p
     simple_is C i D p (so, some) =
         opens_one g (items_of i.items) items_of (items_going i.items)
         (λ is good. record { last = i.position; items = good.0; some = some_item is good.1 })
@@ -191,7 +191,7 @@ module _ (B : List ℕ) (g : Given) (here : g.text ≡ drop g.offset B) where
         (subst (λ (s : Shape AnItemOf). GoodItem g.edition room of_command position s next) (sym shape) one)) good
 
     -- a word as an item
-    reads_item : (C : Row Due) (i : Items) (next : Position) (D : Row Due) (p : ℕ) →
+    reads_item : (C : Row Due) (i : ItemsSoFar) (next : Position) (D : Row Due) (p : ℕ) →
         after_word i.next.token ≡ Some next → ItemsSo C i D p
         → Adds g D (an_item inner i next) (Turns g (ItemsOn C) (ItemsDone C)) p
     unfolding an_item
@@ -351,10 +351,10 @@ module _ (B : List ℕ) (g : Given) (here : g.text ≡ drop g.offset B) where
         shape x = rw is refl
 
     -- whatever holds after a good redirection
-    reads_redirect : (Q : Items → Row Due → ℕ → Type 0) (broken : Bool) (place next : Position) (is : Row AnItem)
+    reads_redirect : (Q : ItemsSoFar → Row Due → ℕ → Type 0) (broken : Bool) (place next : Position) (is : Row AnItem)
         (n : Next) (D : Row Due) (p : ℕ) → Stands g place n p
         → ((i : AnItem) (m : Next) (E : Row Due) (e : ℕ) → OpenRedirect broken D i E → Stands g next m e →
-        Q (so_many (is ++ i ∷ []) next m) E e) → Adds g D (one_redirect inner broken next is n) (Turns g Q Q) p
+        Q (items_so_far (is ++ i ∷ []) next m) E e) → Adds g D (one_redirect inner broken next is n) (Turns g Q Q) p
     unfolding one_redirect
     reads_redirect Q broken place next is n D p so all =
         add_sees g (λ s. refl) (read_first g (reads_number place n p so)
@@ -366,12 +366,12 @@ module _ (B : List ℕ) (g : Given) (here : g.text ≡ drop g.offset B) where
         (redirect_open broken d.0 o.0 o.1 w.0 x w.1 three.0 one three.1 three.2 four) stands))))))))
 
     -- an item by the token in hand: a word, a redirection, or none
-    reads_item_turn : (C : Row Due) (i : Items) (D : Row Due) (p : ℕ) → ItemsSo C i D p →
+    reads_item_turn : (C : Row Due) (i : ItemsSoFar) (D : Row Due) (p : ℕ) → ItemsSo C i D p →
         Adds g D (item_turn inner i) (Turns g (ItemsOn C) (ItemsDone C)) p
     unfolding item_turn
     reads_item_turn C i D p so = by_token (after_word i.next.token) refl
       where
-        on_done : (c : Step Items) (E : Row Due) (e : ℕ) → Turns g (ItemsOn C) (ItemsOn C) c E e →
+        on_done : (c : Step ItemsSoFar) (E : Row Due) (e : ℕ) → Turns g (ItemsOn C) (ItemsOn C) c E e →
             Turns g (ItemsOn C) (ItemsDone C) c E e
         on_done (again j) E e on = on
         on_done (done j) E e on = simple_is C j E e on
@@ -409,7 +409,7 @@ module _ (B : List ℕ) (g : Given) (here : g.text ≡ drop g.offset B) where
     Command_is D c E e = OpenCommand D c.0 E
 
     -- all items of a simple command
-    reads_simple : (C : Row Due) (i : Items) (D : Row Due) (p : ℕ) → ItemsSo C i D p →
+    reads_simple : (C : Row Due) (i : ItemsSoFar) (D : Row Due) (p : ℕ) → ItemsSo C i D p →
         Adds g D (a_simple inner i) (Command_is C) p
     unfolding a_simple fill_command
     reads_simple C i D p so =
@@ -419,7 +419,7 @@ module _ (B : List ℕ) (g : Given) (here : g.text ≡ drop g.offset B) where
 
     -- where the first item begins
     no_items_so : (n : Next) (D : Row Due) (p : ℕ) → begins_simple n.token ≡ true → Stands g Command n p →
-        ItemsSo D (so_many [] Command n) D p
+        ItemsSo D (items_so_far [] Command n) D p
     no_items_so n D p begins so =
         record {
           good = opens_none g fill_item none_more;
@@ -446,7 +446,7 @@ module _ (B : List ℕ) (g : Given) (here : g.text ≡ drop g.offset B) where
 
     module _ (fine : Fine) where
       -- the redirections after a compound command
-      record RedirectsSo (C : Row Due) (r : Items) (D : Row Due) (p : ℕ) : Type 0 where
+      record RedirectsSo (C : Row Due) (r : ItemsSoFar) (D : Row Due) (p : ℕ) : Type 0 where
         pub position : r.position ≡ Command
         pub good : OpenItems of_compound Command C r.items D Command
         pub stands : Stands g Command r.next p
@@ -457,7 +457,7 @@ module _ (B : List ℕ) (g : Given) (here : g.text ≡ drop g.offset B) where
           subst (λ (r : Shape AnItemOf). GoodItem g.edition room of_compound Command r Command) (sym is)
           (of_redirect_after good)
 
-      reads_redirect_turn : (C : Row Due) (r : Items) (D : Row Due) (p : ℕ) → RedirectsSo C r D p →
+      reads_redirect_turn : (C : Row Due) (r : ItemsSoFar) (D : Row Due) (p : ℕ) → RedirectsSo C r D p →
           Adds g D (redirect_turn inner r) (Turns g (RedirectsSo C) (RedirectsSo C)) p
       unfolding redirect_turn
       reads_redirect_turn C r D p so =
@@ -487,7 +487,7 @@ module _ (B : List ℕ) (g : Given) (here : g.text ≡ drop g.offset B) where
       unfolding with_redirect_list
       reads_with_redirect_list C c D p (form, mark, is, under, stands) =
           add_first g (add_repeats g (redirect_turn inner) (RedirectsSo D) (RedirectsSo D) (RedirectsSo D)
-          (reads_redirect_turn D) (λ r E e on. on) (λ r E e on. on) (so_many [] Command c.1) D p
+          (reads_redirect_turn D) (λ r E e on. on) (λ r E e on. on) (items_so_far [] Command c.1) D p
           (record { position = refl; good = opens_none g fill_item none_more; stands = stands }))
           (λ r E e all. add_gives g (
             formed form mark (items_of r.items),
@@ -527,7 +527,7 @@ module _ (B : List ℕ) (g : Given) (here : g.text ≡ drop g.offset B) where
           add_picks g (is_paren m.token)
           (λ paren. add_picks g (is_name_at g.text p)
           (λ name. fine.function (word_span w) D e (named_before n p q w is so read name)) (add_stops g))
-          (add_pushes g (reads_simple D (so_many (item false (argument w) ∷ []) Suffix m) D e
+          (add_pushes g (reads_simple D (items_so_far (item false (argument w) ∷ []) Suffix m) D e
           (record {
             good = one_item Command Command [] false n Suffix p q w word_is
                 (opens_none g fill_item none_more) so read;
@@ -541,13 +541,13 @@ module _ (B : List ℕ) (g : Given) (here : g.text ≡ drop g.offset B) where
       reads_command n D p so =
           add_picks g (is_word n.token) (λ is. reads_word_command n D p (word_token n.token is) so)
           (add_picks g (begins_simple n.token)
-          (λ begins. reads_simple D (so_many [] Command n) D p (no_items_so n D p begins so))
+          (λ begins. reads_simple D (items_so_far [] Command n) D p (no_items_so n D p begins so))
           (so_adds g (reads_compound_by n (opener_of n.token) D p)
           (λ c E e good. compound_good c.0 good.0 good.1 good.2)))
 
       -- ---- pipelines
 
-      abbrev PipesGood : Row Due → Piped → Row Due → ℕ → Type 0
+      abbrev PipesGood : Row Due → PipesSoFar → Row Due → ℕ → Type 0
       PipesGood C x D p = Opens g (fill_all g fill_pipe)
           (λ ps. GoodPipes g.edition room (shape_of_pipes B (pipeline_parts_of ps))) C x.parts D
 
@@ -566,7 +566,7 @@ module _ (B : List ℕ) (g : Given) (here : g.text ≡ drop g.offset B) where
           part = opens_one g (record { join = j; command = c }) (λ d. record { join = j; command = d }) (λ ts. refl)
               (λ d good. (comments, good)) one
 
-      reads_one_command : (C : Row Due) (x : Piped) (D : Row Due) (p : ℕ) → PipesGood C x D p →
+      reads_one_command : (C : Row Due) (x : PipesSoFar) (D : Row Due) (p : ℕ) → PipesGood C x D p →
           Adds g D (one_command inner x) (Turns g (PipesGood C) (PipesGood C)) p
       unfolding one_command
       reads_one_command C x D p so =
@@ -574,7 +574,7 @@ module _ (B : List ℕ) (g : Given) (here : g.text ≡ drop g.offset B) where
           (λ j f join. add_first g (reads_command j.1 D f join.1) (λ c E h good.
           add_pushes g (add_gives g (pipe_more x.parts j.0 c.0 join.0 good so)))))
 
-      reads_pipe_turn : (C : Row Due) (x : Piped) (D : Row Due) (p : ℕ) → PipesGood C x D p →
+      reads_pipe_turn : (C : Row Due) (x : PipesSoFar) (D : Row Due) (p : ℕ) → PipesGood C x D p →
           Adds g D (pipe_turn inner x) (Turns g (PipesGood C) (PipesGood C)) p
       unfolding pipe_turn
       reads_pipe_turn C x D p so =
@@ -595,13 +595,13 @@ module _ (B : List ℕ) (g : Given) (here : g.text ≡ drop g.offset B) where
       reads_pipeline n D p so =
           read_first g (reads_bang g n p so) (λ b e stands. add_first g (reads_command b.1 D e stands) (λ c C f good.
           add_first g (add_repeats g (pipe_turn inner) (PipesGood C) (PipesGood C) (PipesGood C) (reads_pipe_turn C)
-          (λ x E d all. all) (λ x E d all. all) (piped [] c.1) C f (opens_none g fill_pipe tt))
+          (λ x E d all. all) (λ x E d all. all) (pipes_so_far [] c.1) C f (opens_none g fill_pipe tt))
           (λ x E d all. add_gives g (pipeline_open b.0 c.0 x.parts good all))))
 
       -- ---- and-or lists
 
-      abbrev JoinedGood : Row Due → Joined → Row Due → ℕ → Type 0
-      JoinedGood C a D p = Opens g (fill_all g fill_and_or_part)
+      abbrev AndOrGood : Row Due → AndOrSoFar → Row Due → ℕ → Type 0
+      AndOrGood C a D p = Opens g (fill_all g fill_and_or_part)
           (λ ps. GoodParts g.edition room (shape_of_and_or_parts B (and_or_parts_of ps))) C a.parts D
 
       part_more : {C D E : Row Due} (ps : Row AnAndOrPart) (o : AndOrOperator) (j : AJoin) (x : APipeline) →
@@ -622,8 +622,9 @@ module _ (B : List ℕ) (g : Given) (here : g.text ≡ drop g.offset B) where
           part = opens_one g (record { operator = o; join = j; pipeline = x })
               (λ y. record { operator = o; join = j; pipeline = y }) (λ ts. refl) (λ y good. (comments, good)) one
 
-      reads_one_pipeline : (C : Row Due) (a : Joined) (o : AndOrOperator) (D : Row Due) (p : ℕ) → JoinedGood C a D p →
-          Adds g D (one_pipeline inner a o) (Turns g (JoinedGood C) (JoinedGood C)) p
+      reads_one_pipeline : (C : Row Due) (a : AndOrSoFar) (o : AndOrOperator) (D : Row Due) (p : ℕ) → AndOrGood C a D p
+          →
+          Adds g D (one_pipeline inner a o) (Turns g (AndOrGood C) (AndOrGood C)) p
       unfolding one_pipeline
       reads_one_pipeline C a o D p so =
           add_after g (tt, (λ u. tt))
@@ -631,13 +632,13 @@ module _ (B : List ℕ) (g : Given) (here : g.text ≡ drop g.offset B) where
           (λ j f join. add_first g (reads_pipeline j.1 D f join.1) (λ x E h good.
           add_pushes g (add_gives g (part_more a.parts o j.0 x.0 join.0 good so)))))
 
-      reads_and_or_turn : (C : Row Due) (a : Joined) (D : Row Due) (p : ℕ) → JoinedGood C a D p →
-          Adds g D (and_or_turn inner a) (Turns g (JoinedGood C) (JoinedGood C)) p
+      reads_and_or_turn : (C : Row Due) (a : AndOrSoFar) (D : Row Due) (p : ℕ) → AndOrGood C a D p →
+          Adds g D (and_or_turn inner a) (Turns g (AndOrGood C) (AndOrGood C)) p
       unfolding and_or_turn
       reads_and_or_turn C a D p so = by_operator (and_or_operator_of a.next.token)
         where
           by_operator : (o : Option AndOrOperator) →
-              Adds g D (joined_by inner a o) (Turns g (JoinedGood C) (JoinedGood C)) p
+              Adds g D (joined_by inner a o) (Turns g (AndOrGood C) (AndOrGood C)) p
           by_operator (Some o) = reads_one_pipeline C a o D p so
           by_operator None = add_gives g so
 
@@ -655,8 +656,8 @@ module _ (B : List ℕ) (g : Given) (here : g.text ≡ drop g.offset B) where
       unfolding an_and_or
       reads_and_or n D p so =
           add_first g (reads_pipeline n D p so) (λ x C e good.
-          add_first g (add_repeats g (and_or_turn inner) (JoinedGood C) (JoinedGood C) (JoinedGood C)
-          (reads_and_or_turn C) (λ a E d all. all) (λ a E d all. all) (joined_so [] x.1) C e
+          add_first g (add_repeats g (and_or_turn inner) (AndOrGood C) (AndOrGood C) (AndOrGood C)
+          (reads_and_or_turn C) (λ a E d all. all) (λ a E d all. all) (and_or_so_far [] x.1) C e
           (opens_none g fill_and_or_part tt))
           (λ a E d all. add_gives g (and_or_open x.0 a.parts good all)))
 

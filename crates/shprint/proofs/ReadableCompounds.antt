@@ -22,13 +22,13 @@ use Rattle.shgrammar.specs.Sights.{Given, given, State, standing, one_byte, to}
 use Rattle.shgrammar.specs.States.{Waiting}
 use Rattle.shgrammar.specs.Form.{Spelled, give, ◌>>◌, many, done, may}
 use Rattle.shgrammar.specs.Words.{Inner}
-use Rattle.shgrammar.specs.Commands.{pick, is_newline_token, is_pipe, begins_word, begins_pipeline, opener_of, Items, so_many, breaks, an_item, is_word, is_paren, ends_item, falls_through, nothing_waits}
-use Rattle.shgrammar.specs.Lists.{ListSo, list_so, none_listed, is_blank_next, one_entry, entry_turn, remark_by, a_remark, on_line, list_turn, a_list}
-use Rattle.shgrammar.specs.Compounds.{Branched, branched, Closed, is_closing, a_group, a_branch, elif_turn, an_else, an_if, a_loop, position_after, a_for_name, a_sequential_sep, Headed, word_turn, for_words, a_for_head, after_remarks, a_for, a_form, a_compound, under_name, a_function, a_case_word, begins_pattern, Patterned, a_pattern, one_pattern, pattern_turn, a_pattern_list, an_open_bracket, a_body, ItemEnd, an_ender, an_item_end, CasesSo, cases_so, one_case, case_turn, a_case_head, a_case}
+use Rattle.shgrammar.specs.Commands.{pick, is_newline_token, is_pipe, begins_word, begins_pipeline, opener_of, ItemsSoFar, items_so_far, breaks, an_item, is_word, is_paren, ends_item, falls_through, nothing_waits}
+use Rattle.shgrammar.specs.Lists.{ListSoFar, list_so_far, none_listed, is_blank_next, one_entry, entry_turn, remark_by, a_remark, on_line, list_turn, a_list}
+use Rattle.shgrammar.specs.Compounds.{BranchesSoFar, branches_so_far, Closed, is_closing, a_group, a_branch, elif_turn, an_else, an_if, a_loop, position_after, a_for_name, a_sequential_sep, Headed, word_turn, for_words, a_for_head, after_remarks, a_for, a_form, a_compound, under_name, a_function, a_case_word, begins_pattern, PatternsSoFar, a_pattern, one_pattern, pattern_turn, a_pattern_list, an_open_bracket, a_body, ItemEnd, an_ender, an_item_end, CasesSoFar, cases_so_far, one_case, case_turn, a_case_head, a_case}
 use Rattle.shgrammar.specs.Levels.{most_open, level}
 use Rattle.shgrammar.specs.Lines.{a_line, an_open_line, line_end_by, end_of_line}
 use Rattle.shgrammar.specs.Tokens.{is_end}
-use Rattle.shgrammar.specs.Scripts.{AScript, SoFar, Lines, line_ended, last_line, faulty, nothing_yet, Outcome}
+use Rattle.shgrammar.specs.Scripts.{AScript, LinesSoFar, Lines, line_ended, last_line, faulty, nothing_yet, Outcome}
 use Rattle.shgrammar.proofs.Shown.{falls_later}
 use Rattle.shgrammar.proofs.TokensShown.{shown_level, shown_lines}
 use Rattle.shgrammar.proofs.OneOutcome.{computed_is_only}
@@ -81,17 +81,17 @@ module _ (B : List ℕ) (g : Given) (here : g.text ≡ drop g.offset B) where
     list_opens es all = opens_one g (entries_of es) entries_of (entries_going es) (λ ls good. good) all
 
     -- the shape of items
-    abbrev items : Items → Shape ItemsOf
+    abbrev items : ItemsSoFar → Shape ItemsOf
     items i = shape_of_items B (items_of i.items)
 
     module _ (fine : Fine B g here room) where
       -- ---- lists
 
-      abbrev Listing : Row Due → ListSo → Row Due → ℕ → Type 0
+      abbrev Listing : Row Due → ListSoFar → Row Due → ℕ → Type 0
       Listing C l D p = OpenRow C l.list.entries D
 
       -- and the token after it stands here
-      abbrev ListOn : Row Due → ListSo → Row Due → ℕ → Type 0
+      abbrev ListOn : Row Due → ListSoFar → Row Due → ℕ → Type 0
       ListOn C l D p = Listing C l D p × Stands g Command l.next p
 
       entry_more : {C D E : Row Due} (es : Row AnEntry) (e : AnEntry) → OpenRow C es D → OpenEntry B g here room D e E →
@@ -99,7 +99,7 @@ module _ (B : List ℕ) (g : Given) (here : g.text ≡ drop g.offset B) where
       entry_more es e all one = opens_last g es e
           (λ ls l good more. entries_join B g.edition room ls (l ∷ []) good (more, tt)) all one
 
-      reads_one_entry : (C : Row Due) (l : ListSo) (D : Row Due) (p : ℕ) → ListOn C l D p →
+      reads_one_entry : (C : Row Due) (l : ListSoFar) (D : Row Due) (p : ℕ) → ListOn C l D p →
           Adds g D (one_entry inner l) (Turns g (ListOn C) (Listing C)) p
       unfolding one_entry
       reads_one_entry C l D p so =
@@ -108,7 +108,7 @@ module _ (B : List ℕ) (g : Given) (here : g.text ≡ drop g.offset B) where
           add_pushes g (add_gives g (turns_if g (ListOn C) (Listing C) (is_some x.parted) _ E e
           (λ on. (all, one.1 on)) all)))
 
-      reads_entry_turn : (C : Row Due) (l : ListSo) (D : Row Due) (p : ℕ) → ListOn C l D p →
+      reads_entry_turn : (C : Row Due) (l : ListSoFar) (D : Row Due) (p : ℕ) → ListOn C l D p →
           Adds g D (entry_turn inner l) (Turns g (ListOn C) (Listing C)) p
       unfolding entry_turn
       reads_entry_turn C l D p so =
@@ -119,7 +119,7 @@ module _ (B : List ℕ) (g : Given) (here : g.text ≡ drop g.offset B) where
       unfolding fill_entry fill_content
       remark_open c blank good = opens_nothing g (entry (remark c) false blank None) (λ ts. refl) (good, tt)
 
-      reads_remark : (C : Row Due) (l : ListSo) (D : Row Due) (p : ℕ) → Listing C l D p →
+      reads_remark : (C : Row Due) (l : ListSoFar) (D : Row Due) (p : ℕ) → Listing C l D p →
           Adds g D (a_remark l) (Listing C) p
       unfolding a_remark
       reads_remark C l D p so = read_first g (reads_comment B g here ⊥ l.next p (λ no. absurd no))
@@ -132,14 +132,14 @@ module _ (B : List ℕ) (g : Given) (here : g.text ≡ drop g.offset B) where
               (entry (remark c) false (is_blank_next l.list) None) so (remark_open c (is_blank_next l.list) one)))
           by_comment (None, n) e one = add_gives g so
 
-      reads_on_line : (C : Row Due) (l : ListSo) (D : Row Due) (p : ℕ) → ListOn C l D p →
+      reads_on_line : (C : Row Due) (l : ListSoFar) (D : Row Due) (p : ℕ) → ListOn C l D p →
           Adds g D (on_line inner l) (Listing C) p
       unfolding on_line
       reads_on_line C l D p so =
           add_first g (add_repeats g (entry_turn inner) (ListOn C) (ListOn C) (Listing C) (reads_entry_turn C)
           (λ m E d on. on) (λ m E d on. on.0) l D p so) (λ m E e all. reads_remark C m E e all)
 
-      reads_list_turn : (C : Row Due) (l : ListSo) (D : Row Due) (p : ℕ) → ListOn C l D p →
+      reads_list_turn : (C : Row Due) (l : ListSoFar) (D : Row Due) (p : ℕ) → ListOn C l D p →
           Adds g D (list_turn inner l) (Turns g (ListOn C) (Listing C)) p
       unfolding list_turn
       reads_list_turn C l D p so =
@@ -148,10 +148,10 @@ module _ (B : List ℕ) (g : Given) (here : g.text ≡ drop g.offset B) where
           add_gives g (turns_if g (ListOn C) (Listing C) x.0 _ E f (λ on. (all, more.1 on)) all)))
 
       reads_lines : (n : Next) (D : Row Due) (p : ℕ) → Stands g Command n p →
-          Adds g D (many (list_turn inner) (list_so (none_listed false) n)) (Listing D) p
+          Adds g D (many (list_turn inner) (list_so_far (none_listed false) n)) (Listing D) p
       reads_lines n D p so =
           add_repeats g (list_turn inner) (ListOn D) (ListOn D) (Listing D) (reads_list_turn D) (λ l E d on. on)
-          (λ l E d on. on.0) (list_so (none_listed false) n) D p (opens_none g fill_entry tt, so)
+          (λ l E d on. on.0) (list_so_far (none_listed false) n) D p (opens_none g fill_entry tt, so)
 
       reads_list : (n : Next) (D : Row Due) (p : ℕ) → Stands g Command n p →
           Adds g D (a_list inner n) (λ x E e. OpenEntries D x.0 E) p
@@ -201,7 +201,7 @@ module _ (B : List ℕ) (g : Given) (here : g.text ≡ drop g.offset B) where
       unfolding an_open_line
       reads_open_line blank p =
           tells_then Whole g ((reads_next g Command p).reads [] (standing p) (no_docs g)) (λ n t so.
-          tells_then Whole g ((reads_on_line [] (list_so (none_listed blank) n) [] t.at
+          tells_then Whole g ((reads_on_line [] (list_so_far (none_listed blank) n) [] t.at
           (opens_none g fill_entry tt, so.1)).adds t so.0) (λ l u all.
           tells_then Whole g (line_ends l.next all.0 u all.1)
           (λ newline v done. tells_give Whole g (line_filled all.0 l.list.entries v.bodies all.2 done))))
@@ -240,10 +240,10 @@ module _ (B : List ℕ) (g : Given) (here : g.text ≡ drop g.offset B) where
       OpenBranches D bs E = Opens g (fill_all g fill_branch)
           (λ xs. GoodBranches g.edition room (shape_of_branches B (branches_of xs))) D bs E
 
-      abbrev BranchesGood : Row Due → Branched → Row Due → ℕ → Type 0
+      abbrev BranchesGood : Row Due → BranchesSoFar → Row Due → ℕ → Type 0
       BranchesGood C b D p = OpenBranches C b.branches D
 
-      reads_elif : (C : Row Due) (b : Branched) (D : Row Due) (p : ℕ) → BranchesGood C b D p →
+      reads_elif : (C : Row Due) (b : BranchesSoFar) (D : Row Due) (p : ℕ) → BranchesGood C b D p →
           Adds g D (elif_turn inner b) (Turns g (BranchesGood C) (BranchesGood C)) p
       unfolding elif_turn
       reads_elif C b D p so =
@@ -286,7 +286,8 @@ module _ (B : List ℕ) (g : Given) (here : g.text ≡ drop g.offset B) where
       reads_if n D p so =
           add_first g (reads_branch n D p so) (λ f C e one.
           add_first g (add_repeats g (elif_turn inner) (BranchesGood C) (BranchesGood C) (BranchesGood C) (reads_elif C)
-          (λ b E d all. all) (λ b E d all. all) (branched [] f.1) C e (opens_none g fill_branch tt)) (λ b A d all.
+          (λ b E d all. all) (λ b E d all. all) (branches_so_far [] f.1) C e (opens_none g fill_branch tt))
+          (λ b A d all.
           add_first g (reads_else b.next A d)
           (λ x E h other. read_first g (reads_closing g inner closings.Fi x.1 h)
           (λ c k stands. add_gives g (if_open f.0 b.branches x.0 one all other, stands)))))
@@ -345,17 +346,18 @@ module _ (B : List ℕ) (g : Given) (here : g.text ≡ drop g.offset B) where
           (stopped g inner l.next)))
 
       -- the words so far, and the token after them
-      record WordsSo (i : Items) (p : ℕ) : Type 0 where
+      record WordsSo (i : ItemsSoFar) (p : ℕ) : Type 0 where
         pub good : GoodItems g.edition room of_for Suffix (items i) Suffix
         pub stands : Stands g Suffix i.next p
 
-      abbrev WordsDone : Items → ℕ → Type 0
+      abbrev WordsDone : ItemsSoFar → ℕ → Type 0
       WordsDone i p = GoodWords g.edition room (items i)
 
-      words_are : (i : Items) (p : ℕ) → WordsSo i p → GoodWords g.edition room (items i)
+      words_are : (i : ItemsSoFar) (p : ℕ) → WordsSo i p → GoodWords g.edition room (items i)
       words_are i p so = record { last = Suffix; items = so.good }
 
-      reads_word_turn : (i : Items) (p : ℕ) → WordsSo i p → Reads g (word_turn inner i) (Turned g WordsSo WordsDone) p
+      reads_word_turn : (i : ItemsSoFar) (p : ℕ) → WordsSo i p →
+          Reads g (word_turn inner i) (Turned g WordsSo WordsDone) p
       unfolding word_turn an_item
       reads_word_turn i p so =
           picks g (is_word i.next.token)
@@ -383,7 +385,7 @@ module _ (B : List ℕ) (g : Given) (here : g.text ≡ drop g.offset B) where
       reads_for_words cs p good =
           first g (reads_reserved_or_paren g _ _ _ p) (λ i e stands.
           first g (repeats g (word_turn inner) WordsSo WordsSo WordsDone reads_word_turn (λ j d on. on) words_are
-          (so_many [] Suffix i.1) e (record { good = none_more; stands = stands })) (λ ws f words.
+          (items_so_far [] Suffix i.1) e (record { good = none_more; stands = stands })) (λ ws f words.
           first g (reads_sep cs ws.next f good) (λ l h lines. gives g (words, lines.0, lines.1))))
 
       reads_for_head : (n : Next) (p : ℕ) → Stands g Command n p → Reads g (a_for_head inner n) HeadGood p
@@ -454,7 +456,7 @@ module _ (B : List ℕ) (g : Given) (here : g.text ≡ drop g.offset B) where
           gives g (good_word Suffix begins_word n p q w so begins (item_is_word n.token begins) read, stands))))
           (stopped g inner n)
 
-      abbrev PatternsGood : Patterned → ℕ → Type 0
+      abbrev PatternsGood : PatternsSoFar → ℕ → Type 0
       PatternsGood x p = GoodPatterns g.edition room (shape_of_patterns B (patterns_of x.patterns))
 
       reads_pattern : (position : Position) (begins : Token → Bool) (ws : Row AWord) (n : Next) (p : ℕ) →
@@ -468,7 +470,7 @@ module _ (B : List ℕ) (g : Given) (here : g.text ≡ drop g.offset B) where
           (λ w q read. pushes g (first g (reads_next g Suffix q)
           (λ m e stands. gives g (all w (good_word position begins n p q w so begin is_word read)))))
 
-      reads_one_pattern : (x : Patterned) (p : ℕ) → PatternsGood x p →
+      reads_one_pattern : (x : PatternsSoFar) (p : ℕ) → PatternsGood x p →
           Reads g (one_pattern inner x.patterns) (Turned g PatternsGood PatternsGood) p
       unfolding one_pattern
       reads_one_pattern x p so =
@@ -478,7 +480,7 @@ module _ (B : List ℕ) (g : Given) (here : g.text ≡ drop g.offset B) where
           (λ y h good. gives g good))
           (stopped g inner n)))
 
-      reads_pattern_turn : (x : Patterned) (p : ℕ) → PatternsGood x p →
+      reads_pattern_turn : (x : PatternsSoFar) (p : ℕ) → PatternsGood x p →
           Reads g (pattern_turn inner x) (Turned g PatternsGood PatternsGood) p
       unfolding pattern_turn
       reads_pattern_turn x p so = picks g (is_pipe x.next.token) (λ is. reads_one_pattern x p so) (gives g so)
@@ -537,10 +539,10 @@ module _ (B : List ℕ) (g : Given) (here : g.text ≡ drop g.offset B) where
       OpenCases D cs E = Opens g (fill_all g fill_case)
           (λ xs. GoodCases g.edition room (shape_of_cases B (cases_of xs))) D cs E
 
-      abbrev CasesDone : Row Due → CasesSo → Row Due → ℕ → Type 0
+      abbrev CasesDone : Row Due → CasesSoFar → Row Due → ℕ → Type 0
       CasesDone C c D p = OpenCases C c.items D × Comments B g here c.comments
 
-      abbrev CasesOn : Row Due → CasesSo → Row Due → ℕ → Type 0
+      abbrev CasesOn : Row Due → CasesSoFar → Row Due → ℕ → Type 0
       CasesOn C c D p = OpenCases C c.items D × Comments B g here c.comments × Onward c.next p
 
       case_open : {D E : Row Due} (cs : Row Span) (ws : Row AWord) (es : Row AnEntry) (mark : ACaseMark) →
@@ -554,7 +556,8 @@ module _ (B : List ℕ) (g : Given) (here : g.text ≡ drop g.offset B) where
           (λ ls. case_item cs (patterns_of ws) (entries_of ls) mark) (λ ts. rw (entries_going es ts) refl)
           (λ ls good. (comments, words, good, falls)) body
 
-      reads_one_case : (C : Row Due) (c : CasesSo) (D : Row Due) (p : ℕ) → CasesOn C c D p → Stands g Command c.next p →
+      reads_one_case : (C : Row Due) (c : CasesSoFar) (D : Row Due) (p : ℕ) → CasesOn C c D p →
+          Stands g Command c.next p →
           Adds g D (one_case inner c) (Turns g (CasesOn C) (CasesDone C)) p
       unfolding one_case
       reads_one_case C c D p so stands =
@@ -570,7 +573,7 @@ module _ (B : List ℕ) (g : Given) (here : g.text ≡ drop g.offset B) where
             end.1,
           ))))))))
 
-      reads_case_turn : (C : Row Due) (c : CasesSo) (D : Row Due) (p : ℕ) → CasesOn C c D p →
+      reads_case_turn : (C : Row Due) (c : CasesSoFar) (D : Row Due) (p : ℕ) → CasesOn C c D p →
           Adds g D (case_turn inner c) (Turns g (CasesOn C) (CasesDone C)) p
       unfolding case_turn
       reads_case_turn C c D p so = by_end (is_closing closings.Esac c.next.token) refl
@@ -606,7 +609,7 @@ module _ (B : List ℕ) (g : Given) (here : g.text ≡ drop g.offset B) where
       reads_case n D p so =
           read_first g (reads_case_head n p so) (λ h e one.
           add_first g (add_repeats g (case_turn inner) (CasesOn D) (CasesOn D) (CasesDone D) (reads_case_turn D)
-          (λ c E d on. on) (λ c E d on. (on.0, on.1)) (cases_so [] h.1 h.2) D e
+          (λ c E d on. on) (λ c E d on. (on.0, on.1)) (cases_so_far [] h.1 h.2) D e
           (opens_none g fill_case tt, one.1, (λ no. one.2))) (λ c E f all.
           read_first g (reads_closing g inner closings.Esac c.next f)
           (λ k j stands. add_gives g (cases_open h.0 c.items c.comments one.0 all.1 all.0, stands))))
@@ -701,7 +704,7 @@ module _ (edition : Edition) (B : List ℕ) where
       subst (Holds (λ x t. GoodEntries edition most_open (shape_of B (entries_of x.0))))
       (sym ((computed_is_only (a_line (level most_open) blank) g (standing 0)).only _ _ part)) line.told
 
-  lines_good : (so : SoFar) (p : ℕ) (s : AScript) (k : Row Spelled) → Lines edition B so p s k →
+  lines_good : (so : LinesSoFar) (p : ℕ) (s : AScript) (k : Row Spelled) → Lines edition B so p s k →
       GoodEntries edition most_open (shape_of B (entries_of so.entries)) →
       GoodEntries edition most_open (shape_of B s.entries)
   lines_good so p s m (line_ended {l = l} es t k part rest) good =

@@ -22,7 +22,7 @@ use Rattle.shgrammar.specs.Sights.{Given, State, standing, Sight, seen, Move, to
 use Rattle.shgrammar.specs.HereDocuments.{bodies_here}
 use Rattle.shgrammar.specs.Form.{Spelled, Read, Form, see, move, push, stop, give, both, when, token, loop, ends_as, change, with_bytes, a_level, in_substitution, many, Step, again, done, step_if, may, raw, does}
 use Rattle.shgrammar.specs.Words.{Inner, a_word}
-use Rattle.shgrammar.specs.Commands.{pick, next_token, is_newline_token, is_semicolon, a_semicolon, is_bang, unexpected, comment_by, a_comment, a_newline, with_comment, JoinSo, join_turn, a_join, a_bang, separator_of, separator_by, a_separator}
+use Rattle.shgrammar.specs.Commands.{pick, next_token, is_newline_token, is_semicolon, a_semicolon, is_bang, unexpected, comment_by, a_comment, a_newline, with_comment, JoinSoFar, join_turn, a_join, a_bang, separator_of, separator_by, a_separator}
 use Rattle.shgrammar.specs.Compounds.{is_closing, reserved_or_paren, closing, a_linebreak, begins_pattern}
 use Rattle.shgrammar.specs.Levels.{level}
 use Rattle.shgrammar.proofs.Places.{place_same, blanks_stop}
@@ -484,7 +484,7 @@ module _ (B : List ℕ) (g : Given) (here : g.text ≡ drop g.offset B) where
   reads_with cs None p all one = gives g (all, refl)
 
   -- after a comment or a newline the next token stands where a command may begin; so it does where X holds
-  abbrev JoinGood : Type 0 → JoinSo → ℕ → Type 0
+  abbrev JoinGood : Type 0 → JoinSoFar → ℕ → Type 0
   JoinGood X j p = Comments j.join.comments × (X ⊎ (j.join.broken ≡ true) → Stands g Command j.next p)
 
   -- one of two tests
@@ -493,7 +493,7 @@ module _ (B : List ℕ) (g : Given) (here : g.text ≡ drop g.offset B) where
   or_parts false b e = inr e
 
   -- a comment and a newline, or one of them, within a join
-  reads_join_turn : (X : Type 0) (j : JoinSo) (p : ℕ) → JoinGood X j p →
+  reads_join_turn : (X : Type 0) (j : JoinSoFar) (p : ℕ) → JoinGood X j p →
       Reads g (join_turn j) (Turned g (JoinGood X) (JoinGood X)) p
   unfolding join_turn
   reads_join_turn X j p so =

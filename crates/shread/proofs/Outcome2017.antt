@@ -3,7 +3,7 @@
 use Rattle.std.proofs.Common.{◌≡◌, ℕ, List, List as Row, drop, refl, sym}
 use Rattle.shgrammar.specs.declared.edition.Edition.TheVariants.{Y2017}
 use Rattle.shgrammar.specs.Form.{Form, Spelled, give, see, move, push, stop, both, when, token, loop, ends_as, change, with_bytes, a_level, in_substitution, may}
-use Rattle.shgrammar.specs.Scripts.{AScript, Lines, Outcome, SoFar, is_blank_line, line_ended, last_line, faulty, the_line}
+use Rattle.shgrammar.specs.Scripts.{AScript, Lines, Outcome, LinesSoFar, is_blank_line, line_ended, last_line, faulty, the_line}
 use Rattle.shgrammar.specs.Sights.{Given, Sight, State, given, here, the_byte, the_piece, the_rest, the_end, a_raw, last_backslash, the_token, the_comment, is_a_name, a_document_waits, the_delimiter, seen}
 use Rattle.shgrammar.proofs.Editions.{delimiter_seen, piece_seen, token_seen}
 use Rattle.shgrammar.proofs.Each.{Each, each_bytes, each_either, each_ending, each_just, each_level, each_then, each_token, each_turns}
@@ -60,7 +60,7 @@ module _ (g : Given) (by : g.edition ≡ Y2017) where
 
 -- ---- scripts
 
-lines_to : (B : List ℕ) (so : SoFar) (p : ℕ) (s : AScript) (k : Row Spelled) → Lines Y2017 B so p s k →
+lines_to : (B : List ℕ) (so : LinesSoFar) (p : ℕ) (s : AScript) (k : Row Spelled) → Lines Y2017 B so p s k →
     Lines_2017 B so p s k
 lines_to B so p s k (line_ended {l = l} es t k1 read rest) =
     line_ended_2017 es t k1 (to_2017 (given Y2017 (drop p B) p) refl (the_line (is_blank_line so)) _ _ k1 read)
@@ -70,7 +70,7 @@ lines_to B so p s k (last_line es t k1 read) =
 lines_to B so p s k (faulty f k1 read) =
     faulty_2017 f k1 (to_2017 (given Y2017 (drop p B) p) refl (the_line (is_blank_line so)) _ _ k1 read)
 
-lines_from : (B : List ℕ) (so : SoFar) (p : ℕ) (s : AScript) (k : Row Spelled) → Lines_2017 B so p s k →
+lines_from : (B : List ℕ) (so : LinesSoFar) (p : ℕ) (s : AScript) (k : Row Spelled) → Lines_2017 B so p s k →
     Lines Y2017 B so p s k
 lines_from B so p s k (line_ended_2017 {l = l} es t k1 read rest) =
     line_ended es t k1 (from_2017 (given Y2017 (drop p B) p) refl (the_line (is_blank_line so)) _ _ k1 read)

@@ -8,7 +8,7 @@ use Rattle.shast.specs.Tree.{AnEntry, entries_of}
 use Rattle.shgrammar.specs.By2017.{next_2017, piece_2017}
 use Rattle.shgrammar.specs.Form.{Comes, Either, Ending, Form, Halts, Just, OneToken, OwnLevel, Changed, Spelled, Then, Turns, WithBytes, moved_on, give, see, move, push, stop, both, when, token, loop, ends_as, change, with_bytes, a_level, in_substitution}
 use Rattle.shgrammar.specs.HereDocuments.{changed, delimiter_of}
-use Rattle.shgrammar.specs.Scripts.{AScript, SoFar, is_blank_line, nothing_yet, the_line, with_line}
+use Rattle.shgrammar.specs.Scripts.{AScript, LinesSoFar, is_blank_line, nothing_yet, the_line, with_line}
 use Rattle.shgrammar.specs.Sights.{Given, Sight, State, given, seen, standing, the_delimiter, the_piece, the_token}
 
 -- what a row sees
@@ -36,14 +36,15 @@ may_2017 (a_level r) g s = OwnLevel (may_2017 r g) s
 may_2017 (in_substitution r) g s = may_2017 r g s
 
 -- the lines from p on, and the tokens passed
-pub data Lines_2017 (B : List ℕ) : SoFar → ℕ → AScript → Row Spelled → Type 0 where
-  line_ended : {so : SoFar} {p : ℕ} {s : AScript} {l : Row Spelled} (es : Row AnEntry) (t : State) (k : Row Spelled)
+pub data Lines_2017 (B : List ℕ) : LinesSoFar → ℕ → AScript → Row Spelled → Type 0 where
+  line_ended : {so : LinesSoFar} {p : ℕ} {s : AScript} {l : Row Spelled} (es : Row AnEntry) (t : State)
+      (k : Row Spelled)
       → may_2017 (the_line (is_blank_line so)) (given Y2017 (drop p B) p) (standing 0) (Ok ((es, true), t)) k →
       Lines_2017 B (with_line so es) (p + t.at) s l → Lines_2017 B so p s (k ++ l)
-  last_line : {so : SoFar} {p : ℕ} (es : Row AnEntry) (t : State) (k : Row Spelled) →
+  last_line : {so : LinesSoFar} {p : ℕ} (es : Row AnEntry) (t : State) (k : Row Spelled) →
       may_2017 (the_line (is_blank_line so)) (given Y2017 (drop p B) p) (standing 0) (Ok ((es, false), t)) k
       → Lines_2017 B so p (record { entries = entries_of (so.entries ++ es); fault = None }) k
-  faulty : {so : SoFar} {p : ℕ} (f : Fault) (k : Row Spelled) →
+  faulty : {so : LinesSoFar} {p : ℕ} (f : Fault) (k : Row Spelled) →
       may_2017 (the_line (is_blank_line so)) (given Y2017 (drop p B) p) (standing 0) (Err f) k
       → Lines_2017 B so p (record { entries = entries_of so.entries; fault = Some f }) k
 

@@ -10,7 +10,7 @@ use Rattle.shgrammar.specs.Pieces.{piece_at, piece_in}
 use Rattle.shgrammar.specs.Plain.{ArePlain}
 use Rattle.shgrammar.specs.Sights.{State, given}
 use Rattle.shgrammar.specs.Substitutions.{substitution_list}
-use Rattle.shgrammar.specs.Words.{having}
+use Rattle.shgrammar.specs.Words.{word_so_far}
 use Rattle.shgrammar.specs.Levels.{level}
 use Rattle.shast.specs.declared.tree.Span.{Span}
 use Rattle.shast.specs.Bodies.{filled}
@@ -18,9 +18,9 @@ use Rattle.shast.specs.Tree.{ASubst, subst}
 use Rattle.shast.specs.View.{view_list, view_subst}
 use Rattle.shgrammar.proofs.Levels.{substitution_read}
 use Rattle.shgrammar.proofs.PlainBytes.{ordinary_here, piece_and_plain}
-use Rattle.shgrammar.specs.Commands.{begins_redirect, item_turn, and_or_turn, joined_so, pipe_turn, piped, redirect_operator_of, redirect_turn, so_many}
-use Rattle.shgrammar.specs.Compounds.{branched, case_turn, elif_turn, is_closing, pattern_turn, patterned, word_turn}
-use Rattle.shgrammar.specs.Lists.{list_so, list_turn}
+use Rattle.shgrammar.specs.Commands.{begins_redirect, item_turn, and_or_turn, and_or_so_far, pipe_turn, pipes_so_far, redirect_operator_of, redirect_turn, items_so_far}
+use Rattle.shgrammar.specs.Compounds.{branches_so_far, case_turn, elif_turn, is_closing, pattern_turn, patterns_so_far, word_turn}
+use Rattle.shgrammar.specs.Lists.{list_so_far, list_turn}
 use Rattle.shgrammar.specs.declared.token.Closing.TheVariants.{Esac}
 use Rattle.shgrammar.specs.declared.token.Position.TheVariants.{Suffix, Command as AsCommand}
 use Rattle.shgrammar.proofs.Turns.{many_done}
@@ -49,8 +49,8 @@ contents-pieces-preserved g t c =
             (given c.args.self.now.how.edition text c.args.self.now.origin) c.args.mode
             (c.args.self.now.origin + c.args.opener)
             (map view_waiting after.waiting.items) after.bodies.items
-            (having c.pieces.nested (map view_subst c.pieces.substs.items))
-            (having c.take_piece.new.nested (map view_subst c.take_piece.new.substs.items))
+            (word_so_far c.pieces.nested (map view_subst c.pieces.substs.items))
+            (word_so_far c.take_piece.new.nested (map view_subst c.take_piece.new.substs.items))
             (map view_waiting before.waiting.items) before.bodies.items (here_of c.pieces.self)
             (here_of c.take_piece.new.self) (here_of c.skip_plain.new.self) _
             inv.0.0 piece onward (omega (arith, rest.1, within)) plain rest.1 within,
@@ -166,7 +166,7 @@ redirects-returns g t c =
     let start = c.args.self.now in
     let here = given start.how.edition (text_of start) start.origin in
     let self = c.turns.self in
-    let all = so_many (view_items c.turns.redirects) AsCommand self.next in
+    let all = items_so_far (view_items c.turns.redirects) AsCommand self.next in
     let stops : begins_redirect self.next.token ≡ false = sym c.begins_redirect.ensures ∙ c.turns-test.false in
     let one : does (redirect_turn (level c.args.room) all) (keep_of start) here (at_token self)
     ≡ Ok (done all, at_token self) = rw stops refl in (
@@ -198,83 +198,83 @@ cases-returns g t c =
 pub elifs-turns-preserved : goal.elifs-turns-preserved
 elifs-turns-preserved g t c =
     loop_again c.args.self.now c.turns.self c.elif_turn.new.self (elif_turn (level c.args.room))
-    (branched [] c.args.self.now.next) _ _
+    (branches_so_far [] c.args.self.now.next) _ _
     c.if-branch.true c.turns.invariant c.in_ok-elif_turn.ensures
 
 pub elifs-returns : goal.elifs-returns
 elifs-returns g t c =
     loop_done c.args.self.now c.turns.self c.elif_turn.new.self (elif_turn (level c.args.room))
-    (branched [] c.args.self.now.next) _ _
+    (branches_so_far [] c.args.self.now.next) _ _
     c.if-branch.false c.turns.invariant c.in_ok-elif_turn.ensures
 
 pub pipes-turns-preserved : goal.pipes-turns-preserved
 pipes-turns-preserved g t c =
     loop_again c.args.self.now c.turns.self c.pipe_turn.new.self (pipe_turn (level c.args.room))
-    (piped [] c.args.self.now.next) _ _
+    (pipes_so_far [] c.args.self.now.next) _ _
     c.if-branch.true c.turns.invariant c.in_ok-pipe_turn.ensures
 
 pub pipes-returns : goal.pipes-returns
 pipes-returns g t c =
     loop_done c.args.self.now c.turns.self c.pipe_turn.new.self (pipe_turn (level c.args.room))
-    (piped [] c.args.self.now.next) _ _
+    (pipes_so_far [] c.args.self.now.next) _ _
     c.if-branch.false c.turns.invariant c.in_ok-pipe_turn.ensures
 
 pub joined_pipelines-turns-preserved : goal.joined_pipelines-turns-preserved
 joined_pipelines-turns-preserved g t c =
     loop_again c.args.self.now c.turns.self c.and_or_turn.new.self (and_or_turn (level c.args.room))
-    (joined_so [] c.args.self.now.next) _ _
+    (and_or_so_far [] c.args.self.now.next) _ _
     c.if-branch.true c.turns.invariant c.in_ok-and_or_turn.ensures
 
 pub joined_pipelines-returns : goal.joined_pipelines-returns
 joined_pipelines-returns g t c =
     loop_done c.args.self.now c.turns.self c.and_or_turn.new.self (and_or_turn (level c.args.room))
-    (joined_so [] c.args.self.now.next) _ _
+    (and_or_so_far [] c.args.self.now.next) _ _
     c.if-branch.false c.turns.invariant c.in_ok-and_or_turn.ensures
 
 pub words-turns-preserved : goal.words-turns-preserved
 words-turns-preserved g t c =
     loop_again c.args.self.now c.turns.self c.word_turn.new.self (word_turn (level c.args.room))
-    (so_many [] Suffix c.args.self.now.next) _ _
+    (items_so_far [] Suffix c.args.self.now.next) _ _
     c.if-branch.true c.turns.invariant c.in_ok-word_turn.ensures
 
 pub words-returns : goal.words-returns
 words-returns g t c =
     loop_done c.args.self.now c.turns.self c.word_turn.new.self (word_turn (level c.args.room))
-    (so_many [] Suffix c.args.self.now.next) _ _
+    (items_so_far [] Suffix c.args.self.now.next) _ _
     c.if-branch.false c.turns.invariant c.in_ok-word_turn.ensures
 
 pub list_lines-turns-preserved : goal.list_lines-turns-preserved
 list_lines-turns-preserved g t c =
     loop_again c.args.self.now c.turns.self c.list_turn.new.self (list_turn (level c.args.room))
-    (list_so (view_listed c.args.listed.now) c.args.self.now.next) _ _
+    (list_so_far (view_listed c.args.listed.now) c.args.self.now.next) _ _
     c.if-branch.true c.turns.invariant c.in_ok-list_turn.ensures
 
 pub list_lines-returns : goal.list_lines-returns
 list_lines-returns g t c =
     loop_done c.args.self.now c.turns.self c.list_turn.new.self (list_turn (level c.args.room))
-    (list_so (view_listed c.args.listed.now) c.args.self.now.next) _ _
+    (list_so_far (view_listed c.args.listed.now) c.args.self.now.next) _ _
     c.if-branch.false c.turns.invariant c.in_ok-list_turn.ensures
 
 pub more_patterns-turns-preserved : goal.more_patterns-turns-preserved
 more_patterns-turns-preserved g t c =
     loop_again c.args.self.now c.turns.self c.pattern_turn.new.self (pattern_turn (level c.args.room))
-    (patterned (view_words c.args.patterns.now) c.args.self.now.next) _ _
+    (patterns_so_far (view_words c.args.patterns.now) c.args.self.now.next) _ _
     c.if-branch.true c.turns.invariant c.in_ok-pattern_turn.ensures
 
 pub more_patterns-returns : goal.more_patterns-returns
 more_patterns-returns g t c =
     loop_done c.args.self.now c.turns.self c.pattern_turn.new.self (pattern_turn (level c.args.room))
-    (patterned (view_words c.args.patterns.now) c.args.self.now.next) _ _
+    (patterns_so_far (view_words c.args.patterns.now) c.args.self.now.next) _ _
     c.if-branch.false c.turns.invariant c.in_ok-pattern_turn.ensures
 
 pub items-turns-preserved : goal.items-turns-preserved
 items-turns-preserved g t c =
     loop_again c.args.self.now c.turns.self c.item_turn.new.self (item_turn (level c.args.room))
-    (so_many (view_items c.args.items.now) c.args.position.now c.args.self.now.next) _ _
+    (items_so_far (view_items c.args.items.now) c.args.position.now c.args.self.now.next) _ _
     c.if-branch.true c.turns.invariant c.in_ok-item_turn.ensures
 
 pub items-returns : goal.items-returns
 items-returns g t c =
     loop_done c.args.self.now c.turns.self c.item_turn.new.self (item_turn (level c.args.room))
-    (so_many (view_items c.args.items.now) c.args.position.now c.args.self.now.next) _ _
+    (items_so_far (view_items c.args.items.now) c.args.position.now c.args.self.now.next) _ _
     c.if-branch.false c.turns.invariant c.in_ok-item_turn.ensures

@@ -4,13 +4,13 @@
 use Rattle.std.proofs.Common.{◌≡◌, ◌≤◌, ◌+◌, ◌*◌, ◌-◌, [], length, map}
 use Rattle.shgrammar.specs.declared.token.Position.TheVariants.{Suffix, Command as AsCommand}
 use Rattle.shline.specs.Clauses.{at_place, at_token, here_of, Rests, start_of, text_of}
-use Rattle.shgrammar.specs.Commands.{and_or_turn, item_turn, joined_so, pipe_turn, piped, redirect_turn, so_many}
-use Rattle.shgrammar.specs.Compounds.{branched, elif_turn, pattern_turn, patterned, case_turn, word_turn}
+use Rattle.shgrammar.specs.Commands.{and_or_turn, item_turn, and_or_so_far, pipe_turn, pipes_so_far, redirect_turn, items_so_far}
+use Rattle.shgrammar.specs.Compounds.{branches_so_far, elif_turn, pattern_turn, patterns_so_far, case_turn, word_turn}
 use Rattle.shgrammar.specs.Form.{many}
 use Rattle.shgrammar.specs.Levels.{level}
 use Rattle.shline.specs.Listed.{view_cases, view_listed}
-use Rattle.shgrammar.specs.Lists.{entry_turn, list_so, list_turn}
-use Rattle.shgrammar.specs.Words.{a_piece, contents, having}
+use Rattle.shgrammar.specs.Lists.{entry_turn, list_so_far, list_turn}
+use Rattle.shgrammar.specs.Words.{a_piece, contents, word_so_far}
 use Rattle.shast.specs.View.{view_and_or_part, view_branch, view_item, view_pipeline_part, view_subst, view_word}
 use Rattle.shline.proofs.cursor.Cursor.+commands.Given as goal
 
@@ -224,9 +224,9 @@ decreases-construct-ordinary g l = length (text_of l.self) - here_of l.self
 abbrev pub invariant-contents-pieces : goal.invariant-contents-pieces
 invariant-contents-pieces g l =
     Rests l.fn.self (many (a_piece (level l.room) l.mode (l.fn.self.origin + l.opener))
-    (having 0 (map view_subst l.fn.substs.items))) (at_place l.fn.self)
+    (word_so_far 0 (map view_subst l.fn.substs.items))) (at_place l.fn.self)
     (many (a_piece (level l.room) l.mode (l.fn.self.origin + l.opener))
-    (having l.nested (map view_subst l.substs.items))) (at_place l.self) l.self
+    (word_so_far l.nested (map view_subst l.substs.items))) (at_place l.self) l.self
     × (l.nested ≤ here_of l.self) × (l.opener ≤ here_of l.self)
 
 abbrev pub decreases-contents-pieces : goal.decreases-contents-pieces
@@ -235,8 +235,8 @@ decreases-contents-pieces g l = length (text_of l.self) - here_of l.self
 abbrev pub invariant-items-turns : goal.invariant-items-turns
 invariant-items-turns g l =
     Rests l.fn.self (many (item_turn (level l.room))
-    (so_many (map view_item l.fn.items.items) l.fn.position l.fn.self.next)) (at_token l.fn.self)
-    (many (item_turn (level l.room)) (so_many (map view_item l.items.items) l.position l.self.next))
+    (items_so_far (map view_item l.fn.items.items) l.fn.position l.fn.self.next)) (at_token l.fn.self)
+    (many (item_turn (level l.room)) (items_so_far (map view_item l.items.items) l.position l.self.next))
     (at_token l.self) l.self
 
 abbrev pub decreases-items-turns : goal.decreases-items-turns
@@ -244,8 +244,8 @@ decreases-items-turns g l = length (text_of l.self) - start_of l.self
 
 abbrev pub invariant-words-turns : goal.invariant-words-turns
 invariant-words-turns g l =
-    Rests l.fn.self (many (word_turn (level l.room)) (so_many [] Suffix l.fn.self.next)) (at_token l.fn.self)
-    (many (word_turn (level l.room)) (so_many (map view_item l.words.items) Suffix l.self.next))
+    Rests l.fn.self (many (word_turn (level l.room)) (items_so_far [] Suffix l.fn.self.next)) (at_token l.fn.self)
+    (many (word_turn (level l.room)) (items_so_far (map view_item l.words.items) Suffix l.self.next))
     (at_token l.self) l.self
 
 abbrev pub decreases-words-turns : goal.decreases-words-turns
@@ -253,8 +253,9 @@ decreases-words-turns g l = length (text_of l.self) - start_of l.self
 
 abbrev pub invariant-redirects-turns : goal.invariant-redirects-turns
 invariant-redirects-turns g l =
-    Rests l.fn.self (many (redirect_turn (level l.room)) (so_many [] AsCommand l.fn.self.next)) (at_token l.fn.self)
-    (many (redirect_turn (level l.room)) (so_many (map view_item l.redirects.items) AsCommand l.self.next))
+    Rests l.fn.self (many (redirect_turn (level l.room)) (items_so_far [] AsCommand l.fn.self.next))
+    (at_token l.fn.self)
+    (many (redirect_turn (level l.room)) (items_so_far (map view_item l.redirects.items) AsCommand l.self.next))
     (at_token l.self) l.self
 
 abbrev pub decreases-redirects-turns : goal.decreases-redirects-turns
@@ -262,8 +263,8 @@ decreases-redirects-turns g l = length (text_of l.self) - start_of l.self
 
 abbrev pub invariant-pipes-turns : goal.invariant-pipes-turns
 invariant-pipes-turns g l =
-    Rests l.fn.self (many (pipe_turn (level l.room)) (piped [] l.fn.self.next)) (at_token l.fn.self)
-    (many (pipe_turn (level l.room)) (piped (map view_pipeline_part l.parts.items) l.self.next))
+    Rests l.fn.self (many (pipe_turn (level l.room)) (pipes_so_far [] l.fn.self.next)) (at_token l.fn.self)
+    (many (pipe_turn (level l.room)) (pipes_so_far (map view_pipeline_part l.parts.items) l.self.next))
     (at_token l.self) l.self
 
 abbrev pub decreases-pipes-turns : goal.decreases-pipes-turns
@@ -271,8 +272,8 @@ decreases-pipes-turns g l = length (text_of l.self) - start_of l.self
 
 abbrev pub invariant-joined_pipelines-turns : goal.invariant-joined_pipelines-turns
 invariant-joined_pipelines-turns g l =
-    Rests l.fn.self (many (and_or_turn (level l.room)) (joined_so [] l.fn.self.next)) (at_token l.fn.self)
-    (many (and_or_turn (level l.room)) (joined_so (map view_and_or_part l.parts.items) l.self.next))
+    Rests l.fn.self (many (and_or_turn (level l.room)) (and_or_so_far [] l.fn.self.next)) (at_token l.fn.self)
+    (many (and_or_turn (level l.room)) (and_or_so_far (map view_and_or_part l.parts.items) l.self.next))
     (at_token l.self) l.self
 
 abbrev pub decreases-joined_pipelines-turns : goal.decreases-joined_pipelines-turns
@@ -280,8 +281,8 @@ decreases-joined_pipelines-turns g l = length (text_of l.self) - start_of l.self
 
 abbrev pub invariant-entries-turns : goal.invariant-entries-turns
 invariant-entries-turns g l =
-    Rests l.fn.self (many (entry_turn (level l.room)) (list_so (view_listed l.fn.listed) l.fn.self.next))
-    (at_token l.fn.self) (many (entry_turn (level l.room)) (list_so (view_listed l.listed) l.self.next))
+    Rests l.fn.self (many (entry_turn (level l.room)) (list_so_far (view_listed l.fn.listed) l.fn.self.next))
+    (at_token l.fn.self) (many (entry_turn (level l.room)) (list_so_far (view_listed l.listed) l.self.next))
     (at_token l.self) l.self
 
 abbrev pub decreases-entries-turns : goal.decreases-entries-turns
@@ -289,8 +290,8 @@ decreases-entries-turns g l = length (text_of l.self) - start_of l.self
 
 abbrev pub invariant-list_lines-turns : goal.invariant-list_lines-turns
 invariant-list_lines-turns g l =
-    Rests l.fn.self (many (list_turn (level l.room)) (list_so (view_listed l.fn.listed) l.fn.self.next))
-    (at_token l.fn.self) (many (list_turn (level l.room)) (list_so (view_listed l.listed) l.self.next))
+    Rests l.fn.self (many (list_turn (level l.room)) (list_so_far (view_listed l.fn.listed) l.fn.self.next))
+    (at_token l.fn.self) (many (list_turn (level l.room)) (list_so_far (view_listed l.listed) l.self.next))
     (at_token l.self) l.self
 
 abbrev pub decreases-list_lines-turns : goal.decreases-list_lines-turns
@@ -298,8 +299,8 @@ decreases-list_lines-turns g l = length (text_of l.self) - start_of l.self
 
 abbrev pub invariant-elifs-turns : goal.invariant-elifs-turns
 invariant-elifs-turns g l =
-    Rests l.fn.self (many (elif_turn (level l.room)) (branched [] l.fn.self.next)) (at_token l.fn.self)
-    (many (elif_turn (level l.room)) (branched (map view_branch l.branches.items) l.self.next))
+    Rests l.fn.self (many (elif_turn (level l.room)) (branches_so_far [] l.fn.self.next)) (at_token l.fn.self)
+    (many (elif_turn (level l.room)) (branches_so_far (map view_branch l.branches.items) l.self.next))
     (at_token l.self) l.self
 
 abbrev pub decreases-elifs-turns : goal.decreases-elifs-turns
@@ -307,9 +308,10 @@ decreases-elifs-turns g l = length (text_of l.self) - start_of l.self
 
 abbrev pub invariant-more_patterns-turns : goal.invariant-more_patterns-turns
 invariant-more_patterns-turns g l =
-    Rests l.fn.self (many (pattern_turn (level l.room)) (patterned (map view_word l.fn.patterns.items) l.fn.self.next))
+    Rests l.fn.self (many (pattern_turn (level l.room))
+    (patterns_so_far (map view_word l.fn.patterns.items) l.fn.self.next))
     (at_token l.fn.self) (many (pattern_turn (level l.room))
-    (patterned (map view_word l.patterns.items) l.self.next)) (at_token l.self) l.self
+    (patterns_so_far (map view_word l.patterns.items) l.self.next)) (at_token l.self) l.self
 
 abbrev pub decreases-more_patterns-turns : goal.decreases-more_patterns-turns
 decreases-more_patterns-turns g l = length (text_of l.self) - start_of l.self
