@@ -175,10 +175,10 @@ module _ {g : Given} {inner : Inner} (fits : Fits g inner) where
       (λ w v so. alike_pick good _ refl (alike_then (alike_next _) (λ m k same. alike_give same)) alike_stop))))
       (alike_unexpected fits n)
 
-  alike_sep : (cs ds : Row Span) (n m : Next) → n ≡ m →
+  alike_sequential_sep : (cs ds : Row Span) (n m : Next) → n ≡ m →
       Alike g SameJoin (a_sequential_sep inner cs n) (a_sequential_sep inner ds m)
   unfolding a_sequential_sep
-  alike_sep cs ds n m same =
+  alike_sequential_sep cs ds n m same =
       alike_then (alike_at a_semicolon alike_semicolon n m same)
       (λ s z so. rw (← so) (alike_then (alike_linebreak cs ds s.1 s.1 refl)
       (λ l k is. alike_pick _ _ (ap (λ b. s.0 || b) is.0) (alike_give is)
@@ -199,7 +199,7 @@ module _ {g : Given} {inner : Inner} (fits : Fits g inner) where
       alike_then (alike_reserved_or_paren _ false _)
       (λ i j so. alike_then (alike_many SameItems (word_turn inner) (word_turn inner) alike_word_turn
       (items_so_far [] Suffix i.1) (items_so_far [] Suffix j.1) (refl, ap (λ (z : Span × Next). z.1) so))
-      (λ ws vs same. alike_then (alike_sep cs ds ws.next vs.next same.1) (λ l k is. alike_give is.1)))
+      (λ ws vs same. alike_then (alike_sequential_sep cs ds ws.next vs.next same.1) (λ l k is. alike_give is.1)))
 
   alike_for_head : (n : Next) → Alike g SameHead (a_for_head inner n) (a_for_head inner n)
   unfolding a_for_head

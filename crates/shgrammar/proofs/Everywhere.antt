@@ -99,10 +99,10 @@ module _ {g : Given} {limit : ℕ} where
         (λ p t. after (λ good u. first (word_in fine u) (λ w v one. picks good (after (λ m z. gives one)) stops))))
         (stopped inner n)
 
-    sep_in : (cs : Row Span) (n : Next) (s : State) → AreIn limit cs →
+    sequential_sep_in : (cs : Row Span) (n : Next) (s : State) → AreIn limit cs →
         UpTo g limit (a_sequential_sep inner cs n) (JoinIn limit) s
     unfolding a_sequential_sep
-    sep_in cs n s all = after (λ x t. first (linebreak_in cs x.1 t all)
+    sequential_sep_in cs n s all = after (λ x t. first (linebreak_in cs x.1 t all)
         (λ l u so. picks _ (gives so) (stopped inner l.next)))
 
     abbrev HeadIn : Headed → Type 0
@@ -120,7 +120,8 @@ module _ {g : Given} {limit : ℕ} where
     for_words_in cs s all =
         after (λ i t. first (repeats (ItemsIn limit) (word_turn inner) word_turn_in (items_so_far [] Suffix i.1) t
         (All-nil (ItemIn limit)))
-        (λ ws u items. first (sep_in cs ws.next u all) (λ l v so. gives (items_in limit ws.items items, so))))
+        (λ ws u items. first (sequential_sep_in cs ws.next u all)
+            (λ l v so. gives (items_in limit ws.items items, so))))
 
     for_head_in : (n : Next) (s : State) → UpTo g limit (a_for_head inner n) HeadIn s
     unfolding a_for_head

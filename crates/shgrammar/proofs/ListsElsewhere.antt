@@ -256,10 +256,10 @@ module _ {edition : Edition} {T U : List ℕ} {a M : ℕ} {to : ℕ → ℕ} {li
       (go_stop E o o2 B B2 stands stands_there)))))
       (stopped inner n)
 
-  sep_same : (cs ds : Row Span) (n m : Next) → SameComments B B2 cs ds → n ≡ m →
+  sequential_sep_same : (cs ds : Row Span) (n m : Next) → SameComments B B2 cs ds → n ≡ m →
       Goes2 (SameJoin B B2) (a_sequential_sep inner cs n) (a_sequential_sep inner ds m)
   unfolding a_sequential_sep
-  sep_same cs ds n m all same =
+  sequential_sep_same cs ds n m all same =
       then (semicolon n m same) (λ s z so. then (linebreak cs ds s.1 z.1 all (ap (λ (x : Bool × Next). x.1) so))
       (λ l k is. picks (s.0 || l.join.broken) (z.0 || k.join.broken) (rw (so, is.0) refl) (gives is)
       (stopped inner l.next)))
@@ -281,7 +281,7 @@ module _ {edition : Edition} {T U : List ℕ} {a M : ℕ} {to : ℕ → ℕ} {li
       then (reserved_or_paren_same _ false _)
       (λ i j so. then (repeats (SameItems B B2) (word_turn inner) (word_turn inner) word_on (items_so_far [] Suffix i.1)
       (items_so_far [] Suffix j.1) (refl, (refl, so)))
-      (λ ws vs same. then (sep_same cs ds ws.next vs.next all same.1.1)
+      (λ ws vs same. then (sequential_sep_same cs ds ws.next vs.next all same.1.1)
       (λ l k is. gives (rw (items_same B B2 ws vs same) refl, is.1))))
 
   for_head_same : (n m : Next) → n ≡ m → Goes2 SameHead (a_for_head inner n) (a_for_head inner m)

@@ -237,10 +237,10 @@ module _ (z : Place) where
         (λ w so. moves_pick good (moves_then (moves_next z _) (λ m all. moves_give refl tt)) moves_stop))))
         (moves_unexpected z inner fits n)
 
-    moves_sep : (cs : Row Span) (n : Next) →
+    moves_sequential_sep : (cs : Row Span) (n : Next) →
         Moves z (join_so_far_to z) Any (a_sequential_sep inner cs n) (a_sequential_sep inner (map (span_to k) cs) n)
     unfolding a_sequential_sep
-    moves_sep cs n = moves_then (moves_semicolon z n)
+    moves_sequential_sep cs n = moves_then (moves_semicolon z n)
         (λ s so. moves_then (moves_linebreak cs s.1)
         (λ l all. moves_pick _ (moves_give refl tt) (moves_unexpected z inner fits l.next)))
 
@@ -260,7 +260,7 @@ module _ (z : Place) where
         moves_then (moves_reserved_or_paren _ false _)
         (λ i so. moves_then (moves_many (items_to z) Any Any (word_turn inner) (word_turn inner)
         (λ j all. moves_word_turn j) (λ j all. tt) (items_so_far [] Suffix i.1) tt)
-        (λ ws so2. moves_then (moves_sep cs ws.next)
+        (λ ws so2. moves_then (moves_sequential_sep cs ws.next)
         (λ l so3. moves_give (ap (λ is. headed (in_words is) (join_so_far_to z l)) (items_row k deep ws.items)) tt)))
 
     moves_for_head : (n : Next) → Moves z headed_to Any (a_for_head inner n) (a_for_head inner n)

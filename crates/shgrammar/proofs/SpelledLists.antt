@@ -230,9 +230,9 @@ module _ {B : List ℕ} {g : Given} {stands : g.text ≡ drop g.offset B} {inner
       (pass_stop g)))))
       (pass_unexpected g inner n s)
 
-  silent_sep : (cs : Row Span) (n : Next) (s : State) → Passing g (a_sequential_sep inner cs n) (Silent g) s
+  silent_sequential_sep : (cs : Row Span) (n : Next) (s : State) → Passing g (a_sequential_sep inner cs n) (Silent g) s
   unfolding a_sequential_sep
-  silent_sep cs n s =
+  silent_sequential_sep cs n s =
       pass_on g (silent_semicolon g n s)
       (λ x t. pass_on g (silent_linebreak g cs x.1 t)
       (λ l u. pass_pick g (x.0 || l.join.broken) (pass_give g refl) (pass_unexpected g inner l.next u)))
@@ -252,7 +252,7 @@ module _ {B : List ℕ} {g : Given} {stands : g.text ≡ drop g.offset B} {inner
       pass_then g (pass_reserved_or_paren (closing_text closings.In) false _ s)
       (λ i t k is. pass_then g (pass_many g (spelled_items B) (word_turn inner) pass_word_turn
       (items_so_far [] Suffix i.1) t) (λ ws u l so.
-      pass_on g (silent_sep cs ws.next u) (λ x v. pass_give g (rw (is, append-nil l, ← so) refl))))
+      pass_on g (silent_sequential_sep cs ws.next u) (λ x v. pass_give g (rw (is, append-nil l, ← so) refl))))
 
   pass_for_head : (n : Next) (s : State) → Passing g (a_for_head inner n) HeadSpelled s
   unfolding a_for_head

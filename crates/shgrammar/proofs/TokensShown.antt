@@ -377,9 +377,10 @@ module _ (g : Given) where
         (record { told = tt })))))
         (stops inner n)
 
-    shown_sep : (cs : Row Span) (n : Next) (s : State) → Begins n s → N (a_sequential_sep inner cs n) JoinShown s
+    shown_sequential_sep : (cs : Row Span) (n : Next) (s : State) → Begins n s →
+        N (a_sequential_sep inner cs n) JoinShown s
     unfolding a_sequential_sep
-    shown_sep cs n s so = tells_then Whole g (shown_semicolon n s so)
+    shown_sequential_sep cs n s so = tells_then Whole g (shown_semicolon n s so)
         (λ x t one. tells_then Whole g (shown_linebreak cs x.1 t one)
         (λ l u good. picked _ (gives good) (stops inner l.next)))
 
@@ -399,7 +400,7 @@ module _ (g : Given) where
         tells_then Whole g (shown_reserved_or_paren _ false _ s)
         (λ i t one. tells_then Whole g
         (tells_many Whole g (word_turn inner) ItemsShown shown_word_turn (items_so_far [] Suffix i.1) t one)
-        (λ ws u two. tells_then Whole g (shown_sep cs ws.next u two) (λ l v good. gives good)))
+        (λ ws u two. tells_then Whole g (shown_sequential_sep cs ws.next u two) (λ l v good. gives good)))
 
     shown_for_head : (n : Next) (s : State) → Begins n s → N (a_for_head inner n) HeadShown s
     unfolding a_for_head

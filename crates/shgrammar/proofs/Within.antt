@@ -590,10 +590,10 @@ module _ (keep : Keep) (g : Given) (limit : ℕ) where
     unfolding a_linebreak
     linebreak_fits cs n s all = repeats JoinFits join_turn join_turn_fits _ s all
 
-    sep_fits : (cs : Row Span) (n : Next) (s : State) → All (CommentFits limit) cs →
+    sequential_sep_fits : (cs : Row Span) (n : Next) (s : State) → All (CommentFits limit) cs →
         R (a_sequential_sep inner cs n) JoinFits s
     unfolding a_sequential_sep
-    sep_fits cs n s all = after (λ x t. first (linebreak_fits cs x.1 t all)
+    sequential_sep_fits cs n s all = after (λ x t. first (linebreak_fits cs x.1 t all)
         (λ l u so. picks _ (gives so) (stopped l.next)))
 
     abbrev HeadFits : Headed → Type 0
@@ -608,7 +608,8 @@ module _ (keep : Keep) (g : Given) (limit : ℕ) where
     for_words_fit cs s all =
         after (λ i t. first (repeats ItemsFit (word_turn inner) word_turn_fits (items_so_far [] Suffix i.1) t
         (All-nil (ItemFits limit)))
-        (λ ws u items. first (sep_fits cs ws.next u all) (λ l v so. gives (fits_items limit ws.items items, so))))
+        (λ ws u items. first (sequential_sep_fits cs ws.next u all)
+            (λ l v so. gives (fits_items limit ws.items items, so))))
 
     for_head_fits : (n : Next) (s : State) → R (a_for_head inner n) HeadFits s
     unfolding a_for_head

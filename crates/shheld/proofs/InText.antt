@@ -548,10 +548,10 @@ module _ (g : Given) where
         (record { told = tt }))))
         (stops inner n)
 
-    sep_in : (cs : Row Span) (n : Next) (s : State) → Handed n s
+    sequential_sep_in : (cs : Row Span) (n : Next) (s : State) → Handed n s
         → N (a_sequential_sep inner cs n) JoinHanded s
     unfolding a_sequential_sep
-    sep_in cs n s so =
+    sequential_sep_in cs n s so =
         semicolon_in n s so ▹ λ x t one. linebreak_in cs x.1 t one ▹ λ l u good.
         picked_by (x.0 || l.join.broken) (λ e. gives good) (stops inner l.next)
 
@@ -568,7 +568,7 @@ module _ (g : Given) where
     for_words_in cs s is =
         reserved_or_paren_in _ false _ s is ▹ λ i t one.
         tells_many Whole g (word_turn inner) ItemsHanded word_turn_in _ t one ▹ λ ws u two.
-        sep_in cs ws.next u two ▹ λ l v good. gives good
+        sequential_sep_in cs ws.next u two ▹ λ l v good. gives good
 
     for_head_in : (n : Next) (s : State) → Handed n s → N (a_for_head inner n) HeadHanded s
     unfolding a_for_head

@@ -192,10 +192,10 @@ module _ (g : Given) where
         (λ w t one. picks g _ (next_given g Command t) (stops g)))))
         (stopped g inner fine n)
 
-    sep_on : (cs : Row Span) (n : Next) (s : State) → Begins g n s
+    sequential_sep_on : (cs : Row Span) (n : Next) (s : State) → Begins g n s
         → Goes g (a_sequential_sep inner cs n) (JoinShown g) s
     unfolding a_sequential_sep
-    sep_on cs n s so =
+    sequential_sep_on cs n s so =
         first g (semicolon_on g n s so) (λ x t one. first g (linebreak_on cs x.1 t one)
         (λ l u good. picks g _ (gives g good) (stopped g inner fine l.next)))
 
@@ -215,7 +215,7 @@ module _ (g : Given) where
     for_words_on cs s =
         first g (reserved_or_paren_only _ false Suffix s)
         (λ i t one. first g (repeats g (ItemsShown g) word_turn_on (items_so_far [] Suffix i.1) t one)
-        (λ ws u two. first g (sep_on cs ws.next u two) (λ l v good. gives g good)))
+        (λ ws u two. first g (sequential_sep_on cs ws.next u two) (λ l v good. gives g good)))
 
     for_head_on : (n : Next) (s : State) → Begins g n s → Goes g (a_for_head inner n) HeadShown s
     unfolding a_for_head

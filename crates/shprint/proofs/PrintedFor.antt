@@ -117,14 +117,14 @@ module _ {edition : Edition} {B T : List ℕ} {o : ℕ} {S : StandsIn edition B 
     texts : Adds S h later no_more
 
   -- `;` and the word after it
-  sep_read : (h : Held) (e : ℕ) (w : Text) (r : Reserved) (ms : Marks) → Key S w r ms →
+  sequential_sep_read : (h : Held) (e : ℕ) (w : Text) (r : Reserved) (ms : Marks) → Key S w r ms →
       At S h e (text (codes "; ") ∷ text w ∷ ms)
       → (k : ReservedRead S h (past_blanks T e + 1) r ms)
       × Gives (g S) (a_sequential_sep (level room) [] (asked S Command e)) (state h (past_blanks T e))
       (join_so_far (a_join_of false []) (asked S Command (past_blanks T e + 1)))
       (state h (past_blanks T (past_blanks T e + 1)))
   unfolding a_sequential_sep a_semicolon
-  sep_read h e w r ms key at =
+  sequential_sep_read h e w r ms key at =
       let there = at ∙ laid_text h (codes "; ") (text w ∷ ms) in
       let gap = no_gap (start_here (byte_here T e semicolon (space ∷ lay h (text w ∷ ms)) refl there) refl) in
       let q = past_blanks T e in
@@ -157,7 +157,7 @@ module _ {edition : Edition} {B T : List ℕ} {o : ℕ} {S : StandsIn edition B 
       let is = items_read S room y m some_margin.0 some_margin.1
       (deeper_blank y m blank) some_margin.2 X follower.follow
       (follower_after S follower refl) h good.items [] k.f (λ none. (and_parts _ _ normal).0) k.at in
-      let sep = sep_read is.later is.«end» (codes "do") reserved.Do ms (do_key S ms stop) is.at in
+      let sep = sequential_sep_read is.later is.«end» (codes "do") reserved.Do ms (do_key S ms stop) is.at in
       let n = asked S Command f in
       let q = past_blanks T f in
       record {

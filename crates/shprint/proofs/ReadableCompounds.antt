@@ -336,10 +336,10 @@ module _ (B : List ℕ) (g : Given) (here : g.text ≡ drop g.offset B) where
           (record { reads = λ D s docs. record { told = tt } })))))
           (stopped g inner n)
 
-      reads_sep : (cs : Row Span) (n : Next) (p : ℕ) → Comments B g here cs →
+      reads_sequential_sep : (cs : Row Span) (n : Next) (p : ℕ) → Comments B g here cs →
           Reads g (a_sequential_sep inner cs n) (λ l e. Comments B g here l.join.comments × Stands g Command l.next e) p
       unfolding a_sequential_sep
-      reads_sep cs n p good =
+      reads_sequential_sep cs n p good =
           first g (reads_semicolon g ⊥ n p (λ no. absurd no))
           (λ s e one. first g (reads_linebreak B g here (s.0 ≡ true) cs s.1 e good (λ y. one.1 y)) (λ l f two.
           picks g (s.0 || l.join.broken) (λ is. gives g (two.0, two.1 (or_parts B g here _ _ is)))
@@ -386,7 +386,7 @@ module _ (B : List ℕ) (g : Given) (here : g.text ≡ drop g.offset B) where
           first g (reads_reserved_or_paren g _ _ _ p) (λ i e stands.
           first g (repeats g (word_turn inner) WordsSo WordsSo WordsDone reads_word_turn (λ j d on. on) words_are
           (items_so_far [] Suffix i.1) e (record { good = none_more; stands = stands })) (λ ws f words.
-          first g (reads_sep cs ws.next f good) (λ l h lines. gives g (words, lines.0, lines.1))))
+          first g (reads_sequential_sep cs ws.next f good) (λ l h lines. gives g (words, lines.0, lines.1))))
 
       reads_for_head : (n : Next) (p : ℕ) → Stands g Command n p → Reads g (a_for_head inner n) HeadGood p
       unfolding a_for_head
