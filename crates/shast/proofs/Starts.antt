@@ -1,4 +1,4 @@
--- The nodes of a tree begin where spans of it begin: what holds of the begin of each
+-- The nodes of a tree begin where spans of it begin: what holds of the start of each
 -- span holds of that of each node.
 use Rattle.std.proofs.Common.{ℕ, List as Row, [], ◌∷◌, ◌++◌, map, Option, Some, None}
 use Rattle.std.specs.Prelude.{All, unwrap_or}

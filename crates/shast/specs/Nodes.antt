@@ -28,7 +28,7 @@ abbrev pub last_item : Span → Items → Span
 last_item before no_item = before
 last_item before (more_items i is) = last_item (item_span i) is
 
--- from the first item to the last; no items, which no script has, are the empty text at the begin
+-- from the first item to the last; no items, which no script has, are the empty text at the start
 abbrev pub items_span : Items → Span
 items_span no_item = record { start = 0; «end» = 0 }
 items_span (more_items i is) = through (item_span i) (last_item (item_span i) is)

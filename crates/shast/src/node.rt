@@ -6,7 +6,7 @@ use crate::tree::Span;
 
 /// A node of a script's tree: what stands where in the text that holds the script.
 ///
-/// Its offsets count bytes from the begin of that text.
+/// Its offsets count bytes from the start of that text.
 #[derive(Clone, Copy, Debug, PartialEq, Eq)]
 pub struct NodeLine {
     /// The offset of its first byte.

@@ -72,7 +72,7 @@ fn run_on_ends(rt: &HostRuntime, settings: &Settings<'_>, mut file: Option<Input
     )
 }
 
-/// How far below its begin the stack of a session goes (`tests/stack --least`).
+/// How far below its start the stack of a session goes (`tests/stack --least`).
 const DEEPEST: usize = 376 * 1024;
 
 /// Whether a session has an input, without which FILE would be opened in its place.

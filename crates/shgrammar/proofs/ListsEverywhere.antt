@@ -103,7 +103,7 @@ module _ {g : Given} {limit : ℕ} where
   operator_in_by p (Some o) s = first bare_token (λ x t one. gives one)
   operator_in_by p None s = stops
 
-  -- until its level ends, the body is the empty text at the begin
+  -- until its level ends, the body is the empty text at the start
   document_in_by : (b p : ℕ) (strip : Bool) (d : Option ADelimiter) (s : State) →
       UpTo g limit (document_by b p strip d) (HereIn limit) s
   document_in_by b p strip (Some d) s = after (λ u t. gives (omega arith, omega arith))

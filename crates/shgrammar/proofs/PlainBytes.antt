@@ -215,7 +215,7 @@ pub ordinary_here : (edition : Edition) →
 ordinary_here edition inner keep ws ds T o mode b ss p q piece plain low high =
     ordinary_contents inner keep (given edition T o) mode b ws ds ss p q piece plain low high
 
--- plain bytes at the begin of a construct, by how many more may be opened
+-- plain bytes at the start of a construct, by how many more may be opened
 pub plain_begin : (edition : Edition) →
     (room : ℕ) (keep : Keep) (ws : Row Waiting) (ds : Row Span) (T : List ℕ) (o : ℕ) (mode : Mode) (b : ℕ)
     (ss : Row ASubst) (p q : ℕ) → 0 < room → ArePlain mode T p q → p ≤ q → q ≤ length T
@@ -235,7 +235,7 @@ plain_word edition inner keep ws ds T o p q plain low high end =
     rw (plain_closed inner keep (given edition T o) Plain (o + p) ws ds [] p q plain low high
     (ap (piece_in edition Plain) (word_closes T q end))) refl
 
--- plain bytes at the begin of a word, and what follows them
+-- plain bytes at the start of a word, and what follows them
 pub word_rest : (edition : Edition) →
     (inner : Inner) (keep : Keep) (ws : Row Waiting) (ds : Row Span) (T : List ℕ) (o p q : ℕ) (ss : Row ASubst)
     (t : State) → ArePlain Plain T p q → p ≤ q → q ≤ length T

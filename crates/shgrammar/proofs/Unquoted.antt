@@ -70,7 +70,7 @@ pub joined_end : (word : List ℕ) (p q : ℕ) → length word ≤ q → past_co
     byte_at word p ≡ None
 joined_end word p q le is = ap (slice_get word) (is ∙ joined_none word q (none_past word q le)) ∙ past_end word q le
 
--- what is read at a place is read at the begin of the rest
+-- what is read at a place is read at the start of the rest
 rest_byte : (word : List ℕ) (p : ℕ) → byte_at (drop p word) 0 ≡ byte_at word p
 unfolding past_continuations
 rest_byte word p =

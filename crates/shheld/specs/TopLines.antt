@@ -20,7 +20,7 @@ IsTopLine edition text l = IsLine edition text (as_read l)
 abbrev pub script_of : Row (HeldLine AKind) → AScript
 script_of row = lines_joined (map as_read row) no_entry false 0
 
--- The window of an edit of the bytes, from w up to t: it begins at the greatest boundary not after the begin
+-- The window of an edit of the bytes, from w up to t: it begins at the greatest boundary not after the start
 -- of the first splice. It ends at the least boundary of the new text that is not before the end of the last
 -- one's bytes and whose old place is a boundary too; where there is none, at the end.
 abbrev pub HasWindow : Edition → List ℕ → Row ASplice → ℕ → ℕ → Type 0

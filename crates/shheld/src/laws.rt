@@ -17,7 +17,7 @@ pub fn top_lines()
 {}
 
 /// Each edit of any bytes has a window, and only one. If its splices lie in the bytes and rise, the window
-/// begins at or before the first of them, and ends within the edited bytes, at its begin or after that.
+/// begins at or before the first of them, and ends within the edited bytes, at its start or after that.
 pub fn windows()
     ensures some { (edition : Edition) (bytes : List ℕ) (ss : Row ASplice) →
         (w t : ℕ) × HasWindow edition bytes ss w t }

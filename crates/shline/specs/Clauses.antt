@@ -85,7 +85,7 @@ Inside cursor p = on cursor p ≤ length (text_of cursor)
 abbrev pub Between : {S : Type 0} {k : ℕ} {g : _} → Cursor S k g → ℕ → ℕ → Type 0
 Between cursor p q = (p ≤ q) × Inside cursor q
 
--- two bytes at least are read from the begin of the token in hand on
+-- two bytes at least are read from the start of the token in hand on
 abbrev pub IsLong : {S : Type 0} {k : ℕ} {g : _} → Cursor S k g → Type 0
 IsLong cursor = IsRead (text_of cursor) (start_of cursor)
     × IsRead (text_of cursor) (past_byte (text_of cursor) (start_of cursor))
@@ -162,7 +162,7 @@ Holds old new = Stays old new × (new.next ≡ old.next) × (start_of new ≡ st
 abbrev pub Moves : {S : Type 0} {k : ℕ} {g : _} → Cursor S k g → Cursor S k g → ℕ → Type 0
 Moves old new p = (here_of new ≡ p) × (here_of old ≤ here_of new) × Stays old new
 
--- the same of a place after the begin of the token in hand
+-- the same of a place after the start of the token in hand
 abbrev pub Steps : {S : Type 0} {k : ℕ} {g : _} → Cursor S k g → Cursor S k g → ℕ → Type 0
 Steps old new p = (here_of new ≡ p) × (start_of old < here_of new) × Stays old new
 

@@ -1,4 +1,4 @@
--- What the token in hand says of the bytes from its begin on. It does not unfold by itself: few functions
+-- What the token in hand says of the bytes from its start on. It does not unfold by itself: few functions
 -- ask.
 use Rattle.std.specs.Prelude.{ℕ, List}
 use Rattle.shgrammar.specs.declared.token.Token.{Token}

@@ -77,7 +77,7 @@ impl<'a, S: Source, const TREE: u8> Cursor<'a, S, TREE> {
     ghost use Rattle.shgrammar.specs.Form.{grows};
     ghost use Rattle.shgrammar.specs.Sights.{standing};
 
-    /// The begin of a line, which is read so, in this spare room where there is some.
+    /// The start of a line, which is read so, in this spare room where there is some.
     pub(crate) fn at_line(
         alloc: Global,
         source: &'a S,

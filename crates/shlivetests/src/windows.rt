@@ -7,7 +7,7 @@ use shtreetests::spliced::spliced_all;
 use std::alloc::Global;
 use std::test::Fail;
 
-/// The boundaries of a script: its begin, and the end of each line that ended.
+/// The boundaries of a script: its start, and the end of each line that ended.
 fn boundaries(alloc: Global, bytes: &[u8]) -> Result<Vec<usize>, Fail> {
     let source = Flat::new(bytes);
     let mut reader = Reader::new(alloc);

@@ -1,4 +1,4 @@
--- What a line of which nothing is kept tells of the first fault from its begin on.
+-- What a line of which nothing is kept tells of the first fault from its start on.
 use Rattle.std.proofs.Common.{◌≡◌, ℕ, ◌+◌, ◌≤◌, Bool, true, false, Ok, Err, List, Result, IfOk, drop, length, map, arith}
 use Rattle.shgrammar.specs.declared.edition.Edition.{Edition}
 use Rattle.shgrammar.specs.declared.keep.Keep.TheVariants.{Nothing}

@@ -256,7 +256,7 @@ const SCRIPTS: &[u8] = br#"
 ("f() { echo $(a | b); }\n" at 17)
 "#;
 
-/// What a reader is asked for: the line at the begin of a script, or the script.
+/// What a reader is asked for: the line at the start of a script, or the script.
 #[derive(Clone, Copy)]
 enum Part {
     Line,

@@ -18,7 +18,7 @@ apart bytes p k low within line column false is =
     let step : since_newline (take (k + 1) bytes) ≡ since_newline (take k bytes) + 1 = (stays bytes k within is).1 in
     omega (arith, column, step)
 
--- no place before the begin of a line is in it
+-- no place before the start of a line is in it
 same_start : (bytes : List ℕ) (p q : ℕ) → p ≤ q → q ≤ length bytes → line_of bytes p ≡ line_of bytes q →
     column_of bytes q ≡ 1 → p ≡ q
 same_start bytes p q low within line column =

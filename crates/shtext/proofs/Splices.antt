@@ -120,7 +120,7 @@ edited_long bytes ss range rising =
 
 -- ---- as one
 
--- the bytes between the begin of the first and the end of the last
+-- the bytes between the start of the first and the end of the last
 abbrev pub held_between : List ℕ → Row ASplice → List ℕ
 held_between bytes ss = take (last_end ss - first_begin ss) (drop (first_begin ss) bytes)
 

@@ -48,7 +48,7 @@ between B p at k low high within same newline =
     omega (arith, high) in ap (line_of B) there in
     omega (arith, next, before, here, after, end, same)
 
--- the byte before the begin of a line is a newline
+-- the byte before the start of a line is a newline
 begun_after : (B : List ℕ) (k : ℕ) → k < length B → column_of B (k + 1) ≡ 1 → (x : Bool) →
     is_newline (get_or B k 0) ≡ x → is_newline (get_or B k 0) ≡ true
 begun_after B k within column true is = is

@@ -45,7 +45,7 @@ impl Both {
         Ok(old)
     }
 
-    /// The begin and the end of so many bytes at most, at a random place.
+    /// The start and the end of so many bytes at most, at a random place.
     pub fn part(&self, dice: &mut Dice, most: usize) -> (usize, usize) {
         let a = dice.below(self.bytes.len().saturating_add(1));
         let b = a.saturating_add(dice.below(most)).min(self.bytes.len());

@@ -173,7 +173,7 @@ pub fn split(row: &[Cell]) -> Result<(&[Cell], &Cell), Fail> {
     }
 }
 
-/// The splices that pairs of cells tell, as `"from" 1, "x" to 3` does: the begin stands after `from`, the
+/// The splices that pairs of cells tell, as `"from" 1, "x" to 3` does: the start stands after `from`, the
 /// end after the bytes that come.
 pub fn splices(alloc: Global, cells: &[Cell]) -> Result<Vec<Splice<'_>>, Fail> {
     let mut splices = Vec::new(alloc);

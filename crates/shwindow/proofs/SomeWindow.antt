@@ -33,7 +33,7 @@ module _ {K : Type 0} (Is : List ℕ → HeldLine K → Type 0) (laws : Reads Is
     walk = walk_below (suc (length B)) 0 (omega arith)
 
   module _ (B : List ℕ) where
-    -- after the begin of a line the next boundary is its end, and there is none if it did not end
+    -- after the start of a line the next boundary is its end, and there is none if it did not end
     none_after : (p s : ℕ) (l : HeldLine K) → IsBoundary Is B p → IsBoundary Is B s → Is (drop p B) l
         → l.ended ≡ false → s ≤ p
     none_after p s l at there is not_ended =
