@@ -14,6 +14,7 @@ use Rattle.clap.specs.declared.parser.matches.ValueSource.TheVariants.{CommandLi
 use Rattle.shform.specs.declared.asked.Settings.{Settings}
 use Rattle.shform.specs.declared.asked.Tool.{Tool}
 use Rattle.shform.specs.declared.asked.Tool.TheVariants.{Check, Print, Session}
+use Rattle.shgrammar.specs.Characters.{hyphen}
 use Rattle.shgrammar.specs.declared.edition.Edition.TheVariants.{Y2017}
 use Rattle.shprint.specs.declared.layout.Layout.{Layout}
 use Rattle.shform.specs.Words.{AreToolAndFile, AreSettingsOf, AreYears, IsFlag, IsLayoutFor, Years, check_app, file_in, file_rule, flag_rule, print_app, app_with_all_tools}
@@ -46,7 +47,7 @@ record Taken (years : Years) (name file : Text) (rows : List Row) : Type 0 where
   matches : subcommand_of (app_with_all_tools years) (name ∷ file ∷ []) ≡ Some (name, rows)
   faultless : fault_of (app_with_all_tools years) (name ∷ file ∷ []) ≡ []
 
-module _ (c : ℕ) (cs : Text) (plain : (c == 45) ≡ false) where
+module _ (c : ℕ) (cs : Text) (plain : (c == hyphen) ≡ false) where
   abbrev word : Text
   word = c ∷ cs
 
@@ -146,11 +147,11 @@ plain_run words Check layout file (c ∷ cs) is are plain =
       are_years = refl;
       name = codes "check";
       own = check_rows (c ∷ cs);
-      matches = (check c cs (unless (c == 45) are.1) years).matches;
+      matches = (check c cs (unless (c == hyphen) are.1) years).matches;
       tool = refl;
       edition = refl;
       layout = plain;
-      file = ap Some is ∙ sym (no_input c cs (unless (c == 45) are.1));
+      file = ap Some is ∙ sym (no_input c cs (unless (c == hyphen) are.1));
     })
 plain_run words Print layout file (c ∷ cs) is are plain =
     subst (λ w. AreSettingsOf w (run Print layout file)) (sym are.0) (record {
@@ -158,7 +159,7 @@ plain_run words Print layout file (c ∷ cs) is are plain =
       are_years = refl;
       name = codes "print";
       own = print_rows (c ∷ cs);
-      matches = (print c cs (unless (c == 45) are.1) years).matches;
+      matches = (print c cs (unless (c == hyphen) are.1) years).matches;
       tool = refl;
       edition = refl;
       layout = record {
@@ -167,7 +168,7 @@ plain_run words Print layout file (c ∷ cs) is are plain =
         space_redirects = off layout.space_redirects (ap (λ l. l.space_redirects) plain);
         func_next_line = off layout.func_next_line (ap (λ l. l.func_next_line) plain);
       };
-      file = ap Some is ∙ sym (no_input c cs (unless (c == 45) are.1));
+      file = ap Some is ∙ sym (no_input c cs (unless (c == hyphen) are.1));
     })
 plain_run words Check layout file [] is are plain = let never : false ≡ true = are.1 in cc
 plain_run words Print layout file [] is are plain = let never : false ≡ true = are.1 in cc
@@ -179,12 +180,12 @@ pub plain_passes : (words : List Text) (tool : Tool) (file : Text) → AreToolAn
 plain_passes words Check (c ∷ cs) are = (
   years,
   refl,
-  ap (fault_of (app_with_all_tools years)) are.0 ∙ (check c cs (unless (c == 45) are.1) years).faultless,
+  ap (fault_of (app_with_all_tools years)) are.0 ∙ (check c cs (unless (c == hyphen) are.1) years).faultless,
 )
 plain_passes words Print (c ∷ cs) are = (
   years,
   refl,
-  ap (fault_of (app_with_all_tools years)) are.0 ∙ (print c cs (unless (c == 45) are.1) years).faultless,
+  ap (fault_of (app_with_all_tools years)) are.0 ∙ (print c cs (unless (c == hyphen) are.1) years).faultless,
 )
 plain_passes words Check [] are = let never : false ≡ true = are.1 in cc
 plain_passes words Print [] are = let never : false ≡ true = are.1 in cc

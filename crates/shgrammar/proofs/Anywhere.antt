@@ -1,5 +1,6 @@
 -- A word is read wherever its bytes stand, before a byte that ends words and is no `(`.
 use Rattle.std.proofs.Common.{◌≡◌, ℕ, zero, suc, ◌+◌, ◌-◌, ◌<◌, true, false, Ok, Err, List, List as Row, [], ◌∷◌, ◌++◌, map, take, drop, slice_get, refl, sym, ap, subst, ◌∙◌, arith}
+use Rattle.shgrammar.specs.Characters.{left_parenthesis}
 use Rattle.shgrammar.specs.declared.keep.Keep.TheVariants.{Whole}
 use Rattle.shgrammar.specs.declared.mode.Mode.{Mode}
 use Rattle.shgrammar.specs.declared.mode.Mode.TheVariants.{Plain}
@@ -107,7 +108,7 @@ padded_is zero T = refl
 padded_is (suc o) T = padded_is o T
 
 module _ (room : ℕ) (g h : Given) (p q n : ℕ) (same : take n (drop q h.text) ≡ take n (drop p g.text))
-    (ender : ends (byte_at h.text (q + n)) ≡ true) (no_open : is_byte (byte_at h.text (q + n)) 40 ≡ false)
+    (ender : ends (byte_at h.text (q + n)) ≡ true) (no_open : is_byte (byte_at h.text (q + n)) left_parenthesis ≡ false)
     (B C : List ℕ) (stands_in : g.text ≡ drop g.offset B) (stands_there : h.text ≡ drop h.offset C) where
   -- the other text, read by the edition of this one
   abbrev k : Given
@@ -125,8 +126,9 @@ module _ (room : ℕ) (g h : Given) (p q n : ℕ) (same : take n (drop q h.text)
   here_ends : ends (byte_at h.text (from_to p q (p + n))) ≡ true
   here_ends = subst (λ r. ends (byte_at h.text r) ≡ true) (sym end_there) ender
 
-  here_no_open : is_byte (byte_at g.text (p + n)) 40 ≡ false → is_byte (byte_at h.text (from_to p q (p + n))) 40 ≡ false
-  here_no_open e = subst (λ r. is_byte (byte_at h.text r) 40 ≡ false) (sym end_there) no_open
+  here_no_open : is_byte (byte_at g.text (p + n)) left_parenthesis ≡ false →
+      is_byte (byte_at h.text (from_to p q (p + n))) 40 ≡ false
+  here_no_open e = subst (λ r. is_byte (byte_at h.text r) left_parenthesis ≡ false) (sym end_there) no_open
 
   abbrev over : State → State
   over s = there K g.offset h.offset s
@@ -220,7 +222,8 @@ word_may room h q n v e =
 pub same_word : (room : ℕ) (g h : Given) (p q n : ℕ) (w : AWord) (told : Row Spelled) →
     may (a_word (level room)) g (standing p) (Ok (w, standing (p + n))) told →
     take n (drop q h.text) ≡ take n (drop p g.text)
-    → ends_word h.text (q + n) ≡ true → stands h.text (q + n) 40 ≡ false → (B C : List ℕ) → g.text ≡ drop g.offset B →
+    → ends_word h.text (q + n) ≡ true → stands h.text (q + n) left_parenthesis ≡ false → (B C : List ℕ) →
+    g.text ≡ drop g.offset B →
     h.text ≡ drop h.offset C
     → WordOf room (given g.edition h.text h.offset) q n C (shape_of_word B w)
 unfolding ends_word stands
@@ -230,7 +233,8 @@ same_word room g h p q n w told part same ender no_open B C stands_in stands_the
     (v.0, (word_may room (given g.edition h.text h.offset) q n v.0 v.1.0, sym v.1.1))
 
 pub anywhere : (room : ℕ) (g h : Given) (p q n : ℕ) → ReadsWord room g p n →
-    take n (drop q h.text) ≡ take n (drop p g.text) → ends_word h.text (q + n) ≡ true → stands h.text (q + n) 40 ≡ false
+    take n (drop q h.text) ≡ take n (drop p g.text) → ends_word h.text (q + n) ≡ true →
+    stands h.text (q + n) left_parenthesis ≡ false
     → ReadsWord room (given g.edition h.text h.offset) q n
 anywhere room g h p q n (w, part) same ender no_open =
     let v = same_word room g h p q n w _ part same ender no_open (padded g.offset g.text) (padded h.offset h.text)

@@ -6,6 +6,7 @@ use Rattle.std.proofs.lemmas.Bool.{and_parts, cases_lt}
 use Rattle.std.proofs.Math.Seq.{take-add}
 use Rattle.std.proofs.lemmas.Bool.Decides.{nat_tests}
 use Rattle.std.proofs.lemmas.List.{drop-drop, length-append, length-drop, length-take-le, take-append-drop, take-append-le}
+use Rattle.shgrammar.specs.Characters.{newline_char, tab}
 use Rattle.shgrammar.specs.Standing.{count_front, raw_past}
 use Rattle.shgrammar.specs.Sights.{Waiting}
 use Rattle.shgrammar.specs.HereDocuments.{ADelimiter, stripped, past_line, is_delimiter, takes_newline, delimiter_on, delimiter_from}
@@ -32,18 +33,19 @@ bytes_same (b ∷ xs) (c ∷ ys) is =
 -- ---- tabs that are taken off
 
 stripped_twice_by : (b : ℕ) (X : List ℕ) →
-    drop (count_front (λ c. c == 9) (drop (count_front (λ c. c == 9) X) X)) (drop (count_front (λ c. c == 9) X) X)
-    ≡ drop (count_front (λ c. c == 9) X) X
-    → (t : Bool) → (b == 9) ≡ t → stripped true (stripped true (b ∷ X)) ≡ stripped true (b ∷ X)
+    drop (count_front (λ c. c == tab) (drop (count_front (λ c. c == tab) X) X)) (drop (count_front (λ c. c == tab) X) X)
+    ≡ drop (count_front (λ c. c == tab) X) X
+    → (t : Bool) → (b == tab) ≡ t → stripped true (stripped true (b ∷ X)) ≡ stripped true (b ∷ X)
 unfolding count_front
-stripped_twice_by b X more true is = let next : 1 + count_front (λ c. c == 9) X ≡ suc (count_front (λ c. c == 9) X) =
+stripped_twice_by b X more true is = let next : 1 + count_front (λ c. c == tab) X
+    ≡ suc (count_front (λ c. c == tab) X) =
     omega arith in rw (is, next) more
 stripped_twice_by b X more false is = rw is (rw is refl)
 
 stripped_more : (X : List ℕ) → stripped true (stripped true X) ≡ stripped true X
 unfolding count_front
 stripped_more [] = refl
-stripped_more (b ∷ X) = stripped_twice_by b X (stripped_more X) (b == 9) refl
+stripped_more (b ∷ X) = stripped_twice_by b X (stripped_more X) (b == tab) refl
 
 pub stripped_twice : (strip : Bool) (X : List ℕ) → stripped strip (stripped strip X) ≡ stripped strip X
 stripped_twice true X = stripped_more X
@@ -55,22 +57,23 @@ stripped_twice false X = refl
 abbrev pub AreText : List ℕ → Type 0
 AreText X = width X ≡ length X
 
-text_first : (b : ℕ) (X : List ℕ) → (b == 10) ≡ false → width (b ∷ X) ≡ suc (width X)
+text_first : (b : ℕ) (X : List ℕ) → (b == newline_char) ≡ false → width (b ∷ X) ≡ suc (width X)
 unfolding count_front
 text_first b X is = rw is (omega arith)
 
-newline_first : (b : ℕ) (X : List ℕ) → (b == 10) ≡ true → width (b ∷ X) ≡ 0
+newline_first : (b : ℕ) (X : List ℕ) → (b == newline_char) ≡ true → width (b ∷ X) ≡ 0
 unfolding count_front
 newline_first b X is = rw is refl
 
-text_parts : (b : ℕ) (X : List ℕ) → AreText (b ∷ X) → (t : Bool) → (b == 10) ≡ t → ((b == 10) ≡ false) × AreText X
+text_parts : (b : ℕ) (X : List ℕ) → AreText (b ∷ X) → (t : Bool) → (b == newline_char) ≡ t →
+    ((b == newline_char) ≡ false) × AreText X
 text_parts b X is true e = absurd (let none = newline_first b X e in omega (arith, none, is))
 text_parts b X is false e = let more = text_first b X e in (e, omega (arith, more, is))
 
 text_drop : (n : ℕ) (X : List ℕ) → AreText X → AreText (drop n X)
 text_drop zero X is = is
 text_drop (suc n) [] is = is
-text_drop (suc n) (b ∷ X) is = text_drop n X (text_parts b X is (b == 10) refl).1
+text_drop (suc n) (b ∷ X) is = text_drop n X (text_parts b X is (b == newline_char) refl).1
 
 pub text_stripped : (strip : Bool) (X : List ℕ) → AreText X → AreText (stripped strip X)
 text_stripped true X is = text_drop _ X is
@@ -80,7 +83,8 @@ none_text : AreText []
 unfolding count_front
 none_text = refl
 
-text_front_by : (b : ℕ) (X : List ℕ) → AreText (front X) → (t : Bool) → (b == 10) ≡ t → AreText (front (b ∷ X))
+text_front_by : (b : ℕ) (X : List ℕ) → AreText (front X) → (t : Bool) → (b == newline_char) ≡ t →
+    AreText (front (b ∷ X))
 text_front_by b X more true is = let none = newline_first b X is in rw none none_text
 text_front_by b X more false is =
     let one = text_first b X is in
@@ -90,14 +94,14 @@ text_front_by b X more false is =
 pub text_front : (X : List ℕ) → AreText (front X)
 unfolding count_front
 text_front [] = none_text
-text_front (b ∷ X) = text_front_by b X (text_front X) (b == 10) refl
+text_front (b ∷ X) = text_front_by b X (text_front X) (b == newline_char) refl
 
 -- a line and its newline
 line_width : (X Z : List ℕ) → AreText X → width (X ++ 10 ∷ Z) ≡ length X
 unfolding count_front
 line_width [] Z is = refl
 line_width (b ∷ X) Z is =
-    let parts = text_parts b X is (b == 10) refl in
+    let parts = text_parts b X is (b == newline_char) refl in
     text_first b (X ++ 10 ∷ Z) parts.0 ∙ ap suc (line_width X Z parts.1)
 
 line_front : (X Z : List ℕ) → AreText X → front (X ++ 10 ∷ Z) ≡ X
@@ -170,7 +174,7 @@ module _ (w : Waiting) where
   closed_join (b ∷ c ∷ X) Y one two = closed_join (c ∷ X) Y one two
 
   first_line_by : (b : ℕ) (X : List ℕ) → (width X < length X → closed (take (suc (width X)) X) ≡ true) →
-      width (b ∷ X) < length (b ∷ X) → (t : Bool) → (b == 10) ≡ t
+      width (b ∷ X) < length (b ∷ X) → (t : Bool) → (b == newline_char) ≡ t
       → closed (take (suc (width (b ∷ X))) (b ∷ X)) ≡ true
   unfolding closed
   first_line_by b X more some true is = let none = newline_first b X is in rw none is
@@ -181,7 +185,7 @@ module _ (w : Waiting) where
   -- a line that is not the last one, with its newline
   first_line : (X : List ℕ) → width X < length X → closed (take (suc (width X)) X) ≡ true
   first_line [] some = absurd (omega (arith, some))
-  first_line (b ∷ X) some = first_line_by b X (first_line X) some (b == 10) refl
+  first_line (b ∷ X) some = first_line_by b X (first_line X) some (b == newline_char) refl
 
   none_in : {A : Type 0} (n : ℕ) (taken : Bool) (i : ℕ) → found_in w n taken [] ≡ Some i → A
   unfolding found_in

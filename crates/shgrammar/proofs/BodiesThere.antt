@@ -6,6 +6,7 @@ use Rattle.std.proofs.lemmas.Bool.{cases_lt}
 use Rattle.std.proofs.lemmas.Bool.Decides.{nat_tests}
 use Rattle.std.proofs.lemmas.List.{length-take-le, length-drop, map-append, take-append-drop}
 use Rattle.std.proofs.lemmas.Option.{slice_get_past, slice_get_within, slice_get-get_or}
+use Rattle.shgrammar.specs.Characters.{newline_char}
 use Rattle.shgrammar.specs.declared.keep.Keep.{Keep}
 use Rattle.shast.specs.declared.tree.Span.{Span}
 use Rattle.shgrammar.specs.declared.fault.Fault.{Fault}
@@ -25,18 +26,20 @@ use Rattle.shgrammar.specs.declared.edition.Edition.{Edition}
 
 -- ---- the newline before the place where bodies end
 
-newline_is : (T : List ℕ) (p : ℕ) → p < length T → raw_in (λ b. not (b == 10)) T p ≡ false → slice_get T p ≡ Some 10
+newline_is : (T : List ℕ) (p : ℕ) → p < length T → raw_in (λ b. not (b == newline_char)) T p ≡ false →
+    slice_get T p ≡ Some 10
 unfolding raw_in
 newline_is T p lt stops =
     let is : slice_get T p ≡ Some (get_or T p 0) = slice_get-get_or T p 0 lt in
-    let e : not (get_or T p 0 == 10) ≡ false = sym (ap (passes (λ b. not (b == 10))) is) ∙ stops in
+    let e : not (get_or T p 0 == newline_char) ≡ false = sym (ap (passes (λ b. not (b == newline_char))) is) ∙ stops in
     let ten : get_or T p 0 ≡ 10 = grind (arith, nat_tests, e) in
     is ∙ ap (λ (b : ℕ). Some b) ten
 
 past_ends : (T : List ℕ) (q : ℕ) → past_line T q < length T → slice_get T (past_line T q - 1) ≡ Some 10
 past_ends T q lt =
     let is : past_line T q - 1 ≡ next_newline T q = omega (arith, lt) in
-    ap (slice_get T) is ∙ newline_is T (next_newline T q) (omega (arith, lt)) (raw_past_stops (λ b. not (b == 10)) T q)
+    ap (slice_get T) is ∙ newline_is T (next_newline T q) (omega (arith, lt))
+    (raw_past_stops (λ b. not (b == newline_char)) T q)
 
 module _ (g : Given) where
   before_step : (w : Waiting) (ws : Row Waiting) (bodies : Row Span) (p : ℕ) (x : Row Span × ℕ) → x.1 < length g.text →
@@ -66,23 +69,24 @@ ended_in s (Err f) = s
 
 -- bodies that begin just past a newline end just past one, or where the text ends
 ends_by : (g : Given) (s t : State) (x : Result (Row Span × ℕ) Fault) → bodies_from g s.waiting s.bodies s.at ≡ x →
-    nothing_read (state_by x) ≡ Ok (tt, t) → raw_stands g.text (s.at - 1) 10 ≡ true
-    → (raw_stands g.text (t.at - 1) 10 ≡ true) ⊎ (at_end g.text t.at ≡ true)
+    nothing_read (state_by x) ≡ Ok (tt, t) → raw_stands g.text (s.at - 1) newline_char ≡ true
+    → (raw_stands g.text (t.at - 1) newline_char ≡ true) ⊎ (at_end g.text t.at ≡ true)
 unfolding raw_stands at_end
 ends_by g s t (Ok x) read is newline =
     let same : record { at = x.1; waiting = []; bodies = x.0 } ≡ t = ap (ended_in s) is in
     let at : x.1 ≡ t.at = ap (λ (v : State). v.at) same in
     ⊎_elim
     (λ on. ⊎_elim
-    (λ lt. inl (ap (λ n. is_byte (slice_get g.text (n - 1)) 10) (sym at)
-    ∙ ap (λ o. is_byte o 10) (newline_before g s.waiting s.bodies s.at x read lt on)))
+    (λ lt. inl (ap (λ n. is_byte (slice_get g.text (n - 1)) newline_char) (sym at)
+    ∙ ap (λ o. is_byte o newline_char) (newline_before g s.waiting s.bodies s.at x read lt on)))
     (λ ge. inr (ap is_none (slice_get_past g.text t.at (omega (arith, at, ge))))) (cases_lt x.1 (length g.text)))
     (λ ge. let still : t.at ≡ s.at = omega (arith, at, ge, bodies_low g s.waiting s.bodies s.at x read) in
-    inl (ap (λ n. is_byte (slice_get g.text (n - 1)) 10) still ∙ newline)) (cases_lt s.at x.1)
+    inl (ap (λ n. is_byte (slice_get g.text (n - 1)) newline_char) still ∙ newline)) (cases_lt s.at x.1)
 ends_by g s t (Err f) read is newline = absurd cc
 
 pub ends_line : (keep : Keep) (g : Given) (s t : State) → does (change bodies_here) keep g s ≡ Ok (tt, t) →
-    raw_stands g.text (s.at - 1) 10 ≡ true → (raw_stands g.text (t.at - 1) 10 ≡ true) ⊎ (at_end g.text t.at ≡ true)
+    raw_stands g.text (s.at - 1) newline_char ≡ true →
+    (raw_stands g.text (t.at - 1) newline_char ≡ true) ⊎ (at_end g.text t.at ≡ true)
 ends_line keep g s t is newline = ends_by g s t (bodies_from g s.waiting s.bodies s.at) refl is newline
 
 -- bytes of which the last is a newline

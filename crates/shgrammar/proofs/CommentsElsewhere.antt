@@ -5,6 +5,7 @@ use Rattle.std.proofs.lemmas.Bool.Decides.{nat_tests}
 use Rattle.std.proofs.lemmas.List.{length-drop, length-take-le}
 use Rattle.std.proofs.lemmas.Option.{slice_get_within}
 use Rattle.shast.specs.declared.tree.Span.{Span}
+use Rattle.shgrammar.specs.Characters.{newline_char, number_sign}
 use Rattle.shgrammar.specs.Classes.{is_blank}
 use Rattle.shgrammar.specs.Standing.{is_byte, passes, raw_stands, raw_in, next_newline, before_blanks}
 use Rattle.shgrammar.specs.Bytes.{past_continuations, byte_at, stands_in}
@@ -48,10 +49,10 @@ comment_by true z c is = let e : z ≡ c = cc in (refl, sym e)
 comment_by false z c is = absurd cc
 
 -- where a comment begins, and which span it has
-pub comment_is : (T : List ℕ) (o p : ℕ) (c : Span) → comment_at T o p ≡ Some c → (raw_stands T p 35 ≡ true)
+pub comment_is : (T : List ℕ) (o p : ℕ) (c : Span) → comment_at T o p ≡ Some c → (raw_stands T p number_sign ≡ true)
     × (c ≡ span o p (before_blanks T (next_newline T p)))
 unfolding comment_at
-comment_is T o p c is = comment_by (raw_stands T p 35) _ c is
+comment_is T o p c is = comment_by (raw_stands T p number_sign) _ c is
 
 -- after a byte that is no blank no more than blanks are taken away
 before_is : (T : List ℕ) (p q : ℕ) → p < q → raw_in is_blank T p ≡ false → (p < before_blanks T q)
@@ -69,8 +70,8 @@ before_is T p (suc q) lt clear =
     (λ (e : raw_in is_blank T q ≡ false). let back : suc q - 1 ≡ q = omega arith in rw e (lt, (omega arith, rw back e)))
     (cases_Bool (raw_in is_blank T q))
 
-sharp_in : (x : Option ℕ) → is_byte x 35 ≡ true → (passes is_blank x ≡ false)
-    × ((passes (λ b. not (b == 10)) x ≡ true) × (x ≡ Some 35))
+sharp_in : (x : Option ℕ) → is_byte x number_sign ≡ true → (passes is_blank x ≡ false)
+    × ((passes (λ b. not (b == newline_char)) x ≡ true) × (x ≡ Some 35))
 sharp_in None e = absurd cc
 sharp_in (Some b) e = let is : b ≡ 35 = grind (arith, nat_tests) in rw is (refl, (refl, refl))
 
@@ -82,7 +83,7 @@ pub record CommentAnywhere (c : List ℕ) : Type 0 where
       × (past_continuations T q ≡ q) × (stands_in is_blank T q ≡ false) × (byte_at T q ≡ Some 35)
 
 -- a comment that stands at p, up to e, and before a newline at q in another text
-module _ (T : List ℕ) (p : ℕ) (sharp : raw_stands T p 35 ≡ true) where
+module _ (T : List ℕ) (p : ℕ) (sharp : raw_stands T p number_sign ≡ true) where
   abbrev newline : ℕ
   newline = next_newline T p
 
@@ -90,7 +91,7 @@ module _ (T : List ℕ) (p : ℕ) (sharp : raw_stands T p 35 ≡ true) where
   last = before_blanks T newline
 
   first : (passes is_blank (slice_get T p) ≡ false)
-      × ((passes (λ b. not (b == 10)) (slice_get T p) ≡ true) × (slice_get T p ≡ Some 35))
+      × ((passes (λ b. not (b == newline_char)) (slice_get T p) ≡ true) × (slice_get T p ≡ Some 35))
   unfolding raw_stands
   first = sharp_in (slice_get T p) sharp
 
@@ -99,7 +100,11 @@ module _ (T : List ℕ) (p : ℕ) (sharp : raw_stands T p 35 ≡ true) where
 
   line_some : p < newline
   unfolding raw_in
-  line_some = omega (arith, raw_more (λ b. not (b == 10)) T p first.1.0, raw_past_low (λ b. not (b == 10)) T (p + 1))
+  line_some = omega (
+    arith,
+    raw_more (λ b. not (b == newline_char)) T p first.1.0,
+    raw_past_low (λ b. not (b == newline_char)) T (p + 1),
+  )
 
   ended : (p < last) × ((last ≤ newline) × (raw_in is_blank T (last - 1) ≡ false))
   unfolding raw_in
@@ -123,9 +128,9 @@ module _ (T : List ℕ) (p : ℕ) (sharp : raw_stands T p 35 ≡ true) where
     newline_there : slice_get U (q + (last - p)) ≡ Some 10
     newline_there = ap (λ n. slice_get U (q + n)) (sym text_length) ∙ byte_after U q text (10 ∷ zs) is
 
-    at_after : raw_in (λ b. not (b == 10)) U (q + (last - p)) ≡ false
+    at_after : raw_in (λ b. not (b == newline_char)) U (q + (last - p)) ≡ false
     unfolding raw_in
-    at_after = ap (passes (λ b. not (b == 10))) newline_there
+    at_after = ap (passes (λ b. not (b == newline_char))) newline_there
 
     sharp_there : slice_get U q ≡ Some 35
     sharp_there =
@@ -135,12 +140,12 @@ module _ (T : List ℕ) (p : ℕ) (sharp : raw_stands T p 35 ≡ true) where
 
     line_end : next_newline U q ≡ q + (last - p)
     line_end =
-        raw_is (λ b. not (b == 10)) U q (last - p)
+        raw_is (λ b. not (b == newline_char)) U q (last - p)
         (λ k low lt. let i = k - q in
         let is_k : q + i ≡ k = omega (arith, low) in
-        subst (λ r. raw_in (λ b. not (b == 10)) U r ≡ true) is_k
-        (same_in (λ b. not (b == 10)) i (omega (arith, low, lt))
-        ∙ raw_past_all (λ b. not (b == 10)) T p (p + i) (omega arith) (omega (arith, low, lt, ended.1.0))))
+        subst (λ r. raw_in (λ b. not (b == newline_char)) U r ≡ true) is_k
+        (same_in (λ b. not (b == newline_char)) i (omega (arith, low, lt))
+        ∙ raw_past_all (λ b. not (b == newline_char)) T p (p + i) (omega arith) (omega (arith, low, lt, ended.1.0))))
         at_after
 
     no_blank_last : raw_in is_blank U (q + (last - p) - 1) ≡ false
@@ -152,7 +157,7 @@ module _ (T : List ℕ) (p : ℕ) (sharp : raw_stands T p 35 ≡ true) where
         ap (raw_in is_blank U) (sym there) ∙ same_in is_blank i (omega (arith, e.0)) ∙ ap (raw_in is_blank T) here
         ∙ e.1.1
 
-    is_sharp : raw_stands U q 35 ≡ true
+    is_sharp : raw_stands U q number_sign ≡ true
     unfolding raw_stands
     is_sharp = rw sharp_there refl
 

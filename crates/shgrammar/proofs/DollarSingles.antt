@@ -2,6 +2,7 @@
 use Rattle.std.proofs.Common.{◌≡◌, ℕ, ◌+◌, ◌<◌, ◌≤◌, Bool, true, false, ◌||◌, List, [], ◌∷◌, length, drop, get_or, refl, sym, ap, ◌∙◌, arith, cond, not}
 use Rattle.std.specs.Prelude.{◌&&◌}
 use Rattle.std.proofs.lemmas.List.{drop_more, length-drop}
+use Rattle.shgrammar.specs.Characters.{apostrophe, dollar_sign}
 use Rattle.shgrammar.specs.Standing.{is_byte}
 use Rattle.shgrammar.specs.Bytes.{byte_at, stands}
 use Rattle.shgrammar.specs.HereDocuments.{Quoting, after_quote, has_dollar_single, is_live, is_quote}
@@ -11,8 +12,8 @@ use Rattle.shgrammar.proofs.Unquoted.{rest_stands}
 abbrev turn : Quoting → Bool → ℕ → List ℕ → List ℕ → Bool
 turn q second b rest later = cond (is_live q 92 b) (has_dollar_single q second later)
     (cond (is_quote q b) (has_dollar_single (after_quote q b) false rest)
-    (cond (is_live q 36 b) ((not second && is_quote q 39 && stands rest 0 39)
-    || has_dollar_single q (not second && stands rest 0 36) rest)
+    (cond (is_live q 36 b) ((not second && is_quote q 39 && stands rest 0 apostrophe)
+    || has_dollar_single q (not second && stands rest 0 dollar_sign) rest)
     (has_dollar_single q second rest)))
 
 turns : (q : Quoting) (second : Bool) (b c : ℕ) (bs : List ℕ) →
@@ -44,15 +45,15 @@ module _ (q : Quoting) (second : Bool) (word : List ℕ) (at : ℕ) (lt : at + 1
 
   pub has_here : is_live q 92 (get_or word at 0) ≡ false → is_quote q (get_or word at 0) ≡ false →
       is_live q 36 (get_or word at 0) ≡ true
-      → (not second && is_quote q 39 && is_byte (byte_at word (at + 1)) 39) ≡ true →
+      → (not second && is_quote q 39 && is_byte (byte_at word (at + 1)) apostrophe) ≡ true →
       has_dollar_single q second (drop at word) ≡ true
   has_here none other is found = here ∙ rw (none, other, is, rest_stands word (at + 1) 39, found) refl
 
   pub has_dollar : is_live q 92 (get_or word at 0) ≡ false → is_quote q (get_or word at 0) ≡ false →
       is_live q 36 (get_or word at 0) ≡ true
-      → (not second && is_quote q 39 && is_byte (byte_at word (at + 1)) 39) ≡ false
+      → (not second && is_quote q 39 && is_byte (byte_at word (at + 1)) apostrophe) ≡ false
       → has_dollar_single q second (drop at word)
-      ≡ has_dollar_single q (not second && is_byte (byte_at word (at + 1)) 36) (drop (at + 1) word)
+      ≡ has_dollar_single q (not second && is_byte (byte_at word (at + 1)) dollar_sign) (drop (at + 1) word)
   has_dollar none other is lone = here
       ∙ rw (none, other, is, rest_stands word (at + 1) 39, lone, rest_stands word (at + 1) 36) refl
 

@@ -5,6 +5,7 @@ use Rattle.std.proofs.lemmas.Bool.{and_parts, both_ways, cases_Bool, lt-ltb}
 use Rattle.std.proofs.lemmas.Bool.Decides.{nat_tests}
 use Rattle.std.proofs.lemmas.List.{take_at}
 use Rattle.std.proofs.lemmas.Option.{slice_get_within}
+use Rattle.shgrammar.specs.Characters.{backslash, greater_than_sign, left_parenthesis, less_than_sign, newline_char, number_sign, right_parenthesis, space, vertical_line}
 use Rattle.shgrammar.specs.declared.keep.Keep.TheVariants.{Whole}
 use Rattle.shgrammar.specs.declared.mode.Mode.TheVariants.{Plain}
 use Rattle.shgrammar.specs.declared.token.Position.{Position}
@@ -271,13 +272,15 @@ module _ {edition : Edition} {T U : List ℕ} {a L : ℕ} {to : ℕ → ℕ} (K 
   same_word_by Suffix w = refl
 
   -- digits before the limit, which no `<` or `>` follows there
-  module _ (no_less : is_byte (byte_at U (to L)) 60 ≡ false) (no_greater : is_byte (byte_at U (to L)) 62 ≡ false) where
-    no_sign : {r : ℕ} → Goes r → (stands T r 60 || stands T r 62) ≡ false →
-        (stands U (to r) 60 || stands U (to r) 62) ≡ false
+  module _ (no_less : is_byte (byte_at U (to L)) less_than_sign ≡ false)
+      (no_greater : is_byte (byte_at U (to L)) greater_than_sign ≡ false) where
+    no_sign : {r : ℕ} → Goes r → (stands T r less_than_sign || stands T r greater_than_sign) ≡ false →
+        (stands U (to r) less_than_sign || stands U (to r) greater_than_sign) ≡ false
     unfolding stands
     no_sign w e =
         ⊎_elim (λ i. rw (here_byte K i) e)
-        (λ at. subst (λ r. (is_byte (byte_at U (to r)) 60 || is_byte (byte_at U (to r)) 62) ≡ false) (sym at)
+        (λ at. subst (λ r. (is_byte (byte_at U (to r)) less_than_sign || is_byte (byte_at U (to r)) greater_than_sign)
+        ≡ false) (sym at)
         (rw (no_less, no_greater) refl)) (place_of w)
 
     no_number_by : (d x y : Bool) → (x ≡ false → y ≡ false) → (d && x) ≡ false → (d && y) ≡ false
@@ -327,12 +330,12 @@ pub record ItemByte (b : ℕ) : Type 0 where
   newline : is_newline b ≡ false
   semicolon : (b == 59) ≡ false
   ampersand : (b == 38) ≡ false
-  bar : (b == 124) ≡ false
-  open_paren : (b == 40) ≡ false
-  close_paren : (b == 41) ≡ false
-  less : (b == 60) ≡ false
-  greater : (b == 62) ≡ false
-  sharp : (b == 35) ≡ false
+  bar : (b == vertical_line) ≡ false
+  open_paren : (b == left_parenthesis) ≡ false
+  close_paren : (b == right_parenthesis) ≡ false
+  less : (b == less_than_sign) ≡ false
+  greater : (b == greater_than_sign) ≡ false
+  sharp : (b == number_sign) ≡ false
 
 item_else : (c : Bool) (x y : Token) → (Item x → ⊥) → Item (cond c x y) → (c ≡ false) × Item y
 item_else true x y other so = absurd (other so)
@@ -351,13 +354,13 @@ item_byte position T p b so =
     (λ f. neither (stands T (past_byte T p) 38) _ _ (λ g. absurd cc) (λ g. absurd cc) f) e) newline.1 in
     let ampersand = item_else (b == 38) _ _
     (λ e. neither (stands T (past_byte T p) 38) _ _ (λ f. absurd cc) (λ f. absurd cc) e) semicolon.1 in
-    let bar = item_else (b == 124) _ _
-    (λ e. neither (stands T (past_byte T p) 124) _ _ (λ f. absurd cc) (λ f. absurd cc) e) ampersand.1 in
-    let open_paren = item_else (b == 40) _ _ (λ e. absurd cc) bar.1 in
-    let close_paren = item_else (b == 41) _ _ (λ e. absurd cc) open_paren.1 in
-    let less = item_else (b == 60) _ _ (λ e. absurd cc) close_paren.1 in
-    let greater = item_else (b == 62) _ _ (λ e. absurd cc) less.1 in
-    let sharp = item_else (b == 35) _ _ (λ e. absurd cc) greater.1 in
+    let bar = item_else (b == vertical_line) _ _
+    (λ e. neither (stands T (past_byte T p) vertical_line) _ _ (λ f. absurd cc) (λ f. absurd cc) e) ampersand.1 in
+    let open_paren = item_else (b == left_parenthesis) _ _ (λ e. absurd cc) bar.1 in
+    let close_paren = item_else (b == right_parenthesis) _ _ (λ e. absurd cc) open_paren.1 in
+    let less = item_else (b == less_than_sign) _ _ (λ e. absurd cc) close_paren.1 in
+    let greater = item_else (b == greater_than_sign) _ _ (λ e. absurd cc) less.1 in
+    let sharp = item_else (b == number_sign) _ _ (λ e. absurd cc) greater.1 in
     let number = item_else (is_number T p) _ _ (λ e. absurd cc) sharp.1 in (
       record {
         newline = newline.0;
@@ -420,17 +423,17 @@ begun position T p so no_blank = begun_by position T p (byte_at T p) refl so no_
 -- what may stand after an item in a printed text: a blank, a newline, `;` or `)`
 abbrev pub follows : List ℕ → Bool
 follows [] = false
-follows (c ∷ cs) = c == 32 || (c == 10 || (c == 59 || c == 41))
+follows (c ∷ cs) = c == space || (c == newline_char || (c == 59 || c == right_parenthesis))
 
 -- the byte that follows ends a word, and is none that counts for what stands before it
 record Follower (zs : List ℕ) : Type 0 where
   byte : ℕ
   is : slice_get zs 0 ≡ Some byte
   ends_it : ends (Some byte) ≡ true
-  no_backslash : (byte == 92) ≡ false
-  no_open : (byte == 40) ≡ false
-  no_less : (byte == 60) ≡ false
-  no_greater : (byte == 62) ≡ false
+  no_backslash : (byte == backslash) ≡ false
+  no_open : (byte == left_parenthesis) ≡ false
+  no_less : (byte == less_than_sign) ≡ false
+  no_greater : (byte == greater_than_sign) ≡ false
 
 follower : (zs : List ℕ) → follows zs ≡ true → Follower zs
 follower [] e = absurd cc
@@ -499,7 +502,8 @@ module _ (room : ℕ) (position : Position) (g : Given) (p n : ℕ) (word : Read
 
     next_byte : byte_at h.text (q + n) ≡ Some next.byte
     unfolding raw_stands
-    next_byte = ap (slice_get h.text) (raw_stays h.text (q + n) (ap (λ x. is_byte x 92) next_raw ∙ next.no_backslash))
+    next_byte = ap (slice_get h.text)
+        (raw_stays h.text (q + n) (ap (λ x. is_byte x backslash) next_raw ∙ next.no_backslash))
         ∙ next_raw
 
     same : take n (drop q h.text) ≡ w
@@ -516,7 +520,7 @@ module _ (room : ℕ) (position : Position) (g : Given) (p n : ℕ) (word : Read
     W = record {
       here = ended.1;
       there = ap ends limit_byte ∙ next.ends_it;
-      closed = ap (λ x. is_byte x 40) limit_byte ∙ next.no_open;
+      closed = ap (λ x. is_byte x left_parenthesis) limit_byte ∙ next.no_open;
     }
 
     goes : Goes K W g.offset room p
@@ -528,8 +532,8 @@ module _ (room : ℕ) (position : Position) (g : Given) (p n : ℕ) (word : Read
     same_token : token_at position h.text (from_to p q p) ≡ token_at position g.text p
     unfolding token_at
     same_token =
-        let none_there = no_number K W g.offset room (ap (λ x. is_byte x 60) limit_byte ∙ next.no_less)
-        (ap (λ x. is_byte x 62) limit_byte ∙ next.no_greater) goes here.no_number in
+        let none_there = no_number K W g.offset room (ap (λ x. is_byte x less_than_sign) limit_byte ∙ next.no_less)
+        (ap (λ x. is_byte x greater_than_sign) limit_byte ∙ next.no_greater) goes here.no_number in
         ap (token_of position h.text (from_to p q p)) (here_byte K inside ∙ here.is)
         ∙ item_token position h.text (from_to p q p) here.byte here.first none_there
         ∙ same_word_by K W g.offset room position goes
@@ -550,7 +554,7 @@ module _ (room : ℕ) (position : Position) (g : Given) (p n : ℕ) (word : Read
       unfolding ends_word stands
       word_there C stands_in_C =
           let v = same_word room g h p q n word.0 _ word.1 same (ap ends next_byte ∙ next.ends_it)
-          (ap (λ x. is_byte x 40) next_byte ∙ next.no_open) B C stands_in_B stands_in_C in
+          (ap (λ x. is_byte x left_parenthesis) next_byte ∙ next.no_open) B C stands_in_B stands_in_C in
           (v.0, (v.1.0, v.1.1 ∙ shape))
 
       read_at : ReadAt room position (token_at position g.text p) w ss (given g.edition h.text h.offset) q

@@ -121,7 +121,7 @@ module _ {g : Given} {limit : ℕ} where
         after (λ i t. first (repeats (ItemsIn limit) (word_turn inner) word_turn_in (items_so_far [] Suffix i.1) t
         (All-nil (ItemIn limit)))
         (λ ws u items. first (sequential_sep_in cs ws.next u all)
-            (λ l v so. gives (items_in limit ws.items items, so))))
+        (λ l v so. gives (items_in limit ws.items items, so))))
 
     for_head_in : (n : Next) (s : State) → UpTo g limit (a_for_head inner n) HeadIn s
     unfolding a_for_head

@@ -1,6 +1,7 @@
 -- What holds of whatever a form gives: the laws of forms, and that no form goes back.
 use Rattle.std.proofs.Common.{◌≡◌, ℕ, zero, suc, ◌+◌, ◌-◌, ◌≤◌, ◌<◌, Bool, true, false, cond, Result, Ok, Err, List, List as Row, [], ◌∷◌, ◌++◌, length, refl, subst, arith}
 use Rattle.std.proofs.lemmas.Bool.{ltb-true, cond_both}
+use Rattle.shgrammar.specs.Characters.{backslash, number_sign}
 use Rattle.shgrammar.specs.declared.keep.Keep.TheVariants.{Whole}
 use Rattle.shgrammar.specs.declared.keep.Keep.{Keep}
 use Rattle.shgrammar.specs.declared.fault.FaultKind.{FaultKind}
@@ -274,11 +275,11 @@ closer_low Arith T p = omega (arith, after_low T p, after_low T (past_byte T p))
 
 taken_low : (T : List ℕ) (p : ℕ) → p ≤ past_taken T p
 unfolding past_taken
-taken_low T p = cond_both (raw_stands T p 92) _ _ (λ n. p ≤ p + n) (λ e. omega arith) (λ e. omega arith)
+taken_low T p = cond_both (raw_stands T p backslash) _ _ (λ n. p ≤ p + n) (λ e. omega arith) (λ e. omega arith)
 
 comment_low : (T : List ℕ) (p : ℕ) → p ≤ past_comment T p
 unfolding past_comment
-comment_low T p = cond_both (raw_stands T p 35) _ _ (λ n. p ≤ n) (λ e. next_newline_low T p) (λ e. omega arith)
+comment_low T p = cond_both (raw_stands T p number_sign) _ _ (λ n. p ≤ n) (λ e. next_newline_low T p) (λ e. omega arith)
 
 pub move_low : (m : Move) (T : List ℕ) (p : ℕ) → p ≤ to m T p
 move_low one_byte T p = omega (arith, after_low T p)

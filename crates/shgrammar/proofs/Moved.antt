@@ -5,6 +5,7 @@
 use Rattle.std.proofs.Common.{◌≡◌, ℕ, zero, suc, ◌+◌, ◌-◌, ◌<◌, ◌≤◌, Bool, true, false, cond, Result, Ok, Err, List, List as Row, [], ◌∷◌, ◌++◌, map, length, Option, Some, None, option_map, refl, sym, ap, subst, ◌∙◌, arith}
 use Rattle.std.proofs.lemmas.Bool.{ltb-true}
 use Rattle.std.proofs.lemmas.List.{map-append}
+use Rattle.shgrammar.specs.Characters.{number_sign}
 use Rattle.shgrammar.specs.declared.keep.Keep.{Keep}
 use Rattle.shgrammar.specs.declared.keep.Keep.TheVariants.{Outer, Whole}
 use Rattle.shgrammar.specs.declared.fault.Fault.{Fault}
@@ -178,7 +179,7 @@ comment_by k o p q false = refl
 
 comment_moved : (T : List ℕ) (k o p : ℕ) → option_map (placed_span k) (comment_at T o p) ≡ comment_at T (k + o) p
 unfolding comment_at
-comment_moved T k o p = comment_by k o p (before_blanks T (next_newline T p)) (raw_stands T p 35)
+comment_moved T k o p = comment_by k o p (before_blanks T (next_newline T p)) (raw_stands T p number_sign)
 
 pub moves_see_comment : {z : Place} {Y : Type 0} {d : Y → Y} {Q : Y → Type 0} {f h : Option Span → Form Y} →
     ((c : Option Span) → Moves z d Q (f c) (h (option_map (placed_span z.base) c)))

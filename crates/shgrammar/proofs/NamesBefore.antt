@@ -6,6 +6,7 @@ use Rattle.std.proofs.lemmas.Bool.Decides.{nat_tests}
 use Rattle.std.proofs.lemmas.List.{take_at}
 use Rattle.std.proofs.lemmas.Option.{slice_get_within}
 use Rattle.std.proofs.Math.Bool.{and-false}
+use Rattle.shgrammar.specs.Characters.{backslash}
 use Rattle.shgrammar.specs.declared.keep.Keep.TheVariants.{Whole}
 use Rattle.shgrammar.specs.declared.mode.Mode.TheVariants.{Plain}
 use Rattle.shgrammar.specs.declared.token.Position.TheVariants.{Command}
@@ -195,7 +196,7 @@ module _ (room : ℕ) (g : Given) (p n : ℕ) (read : ReadsWord room g p n) (sti
 
     limit_byte : byte_at U (to L) ≡ Some 40
     unfolding raw_stands
-    limit_byte = ap (slice_get U) (raw_stays U (to L) (ap (λ x. is_byte x 92) limit_raw)) ∙ limit_raw
+    limit_byte = ap (slice_get U) (raw_stays U (to L) (ap (λ x. is_byte x backslash) limit_raw)) ∙ limit_raw
 
     -- from r on the NAME goes on up to the limit
     record Goes (r : ℕ) : Type 0 where
@@ -205,7 +206,7 @@ module _ (room : ℕ) (g : Given) (p n : ℕ) (read : ReadsWord room g p n) (sti
     from_begin : Goes p
     from_begin = record { low = omega arith; up = end_is }
 
-    no_backslash : (b : ℕ) → is_name b ≡ true → (b == 92) ≡ false
+    no_backslash : (b : ℕ) → is_name b ≡ true → (b == backslash) ≡ false
     no_backslash b e = grind (arith, nat_tests)
 
     inside_of : {r : ℕ} → Goes r → stands_in is_name T r ≡ true → Here T U p L to r
@@ -216,8 +217,8 @@ module _ (room : ℕ) (g : Given) (p n : ℕ) (read : ReadsWord room g p n) (sti
         let lt = past_low is_name T (past_byte T r) in
         let up = go.up in
         here K r go.low (omega (arith, more, lt, up, past_byte_is T r))
-        (λ f. absurd (both_ways (is_byte (slice_get T (past_continuations T r)) 92)
-        (ap (λ x. is_byte x 92) b.1 ∙ no_backslash b.0 b.2) f))
+        (λ f. absurd (both_ways (is_byte (slice_get T (past_continuations T r)) backslash)
+        (ap (λ x. is_byte x backslash) b.1 ∙ no_backslash b.0 b.2) f))
 
     next_goes : {r : ℕ} → Goes r → stands_in is_name T r ≡ true → Goes (past_byte T r)
     next_goes {r = r} go e = record {

@@ -2,6 +2,7 @@
 -- and the first fault after them is the script's.
 use Rattle.std.proofs.Common.{◌≡◌, ℕ, zero, suc, ◌+◌, ◌-◌, ◌<◌, Bool, true, false, Ok, Err, List, List as Row, Option, Some, option_map, length, take, drop, slice_get, refl, sym, ap, subst, ◌∙◌, arith, length-drop}
 use Rattle.std.proofs.Math.Seq.{drop-drop, take-take}
+use Rattle.shgrammar.specs.Characters.{newline_char}
 use Rattle.shgrammar.specs.declared.keep.Keep.TheVariants.{Nothing, Outer, Whole}
 use Rattle.shast.specs.Tree.{AnEntry}
 use Rattle.shgrammar.specs.declared.fault.Fault.{Fault}
@@ -99,7 +100,7 @@ passed_more edition bytes p q so line script same_q =
 
 -- the last byte of a line that is passed
 pub newline_after : (bytes : List ℕ) (p q len : ℕ) → q ≡ p + len → 0 < len →
-    raw_stands (drop p bytes) (len - 1) 10 ≡ true → slice_get bytes (q - 1) ≡ Some 10
+    raw_stands (drop p bytes) (len - 1) newline_char ≡ true → slice_get bytes (q - 1) ≡ Some 10
 newline_after bytes p q len ends some stands =
     let is : q - 1 ≡ p + (len - 1) = omega (arith, ends, some) in
     ap (slice_get bytes) is ∙ sym (get_drop p bytes (len - 1)) ∙ newline_at (drop p bytes) (len - 1) stands
@@ -111,12 +112,13 @@ newline_before edition bytes p q line = newline_after bytes p q line.1.at line.3
 -- what was read there tells that it is none
 pub stops_unended : (edition : Edition) → (bytes : List ℕ) (p len : ℕ) (blank newline : Bool) (es : Row AnEntry) →
     line_from edition bytes Outer blank p ≡ Ok ((es, newline), standing len) →
-    (newline ≡ true → raw_stands (drop p bytes) (len - 1) 10 ≡ false) → StopsAt edition bytes p
+    (newline ≡ true → raw_stands (drop p bytes) (len - 1) newline_char ≡ false) → StopsAt edition bytes p
 stops_unended edition bytes p len blank newline es is other q line =
     let own = passed_alone edition bytes p q line in
     let same : SameBy false p blank (Ok ((es, newline), standing len)) (Ok ((own.0, true), line.1)) =
     rw (is, own.1) at (line_outer edition bytes p blank) in
-    let no : false ≡ true = sym (other same.1) ∙ ap (λ (n : ℕ). raw_stands (drop p bytes) (n - 1) 10) same.2 ∙ line.6 in
+    let no : false ≡ true = sym (other same.1) ∙ ap (λ (n : ℕ). raw_stands (drop p bytes) (n - 1) newline_char) same.2
+    ∙ line.6 in
     absurd cc
 
 pub stops_faulty : (edition : Edition) → (bytes : List ℕ) (p : ℕ) (blank : Bool) (f : Fault) →

@@ -4,6 +4,7 @@ use Rattle.std.proofs.lemmas.Bool.{cond_both, both_ways, cases_lt}
 use Rattle.std.proofs.lemmas.Bool.Decides.{nat_tests}
 use Rattle.std.proofs.lemmas.List.{length-drop, drop-drop}
 use Rattle.std.proofs.lemmas.Option.{slice_get_within, slice_get-get_or}
+use Rattle.shgrammar.specs.Characters.{apostrophe, newline_char}
 use Rattle.shgrammar.specs.Classes.{is_blank, is_digit, is_name, is_letter, is_special}
 use Rattle.shgrammar.specs.Standing.{is_byte, is_none, raw_stands, raw_in, at_end, raw_past, next_of, passes, count_front, next_newline}
 use Rattle.shgrammar.specs.Bytes.{stands, ends_word, stands_in, past, past_below, past_blanks, count_joined, past_continuations, byte_at, past_byte}
@@ -26,7 +27,7 @@ unfolding count_joined
 joined_short [] = omega arith
 joined_short (b ∷ []) = omega arith
 joined_short (b ∷ c ∷ bs) =
-    cond_both (b == 92 && c == 10) _ _ (λ n. n ≤ length (b ∷ c ∷ bs)) (λ e. omega (arith, joined_short bs))
+    cond_both (b == 92 && c == newline_char) _ _ (λ n. n ≤ length (b ∷ c ∷ bs)) (λ e. omega (arith, joined_short bs))
     (λ e. omega arith)
 
 -- and no more follow them
@@ -36,7 +37,8 @@ joined_rest [] = refl
 joined_rest (b ∷ []) = refl
 joined_rest (b ∷ c ∷ bs) =
     let next : 2 + count_joined bs ≡ suc (suc (count_joined bs)) = omega arith in
-    cond_both (b == 92 && c == 10) _ _ (λ n. count_joined (drop n (b ∷ c ∷ bs)) ≡ 0) (λ e. rw next (joined_rest bs))
+    cond_both (b == 92 && c == newline_char) _ _ (λ n. count_joined (drop n (b ∷ c ∷ bs)) ≡ 0)
+    (λ e. rw next (joined_rest bs))
     (λ e. rw e refl)
 
 -- past continuations is not past the end of the text
@@ -302,14 +304,14 @@ end_is B at p within inside e = omega (arith, within, inside, no_byte (drop at B
 
 -- ---- text in quotes
 
-quote_other : (b : Option ℕ) → passes (λ c. not (c == 39)) b ≡ false → is_byte b 92 ≡ false
+quote_other : (b : Option ℕ) → passes (λ c. not (c == apostrophe)) b ≡ false → is_byte b 92 ≡ false
 quote_other None e = refl
 quote_other (Some b) e = grind (arith, nat_tests)
 
 -- a single quote, or the end, is no backslash
-pub quote_clear : (T : List ℕ) (p : ℕ) → raw_stands T (next_of 39 T p) 92 ≡ false
+pub quote_clear : (T : List ℕ) (p : ℕ) → raw_stands T (next_of apostrophe T p) 92 ≡ false
 unfolding raw_in raw_stands
-quote_clear T p = quote_other (slice_get T (next_of 39 T p)) (raw_past_stops (λ c. not (c == 39)) T p)
+quote_clear T p = quote_other (slice_get T (next_of apostrophe T p)) (raw_past_stops (λ c. not (c == apostrophe)) T p)
 
 -- ---- text in which a backslash takes one byte
 

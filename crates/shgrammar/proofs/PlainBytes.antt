@@ -1,5 +1,6 @@
 -- Bytes that are ordinary in a mode: each is a piece of its own.
 use Rattle.std.proofs.Common.{◌≡◌, ℕ, zero, suc, ◌+◌, ◌-◌, ◌<◌, ◌≤◌, ◌==◌, Bool, true, false, ◌||◌, not, Option, Some, None, Ok, slice_get, List, List as Row, [], length, refl, sym, ap, ◌∙◌, arith}
+use Rattle.shgrammar.specs.Characters.{apostrophe, backslash, dollar_sign, grave_accent, left_parenthesis, quotation_mark, right_brace, right_parenthesis}
 use Rattle.shgrammar.specs.declared.mode.Mode.{Mode}
 use Rattle.shgrammar.specs.declared.mode.Mode.TheVariants.{Plain, Double, Brace, DoubleBrace, Arith}
 use Rattle.shgrammar.specs.declared.mode.Piece.TheVariants as pieces
@@ -36,32 +37,32 @@ others a b c d none =
 -- no word ends before it
 pub plain_stays : (b : ℕ) → is_plain Plain b ≡ true → ends (Some b) ≡ false
 plain_stays b plain =
-    let q = others (b == 92) (b == 96) (b == 36) (is_special_in Plain b) plain in
-    let double = or_parts (ends (Some b) || b == 39) (b == 34) q.3 in
-    (or_parts (ends (Some b)) (b == 39) double.0).0
+    let q = others (b == backslash) (b == grave_accent) (b == dollar_sign) (is_special_in Plain b) plain in
+    let double = or_parts (ends (Some b) || b == apostrophe) (b == quotation_mark) q.3 in
+    (or_parts (ends (Some b)) (b == apostrophe) double.0).0
 
 pub ordinary_by : (T : List ℕ) (p : ℕ) (mode : Mode) (n b : ℕ) → is_plain mode b ≡ true →
     piece_by T p mode n (Some b) ≡ pieces.Ordinary
 ordinary_by T p Plain n b plain =
-    let q = others (b == 92) (b == 96) (b == 36) (is_special_in Plain b) plain in
-    let double = or_parts (ends (Some b) || b == 39) (b == 34) q.3 in
-    let single = or_parts (ends (Some b)) (b == 39) double.0 in
+    let q = others (b == backslash) (b == grave_accent) (b == dollar_sign) (is_special_in Plain b) plain in
+    let double = or_parts (ends (Some b) || b == apostrophe) (b == quotation_mark) q.3 in
+    let single = or_parts (ends (Some b)) (b == apostrophe) double.0 in
     rw (q.0, q.1, q.2, single.0, single.1, double.1) refl
 ordinary_by T p Double n b plain =
-    let q = others (b == 92) (b == 96) (b == 36) (is_special_in Double b) plain in
+    let q = others (b == backslash) (b == grave_accent) (b == dollar_sign) (is_special_in Double b) plain in
     rw (q.0, q.1, q.2, q.3) refl
 ordinary_by T p Brace n b plain =
-    let q = others (b == 92) (b == 96) (b == 36) (is_special_in Brace b) plain in
-    let double = or_parts (b == 125 || b == 39) (b == 34) q.3 in
-    let single = or_parts (b == 125) (b == 39) double.0 in
+    let q = others (b == backslash) (b == grave_accent) (b == dollar_sign) (is_special_in Brace b) plain in
+    let double = or_parts (b == right_brace || b == apostrophe) (b == quotation_mark) q.3 in
+    let single = or_parts (b == right_brace) (b == apostrophe) double.0 in
     rw (q.0, q.1, q.2, single.0, single.1, double.1) refl
 ordinary_by T p DoubleBrace n b plain =
-    let q = others (b == 92) (b == 96) (b == 36) (is_special_in DoubleBrace b) plain in
-    let double = or_parts (b == 125) (b == 34) q.3 in
+    let q = others (b == backslash) (b == grave_accent) (b == dollar_sign) (is_special_in DoubleBrace b) plain in
+    let double = or_parts (b == right_brace) (b == quotation_mark) q.3 in
     rw (q.0, q.1, q.2, double.0, double.1) refl
 ordinary_by T p Arith n b plain =
-    let q = others (b == 92) (b == 96) (b == 36) (is_special_in Arith b) plain in
-    let brackets = or_parts (b == 41) (b == 40) q.3 in
+    let q = others (b == backslash) (b == grave_accent) (b == dollar_sign) (is_special_in Arith b) plain in
+    let brackets = or_parts (b == right_parenthesis) (b == left_parenthesis) q.3 in
     rw (q.0, q.1, q.2, brackets.0, brackets.1) refl
 
 ordinary_at : (T : List ℕ) (p : ℕ) (mode : Mode) (n : ℕ) (a : Option ℕ) → passes (is_plain mode) a ≡ true →
@@ -79,9 +80,9 @@ no_backslash Arith = refl
 -- what ends a word begins no piece
 closer_by : (T : List ℕ) (p n b : ℕ) → ends (Some b) ≡ true → piece_by T p Plain n (Some b) ≡ pieces.Closer
 closer_by T p n b end =
-    let other : (b == 92) ≡ false = grind (arith, nat_tests) in
-    let tick : (b == 96) ≡ false = grind (arith, nat_tests) in
-    let dollar : (b == 36) ≡ false = grind (arith, nat_tests) in
+    let other : (b == backslash) ≡ false = grind (arith, nat_tests) in
+    let tick : (b == grave_accent) ≡ false = grind (arith, nat_tests) in
+    let dollar : (b == dollar_sign) ≡ false = grind (arith, nat_tests) in
     rw (other, tick, dollar, end) refl
 
 pub closer_at : (T : List ℕ) (p n : ℕ) (a : Option ℕ) → ends a ≡ true → piece_by T p Plain n a ≡ pieces.Closer

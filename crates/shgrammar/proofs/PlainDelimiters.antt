@@ -7,6 +7,7 @@ use Rattle.std.proofs.lemmas.Bool.{and_left, and_parts, and_right, lt-ltb}
 use Rattle.std.proofs.lemmas.Bool.Decides.{nat_tests}
 use Rattle.std.proofs.lemmas.List.{append-nil, drop_all, drop_more, drop-drop, length-drop, length-take-le, take-append-drop}
 use Rattle.shast.specs.Shape.{bare}
+use Rattle.shgrammar.specs.Characters.{apostrophe, dollar_sign, grave_accent, newline_char, quotation_mark}
 use Rattle.shgrammar.specs.declared.mode.Mode.TheVariants.{Plain}
 use Rattle.shgrammar.specs.Plain.{is_plain, is_special_in}
 use Rattle.shgrammar.specs.Bytes.{ends}
@@ -37,26 +38,27 @@ all_three true true c e = (refl, refl, e)
 
 -- it is not special, and quotes nothing
 module _ (b : ℕ) (plain : is_plain Plain b ≡ true) where
-  not_special : ((b == 92) ≡ false) × ((b == 96) ≡ false) × ((b == 36) ≡ false) × (not (is_special_in Plain b) ≡ true)
-  not_special = none_of_four (b == 92) (b == 96) (b == 36) (is_special_in Plain b) plain
+  not_special : ((b == 92) ≡ false) × ((b == grave_accent) ≡ false) × ((b == dollar_sign) ≡ false)
+      × (not (is_special_in Plain b) ≡ true)
+  not_special = none_of_four (b == 92) (b == grave_accent) (b == dollar_sign) (is_special_in Plain b) plain
 
   no_end : ends (Some b) ≡ false
-  no_end = (none_of_three (ends (Some b)) (b == 39) (b == 34) not_special.3).0
+  no_end = (none_of_three (ends (Some b)) (b == apostrophe) (b == quotation_mark) not_special.3).0
 
   no_backslash : (b == 92) ≡ false
   no_backslash = not_special.0
 
-  no_backquote : (b == 96) ≡ false
+  no_backquote : (b == grave_accent) ≡ false
   no_backquote = not_special.1
 
-  no_dollar : (b == 36) ≡ false
+  no_dollar : (b == dollar_sign) ≡ false
   no_dollar = not_special.2
 
-  no_single : (b == 39) ≡ false
-  no_single = (none_of_three (ends (Some b)) (b == 39) (b == 34) not_special.3).1
+  no_single : (b == apostrophe) ≡ false
+  no_single = (none_of_three (ends (Some b)) (b == apostrophe) (b == quotation_mark) not_special.3).1
 
-  no_double : (b == 34) ≡ false
-  no_double = (none_of_three (ends (Some b)) (b == 39) (b == 34) not_special.3).2
+  no_double : (b == quotation_mark) ≡ false
+  no_double = (none_of_three (ends (Some b)) (b == apostrophe) (b == quotation_mark) not_special.3).2
 
   no_quote : (q : Quoting) → is_quote q b ≡ false
   no_quote not_quoted = rw (no_single, no_double) refl
@@ -109,22 +111,22 @@ alone_bare (b ∷ xs) all =
 
 -- ---- of them in quotes
 
-quote_is : (b : ℕ) (t : Bool) → (b == 39) ≡ t → (t || b == 34) ≡ true → (b == 92) ≡ false
+quote_is : (b : ℕ) (t : Bool) → (b == apostrophe) ≡ t → (t || b == quotation_mark) ≡ true → (b == 92) ≡ false
 quote_is b true is e = grind (arith, nat_tests, is)
 quote_is b false is e = grind (arith, nat_tests, e)
 
 -- a quote is no backslash
 quote_quotes : (b : ℕ) → is_quote not_quoted b ≡ true → (b == 92) ≡ false
-quote_quotes b e = quote_is b (b == 39) refl e
+quote_quotes b e = quote_is b (b == apostrophe) refl e
 
-last_by : (b : ℕ) (t : Bool) → (b == 39) ≡ t → (t || b == 34) ≡ true →
+last_by : (b : ℕ) (t : Bool) → (b == apostrophe) ≡ t → (t || b == quotation_mark) ≡ true →
     unquoted (after_quote not_quoted b) false (b ∷ []) ≡ Some []
 unfolding unquoted
 last_by b true is e = rw (is, is) refl
 last_by b false is e = rw (is, e) refl
 
 last_quote : (b : ℕ) → is_quote not_quoted b ≡ true → unquoted (after_quote not_quoted b) false (b ∷ []) ≡ Some []
-last_quote b e = last_by b (b == 39) refl e
+last_quote b e = last_by b (b == apostrophe) refl e
 
 quoted_left : (b : ℕ) (xs : List ℕ) → is_quote not_quoted b ≡ true → list_all (is_plain Plain) xs ≡ true →
     unquoted not_quoted false (b ∷ xs ++ b ∷ []) ≡ Some xs
@@ -142,8 +144,8 @@ quoted_bare b bs is =
 
 -- ---- of them after a backslash
 
-no_newline : (c : ℕ) → is_plain Plain c ≡ true → (c == 10) ≡ false
-no_newline c plain = (none_of_three (is_blank c) (c == 10) (is_operator c) (ap not (no_end c plain))).1
+no_newline : (c : ℕ) → is_plain Plain c ≡ true → (c == newline_char) ≡ false
+no_newline c plain = (none_of_three (is_blank c) (c == newline_char) (is_operator c) (ap not (no_end c plain))).1
 
 escaped_left : (c : ℕ) (cs : List ℕ) → list_all (is_plain Plain) (c ∷ cs) ≡ true →
     unquoted not_quoted false (92 ∷ c ∷ cs) ≡ Some (c ∷ cs)
@@ -151,8 +153,8 @@ escaped_left c cs all =
     let both = and_parts _ _ all in
     unquoted_escape not_quoted false 92 c cs refl ∙ rw (no_newline c both.0, alone_left cs both.1) refl
 
-next_is : (c d : ℕ) (cs ds : List ℕ) → c ∷ cs ≡ d ∷ ds → (c == 10) ≡ false → (d == 10) ≡ false
-next_is c d cs ds e other = let same : c ≡ d = cc in ap (λ (x : ℕ). x == 10) (sym same) ∙ other
+next_is : (c d : ℕ) (cs ds : List ℕ) → c ∷ cs ≡ d ∷ ds → (c == newline_char) ≡ false → (d == newline_char) ≡ false
+next_is c d cs ds e other = let same : c ≡ d = cc in ap (λ (x : ℕ). x == newline_char) (sym same) ∙ other
 
 escaped_bare : (c : ℕ) (cs : List ℕ) → list_all (is_plain Plain) (c ∷ cs) ≡ true → is_quoted (92 ∷ c ∷ cs) ≡ true
 escaped_bare c cs all =

@@ -3,6 +3,7 @@ use Rattle.std.proofs.Common.{◌≡◌, ℕ, ◌+◌, ◌-◌, ◌<◌, ◌≤�
 use Rattle.std.proofs.lemmas.List.{get_or-drop}
 use Rattle.std.proofs.lemmas.Option.{slice_get-get_or}
 use Rattle.shsource.specs.Text.{IsRun}
+use Rattle.shgrammar.specs.Characters.{backslash}
 use Rattle.shgrammar.specs.Standing.{raw_in, raw_stands}
 use Rattle.shgrammar.specs.Bytes.{ends, ends_word, past_continuations}
 use Rattle.shgrammar.specs.Tokens.{is_word_at}
@@ -67,7 +68,8 @@ module _ (B : List ℕ) (base at : ℕ) (run : List ℕ) (is : IsRun B (base + a
   unfolding raw_stands
   run_raw k c x lt e = rw (run_byte k lt) e
 
-  pub run_letter_more : (word : List ℕ) (i : ℕ) → i < length word → i < length run → (slice_index run i == 92) ≡ false →
+  pub run_letter_more : (word : List ℕ) (i : ℕ) → i < length word → i < length run →
+      (slice_index run i == backslash) ≡ false →
       (slice_index run i == get_or word i 0) ≡ true
       → is_word_at (drop base B) (at + i) (drop i word) ≡ is_word_at (drop base B) (at + (i + 1)) (drop (i + 1) word)
   run_letter_more word i lt short whole same =
@@ -76,14 +78,15 @@ module _ (B : List ℕ) (base at : ℕ) (run : List ℕ) (is : IsRun B (base + a
       (run_raw i (get_or word i 0) true short same)
       ∙ ap (λ q. is_word_at (drop base B) q (drop (i + 1) word)) next
 
-  pub run_letter_other : (word : List ℕ) (i : ℕ) → i < length word → i < length run → (slice_index run i == 92) ≡ false
+  pub run_letter_other : (word : List ℕ) (i : ℕ) → i < length word → i < length run →
+      (slice_index run i == backslash) ≡ false
       → (slice_index run i == get_or word i 0) ≡ false
       → is_word_at (drop base B) (at + i) (drop i word) ≡ false
   run_letter_other word i lt short whole other =
       letter_other (drop base B) (at + i) word i lt (run_raw i 92 false short whole)
       (run_raw i (get_or word i 0) false short other)
 
-  pub run_word_whole : (word : List ℕ) → length word < length run → (slice_index run (length word) == 92) ≡ false
+  pub run_word_whole : (word : List ℕ) → length word < length run → (slice_index run (length word) == backslash) ≡ false
       → is_word_at (drop base B) (at + length word) (drop (length word) word)
       ≡ ends (Some (slice_index run (length word)))
   unfolding ends_word

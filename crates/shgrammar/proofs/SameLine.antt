@@ -2,6 +2,7 @@
 use Rattle.std.proofs.Common.{◌≡◌, ℕ, zero, suc, ◌+◌, ◌-◌, ◌≤◌, ◌<◌, Bool, true, false, ◌&&◌, Result, Ok, Err, ⊎_elim, List, List as Row, [], ◌∷◌, ◌++◌, take, drop, Option, Some, None, slice_get, refl, sym, ap, subst, ◌∙◌, arith}
 use Rattle.std.proofs.lemmas.Bool.{and_parts, cases_lt}
 use Rattle.std.proofs.lemmas.Bool.Decides.{nat_tests}
+use Rattle.shgrammar.specs.Characters.{newline_char}
 use Rattle.shgrammar.specs.declared.keep.Keep.TheVariants.{Whole}
 use Rattle.shgrammar.specs.declared.fault.Fault.{Fault}
 use Rattle.shgrammar.specs.declared.fault.FaultKind.{FaultKind}
@@ -197,11 +198,11 @@ module _ {edition : Edition} {T U : List ℕ} {a M : ℕ} {to : ℕ → ℕ} (E 
 
 -- ---- one line and two texts
 
-byte_is : (x : Option ℕ) → is_byte x 10 ≡ true → x ≡ Some 10
+byte_is : (x : Option ℕ) → is_byte x newline_char ≡ true → x ≡ Some 10
 byte_is None e = absurd cc
 byte_is (Some b) e = let is : b ≡ 10 = grind (arith, nat_tests) in ap Some is
 
-pub newline_at : (T : List ℕ) (p : ℕ) → raw_stands T p 10 ≡ true → slice_get T p ≡ Some 10
+pub newline_at : (T : List ℕ) (p : ℕ) → raw_stands T p newline_char ≡ true → slice_get T p ≡ Some 10
 unfolding raw_stands
 newline_at T p e = byte_is (slice_get T p) e
 
@@ -214,9 +215,10 @@ same_texts edition T U M same byte = record {
   ender = newline_ends;
 }
 
-same_raw : (T U : List ℕ) (p : ℕ) → slice_get U p ≡ slice_get T p → raw_stands T p 10 ≡ true → raw_stands U p 10 ≡ true
+same_raw : (T U : List ℕ) (p : ℕ) → slice_get U p ≡ slice_get T p → raw_stands T p newline_char ≡ true →
+    raw_stands U p newline_char ≡ true
 unfolding raw_stands
-same_raw T U p is e = ap (λ b. is_byte b 10) is ∙ e
+same_raw T U p is e = ap (λ b. is_byte b newline_char) is ∙ e
 
 -- U has the bytes of T up to where its line ends
 ended_alone : (edition : Edition) → (T U : List ℕ) (l : ALine) → IsLine edition T l → l.ended ≡ true →
@@ -231,7 +233,7 @@ ended_alone edition T U l (line_read es newline t k part) ended same =
     let E = same_texts edition T U M (λ r lt. same r (omega (arith, lt, some))) (newline_at T M both.1) in
     let again = line_again E 0 0 (λ p from. refl) inner (shown_level (given edition T 0) most_open) false (standing 0)
     (omega arith) (Ok ((es, newline), t)) k part (both.0, omega (arith, some)) in
-    let there_too : raw_stands U M 10 ≡ true = same_raw T U M (same M (omega (arith, some))) both.1 in
+    let there_too : raw_stands U M newline_char ≡ true = same_raw T U M (same M (omega (arith, some))) both.1 in
     subst (λ (c : Bool). IsLine edition U (record { kind = kind_of es newline; next = t.at; ended = newline && c }))
     (there_too ∙ sym both.1) (line_read es newline t again.1.0 again.1.1)
 ended_alone edition T U l (line_stops f k part) ended same = absurd cc

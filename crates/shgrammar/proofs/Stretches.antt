@@ -2,6 +2,7 @@
 use Rattle.std.proofs.Common.{◌≡◌, ℕ, zero, suc, ◌+◌, ◌-◌, ◌<◌, ◌≤◌, ◌==◌, Bool, true, false, ◌&&◌, cond, Option, Some, None, slice_get, get_or, List, [], ◌∷◌, length, drop, refl, ap, ◌∙◌, arith, zero-add, add-one, drop-cons}
 use Rattle.std.proofs.Math.Seq.{drop-length}
 use Rattle.std.proofs.lemmas.Option.{slice_get_within, slice_get_past}
+use Rattle.shgrammar.specs.Characters.{newline_char}
 use Rattle.shgrammar.specs.Standing.{raw_stands, raw_in, passes, is_byte, count_front, raw_past, before_blanks, continues}
 use Rattle.shgrammar.specs.Bytes.{stands, stands_in, past, past_below, ends_word, count_joined, past_continuations, byte_at, past_byte}
 use Rattle.shgrammar.specs.Classes.{is_blank}
@@ -71,7 +72,7 @@ alone true n = refl
 alone false n = refl
 
 joined_at : (T : List ℕ) (p : ℕ) →
-    count_joined (drop p T) ≡ cond (is_byte (slice_get T p) 92 && is_byte (slice_get T (p + 1)) 10)
+    count_joined (drop p T) ≡ cond (is_byte (slice_get T p) 92 && is_byte (slice_get T (p + 1)) newline_char)
     (2 + count_joined (drop (p + 2) T)) 0
 unfolding count_joined
 joined_at [] zero = refl

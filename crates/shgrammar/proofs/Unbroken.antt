@@ -1,6 +1,7 @@
 -- A stretch of bytes of a class where no continuation stands: what is read there is what stands there.
 use Rattle.std.proofs.Common.{◌≡◌, ℕ, zero, suc, ◌+◌, ◌-◌, ◌<◌, ◌≤◌, ◌==◌, Bool, true, false, ◌&&◌, Option, None, Some, slice_get, List, length, refl, sym, ap, ◌∙◌, arith}
 use Rattle.std.proofs.lemmas.Bool.{eqb-true}
+use Rattle.shgrammar.specs.Characters.{newline_char}
 use Rattle.shgrammar.specs.declared.class.Class.{Class}
 use Rattle.shgrammar.specs.declared.class.Class.TheVariants.{Blank, Digit, Name, Tab}
 use Rattle.shgrammar.specs.Standing.{passes, is_byte, raw_stands, raw_in, raw_past, continues}
@@ -27,7 +28,7 @@ pub stays : (test : ℕ → Bool) (T : List ℕ) (p : ℕ) → test 92 ≡ false
 unfolding raw_in
 stays test T p other passed = joined_none T p
     (unfold continues raw_stands in
-    no_continuation test (slice_get T p) (is_byte (slice_get T (p + 1)) 10) other passed)
+    no_continuation test (slice_get T p) (is_byte (slice_get T (p + 1)) newline_char) other passed)
 
 raw_in_low : (test : ℕ → Bool) (T : List ℕ) (p : ℕ) → raw_in test T p ≡ true → p < length T
 raw_in_low test T p passed = passes_low test T p (slice_get T p) refl (unfold raw_in in passed)

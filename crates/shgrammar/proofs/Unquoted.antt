@@ -7,6 +7,7 @@ use Rattle.std.proofs.lemmas.Bool.Decides.{nat_tests}
 use Rattle.std.proofs.lemmas.Option.{slice_get_within, slice_get-get_or}
 use Rattle.std.proofs.lemmas.List.{append_assoc, drop_more, append-nil, drop_all, length-drop}
 use Rattle.shast.specs.Shape.{bare}
+use Rattle.shgrammar.specs.Characters.{apostrophe, backslash, dollar_sign, left_brace, left_parenthesis, newline_char, quotation_mark}
 use Rattle.shgrammar.specs.Standing.{is_byte, continues, raw_stands}
 use Rattle.shgrammar.specs.Bytes.{byte_at, count_joined, past_continuations, stands}
 use Rattle.shgrammar.specs.HereDocuments.{Quoting, after_quote, byte_left, dollar_left, escape_left, is_live, is_quote, left_before, stays_before, unquoted}
@@ -20,16 +21,16 @@ push_left : (text : List ℕ) (c : ℕ) (left : Option (List ℕ)) →
 push_left text c None = refl
 push_left text c (Some bs) = ap (λ (l : List ℕ). Some l) (sym (append_assoc text (c ∷ []) bs))
 
-pub escape_dropped : (q : Quoting) (text : List ℕ) (c : ℕ) (left : Option (List ℕ)) → (c == 10) ≡ true →
+pub escape_dropped : (q : Quoting) (text : List ℕ) (c : ℕ) (left : Option (List ℕ)) → (c == newline_char) ≡ true →
     left_of text (escape_left q c left) ≡ left_of text left
 escape_dropped q text c left is = rw is refl
 
-pub escape_both : (q : Quoting) (text : List ℕ) (c : ℕ) (left : Option (List ℕ)) → (c == 10) ≡ false →
+pub escape_both : (q : Quoting) (text : List ℕ) (c : ℕ) (left : Option (List ℕ)) → (c == newline_char) ≡ false →
     stays_before q c ≡ true → left_of text (escape_left q c left) ≡ left_of ((text ++ 92 ∷ []) ++ c ∷ []) left
 escape_both q text c left other is =
     rw (other, is) (push_left text 92 (left_before c left) ∙ push_left (text ++ 92 ∷ []) c left)
 
-pub escape_one : (q : Quoting) (text : List ℕ) (c : ℕ) (left : Option (List ℕ)) → (c == 10) ≡ false →
+pub escape_one : (q : Quoting) (text : List ℕ) (c : ℕ) (left : Option (List ℕ)) → (c == newline_char) ≡ false →
     stays_before q c ≡ false → left_of text (escape_left q c left) ≡ left_of (text ++ c ∷ []) left
 escape_one q text c left other is = rw (other, is) (push_left text c left)
 
@@ -39,7 +40,7 @@ pub two_bytes : (word : List ℕ) (at : ℕ) → continues word at ≡ true → 
 unfolding continues raw_stands
 two_bytes word at c = let both = and_parts _ _ c in within (slice_get word (at + 1)) refl both.1
   where
-    within : (x : Option ℕ) → slice_get word (at + 1) ≡ x → is_byte x 10 ≡ true → at + 2 ≤ length word
+    within : (x : Option ℕ) → slice_get word (at + 1) ≡ x → is_byte x newline_char ≡ true → at + 2 ≤ length word
     within None is e = absurd cc
     within (Some b) is e = let lt = slice_get_within word (at + 1) b is in omega (arith, lt)
 
@@ -55,7 +56,7 @@ none_past : (word : List ℕ) (q : ℕ) → length word ≤ q → continues word
 unfolding continues raw_stands
 none_past word q le = by (slice_get word q) refl
   where
-    by : (x : Option ℕ) → slice_get word q ≡ x → (is_byte x 92 && raw_stands word (q + 1) 10) ≡ false
+    by : (x : Option ℕ) → slice_get word q ≡ x → (is_byte x backslash && raw_stands word (q + 1) newline_char) ≡ false
     by None is = refl
     by (Some b) is = let lt = slice_get_within word q b is in absurd (omega (arith, lt, le))
 
@@ -89,17 +90,17 @@ pub dollar_second : (text bs : List ℕ) (left : Bool → Option (List ℕ)) →
 dollar_second text bs left = push_left text 36 (left false)
 
 pub dollar_opens : (text word : List ℕ) (p : ℕ) (left : Bool → Option (List ℕ)) →
-    (is_byte (byte_at word p) 40 || is_byte (byte_at word p) 123) ≡ true →
+    (is_byte (byte_at word p) left_parenthesis || is_byte (byte_at word p) left_brace) ≡ true →
     left_of text (dollar_left false (drop p word) left) ≡ None
 dollar_opens text word p left opens = rw (rest_stands word p 40, rest_stands word p 123, opens) refl
 
 pub dollar_on : (text word : List ℕ) (p : ℕ) (left : Bool → Option (List ℕ)) →
-    (is_byte (byte_at word p) 40 || is_byte (byte_at word p) 123) ≡ false
+    (is_byte (byte_at word p) left_parenthesis || is_byte (byte_at word p) left_brace) ≡ false
     → left_of text (dollar_left false (drop p word) left)
-    ≡ left_of (text ++ 36 ∷ []) (left (is_byte (byte_at word p) 36))
+    ≡ left_of (text ++ 36 ∷ []) (left (is_byte (byte_at word p) dollar_sign))
 dollar_on text word p left other =
     rw (rest_stands word p 40, rest_stands word p 123, other, rest_stands word p 36)
-    (push_left text 36 (left (is_byte (byte_at word p) 36)))
+    (push_left text 36 (left (is_byte (byte_at word p) dollar_sign)))
 
 -- ---- another byte
 
@@ -187,20 +188,20 @@ none_left left is = sym is
 -- ---- whether it is quoted
 
 abbrev quotes : ℕ → Bool
-quotes b = b == 92 || b == 39 || b == 34
+quotes b = b == backslash || b == apostrophe || b == quotation_mark
 
-bare_pair : (b c : ℕ) (bs : List ℕ) → (b == 92 && c == 10) ≡ true → bare (b ∷ c ∷ bs) ≡ bare bs
+bare_pair : (b c : ℕ) (bs : List ℕ) → (b == backslash && c == newline_char) ≡ true → bare (b ∷ c ∷ bs) ≡ bare bs
 unfolding bare
 bare_pair b c bs is = rw is refl
 
 continues_at : (word : List ℕ) (at : ℕ) → at + 1 < length word →
-    continues word at ≡ (get_or word at 0 == 92 && get_or word (at + 1) 0 == 10)
+    continues word at ≡ (get_or word at 0 == backslash && get_or word (at + 1) 0 == newline_char)
 unfolding continues raw_stands
 continues_at word at lt = rw (slice_get-get_or word at 0 (omega (arith, lt)), slice_get-get_or word (at + 1) 0 lt) refl
 
 pub bare_on : (word : List ℕ) (at : ℕ) → continues word at ≡ true →
-    list_any (λ b. b == 92 || b == 39 || b == 34) (bare (drop at word))
-    ≡ list_any (λ b. b == 92 || b == 39 || b == 34) (bare (drop (at + 2) word))
+    list_any (λ b. b == backslash || b == apostrophe || b == quotation_mark) (bare (drop at word))
+    ≡ list_any (λ b. b == backslash || b == apostrophe || b == quotation_mark) (bare (drop (at + 2) word))
 bare_on word at c =
     let le = two_bytes word at c in
     let next : at + 1 + 1 ≡ at + 2 = omega arith in
@@ -211,7 +212,8 @@ bare_on word at c =
     (sym (continues_at word at (omega (arith, le))) ∙ c))
     ∙ ap (λ n. list_any quotes (bare (drop n word))) next
 
-pub bare_one : (b : ℕ) (bs : List ℕ) → ((c : ℕ) (cs : List ℕ) → bs ≡ c ∷ cs → (b == 92 && c == 10) ≡ false) →
+pub bare_one : (b : ℕ) (bs : List ℕ) →
+    ((c : ℕ) (cs : List ℕ) → bs ≡ c ∷ cs → (b == backslash && c == newline_char) ≡ false) →
     bare (b ∷ bs) ≡ b ∷ bare bs
 unfolding bare
 bare_one b [] none = refl
@@ -221,27 +223,29 @@ bare_step : (word : List ℕ) (at : ℕ) → at < length word → continues word
     bare (drop at word) ≡ get_or word at 0 ∷ bare (drop (at + 1) word)
 bare_step word at lt other = ap bare (drop_more word at 0 lt) ∙ bare_one (get_or word at 0) (drop (at + 1) word) none
   where
-    none : (c : ℕ) (cs : List ℕ) → drop (at + 1) word ≡ c ∷ cs → (get_or word at 0 == 92 && c == 10) ≡ false
+    none : (c : ℕ) (cs : List ℕ) → drop (at + 1) word ≡ c ∷ cs →
+        (get_or word at 0 == backslash && c == newline_char) ≡ false
     none c cs is =
         let long : length (drop (at + 1) word) ≡ suc (length cs) = ap length is in
         let more : at + 1 < length word = omega (arith, long, length-drop (at + 1) word) in
         let first : get_or word (at + 1) 0 ∷ drop (at + 1 + 1) word ≡ c ∷ cs = sym (drop_more word (at + 1) 0 more)
         ∙ is in
         let same : get_or word (at + 1) 0 ≡ c = cc in
-        ap (λ (x : ℕ). get_or word at 0 == 92 && x == 10) (sym same) ∙ sym (continues_at word at more) ∙ other
+        ap (λ (x : ℕ). get_or word at 0 == backslash && x == newline_char) (sym same) ∙ sym (continues_at word at more)
+        ∙ other
 
 pub bare_quotes : (word : List ℕ) (at : ℕ) → at < length word → continues word at ≡ false →
-    (get_or word at 0 == 92 || get_or word at 0 == 39 || get_or word at 0 == 34) ≡ true
-    → list_any (λ b. b == 92 || b == 39 || b == 34) (bare (drop at word)) ≡ true
+    (get_or word at 0 == backslash || get_or word at 0 == apostrophe || get_or word at 0 == quotation_mark) ≡ true
+    → list_any (λ b. b == backslash || b == apostrophe || b == quotation_mark) (bare (drop at word)) ≡ true
 bare_quotes word at lt other is = rw (bare_step word at lt other, is) refl
 
 pub bare_other : (word : List ℕ) (at : ℕ) → at < length word → continues word at ≡ false →
-    (get_or word at 0 == 92 || get_or word at 0 == 39 || get_or word at 0 == 34) ≡ false
-    → list_any (λ b. b == 92 || b == 39 || b == 34) (bare (drop at word))
-    ≡ list_any (λ b. b == 92 || b == 39 || b == 34) (bare (drop (at + 1) word))
+    (get_or word at 0 == backslash || get_or word at 0 == apostrophe || get_or word at 0 == quotation_mark) ≡ false
+    → list_any (λ b. b == backslash || b == apostrophe || b == quotation_mark) (bare (drop at word))
+    ≡ list_any (λ b. b == backslash || b == apostrophe || b == quotation_mark) (bare (drop (at + 1) word))
 bare_other word at lt other is = rw (bare_step word at lt other, is) refl
 
 pub bare_end : (word : List ℕ) (at : ℕ) → length word ≤ at →
-    list_any (λ b. b == 92 || b == 39 || b == 34) (bare (drop at word)) ≡ false
+    list_any (λ b. b == backslash || b == apostrophe || b == quotation_mark) (bare (drop at word)) ≡ false
 unfolding bare
 bare_end word at le = rw (drop_all at word le) refl

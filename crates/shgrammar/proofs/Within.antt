@@ -3,6 +3,7 @@ use Rattle.std.proofs.Common.{◌≡◌, refl, sym, subst, ℕ, zero, suc, ◌+�
 use Rattle.std.specs.Prelude.{All, MatchOption, unwrap_or}
 use Rattle.std.proofs.lemmas.Bool.{cases_lt, cond_both}
 use Rattle.std.proofs.lemmas.List.Elements.{All-head, All-nil, All-push, All-tail}
+use Rattle.shgrammar.specs.Characters.{number_sign}
 use Rattle.shgrammar.specs.declared.keep.Keep.{Keep}
 use Rattle.shgrammar.specs.declared.fault.FaultKind.TheVariants.{UnclosedSubst}
 use Rattle.shgrammar.specs.declared.mode.Mode.{Mode}
@@ -69,7 +70,7 @@ comment_by_test false o p last next c one two is = absurd cc
 pub comment_ends : (T : List ℕ) (o p : ℕ) (c : Span) → comment_at T o p ≡ Some c → IsSpanWithin (o + past_comment T p) c
 unfolding comment_at past_comment
 comment_ends T o p c is =
-    comment_by_test (raw_stands T p 35) o p (before_blanks T (next_newline T p)) (next_newline T p) c
+    comment_by_test (raw_stands T p number_sign) o p (before_blanks T (next_newline T p)) (next_newline T p) c
     (next_newline_low T p) (before_blanks_low T (next_newline T p)) is
 
 -- ---- forms
@@ -609,7 +610,7 @@ module _ (keep : Keep) (g : Given) (limit : ℕ) where
         after (λ i t. first (repeats ItemsFit (word_turn inner) word_turn_fits (items_so_far [] Suffix i.1) t
         (All-nil (ItemFits limit)))
         (λ ws u items. first (sequential_sep_fits cs ws.next u all)
-            (λ l v so. gives (fits_items limit ws.items items, so))))
+        (λ l v so. gives (fits_items limit ws.items items, so))))
 
     for_head_fits : (n : Next) (s : State) → R (a_for_head inner n) HeadFits s
     unfolding a_for_head

@@ -12,7 +12,7 @@ use Rattle.shast.specs.declared.tree.Span.{Span}
 use Rattle.shgrammar.specs.declared.fault.Fault.{Fault}
 use Rattle.shline.specs.declared.documents.Waiting as the_waiting
 use Rattle.shgrammar.specs.declared.fault.FaultKind.TheVariants.{UnclosedHere}
-use Rattle.shgrammar.specs.Characters.{tab}
+use Rattle.shgrammar.specs.Characters.{newline_char, tab}
 use Rattle.shgrammar.specs.Standing.{is_byte, raw_stands, raw_past, count_front, next_newline}
 use Rattle.shgrammar.specs.Comments.{span}
 use Rattle.shline.specs.declared.documents.Documents as the_documents
@@ -61,38 +61,42 @@ run_word B run base p q is le = ap (take (q - p)) (drop-drop p base B) ∙ run_p
 
 -- ---- tabs
 
-tab_is_text : (b : ℕ) → (b == 9) ≡ true → (b == 10) ≡ false
+tab_is_text : (b : ℕ) → (b == tab) ≡ true → (b == newline_char) ≡ false
 tab_is_text b is = grind (arith, nat_tests, is)
 
-tabs_low_by : (b m n : ℕ) → m ≤ n → (t : Bool) → (b == 9) ≡ t → cond (b == 9) (1 + m) 0 ≤ cond (not (b == 10)) (1 + n) 0
+tabs_low_by : (b m n : ℕ) → m ≤ n → (t : Bool) → (b == tab) ≡ t →
+    cond (b == tab) (1 + m) 0 ≤ cond (not (b == newline_char)) (1 + n) 0
 tabs_low_by b m n le true is = rw (is, tab_is_text b is) (omega (arith, le))
 tabs_low_by b m n le false is = rw is (omega arith)
 
 -- tabs stand in their line
-tabs_low : (X : List ℕ) → count_front (λ b. b == 9) X ≤ count_front (λ b. not (b == 10)) X
+tabs_low : (X : List ℕ) → count_front (λ b. b == tab) X ≤ count_front (λ b. not (b == newline_char)) X
 unfolding count_front
 tabs_low [] = omega arith
-tabs_low (b ∷ X) = tabs_low_by b _ _ (tabs_low X) (b == 9) refl
+tabs_low (b ∷ X) = tabs_low_by b _ _ (tabs_low X) (b == tab) refl
 
-newline_is_no_tab : (b : ℕ) → (b == 10) ≡ true → (b == 9) ≡ false
+newline_is_no_tab : (b : ℕ) → (b == newline_char) ≡ true → (b == tab) ≡ false
 newline_is_no_tab b is = grind (arith, nat_tests, is)
 
 tabs_same_by : (b : ℕ) (X : List ℕ) →
-    count_front (λ c. c == 9) (take (count_front (λ c. not (c == 10)) X) X) ≡ count_front (λ c. c == 9) X → (t : Bool) →
-    (b == 10) ≡ t
-    → count_front (λ c. c == 9) (take (cond (not (b == 10)) (1 + count_front (λ c. not (c == 10)) X) 0) (b ∷ X))
-    ≡ cond (b == 9) (1 + count_front (λ c. c == 9) X) 0
+    count_front (λ c. c == tab) (take (count_front (λ c. not (c == newline_char)) X) X) ≡ count_front (λ c. c == tab) X
+    → (t : Bool) →
+    (b == newline_char) ≡ t
+    → count_front (λ c. c == tab)
+    (take (cond (not (b == newline_char)) (1 + count_front (λ c. not (c == newline_char)) X) 0) (b ∷ X))
+    ≡ cond (b == tab) (1 + count_front (λ c. c == tab) X) 0
 unfolding count_front
 tabs_same_by b X rest true is = rw (is, newline_is_no_tab b is) refl
 tabs_same_by b X rest false is =
-    let more : 1 + count_front (λ c. not (c == 10)) X ≡ suc (count_front (λ c. not (c == 10)) X) = omega arith in
-    rw (is, more) (ap (λ n. cond (b == 9) (1 + n) 0) rest)
+    let more : 1 + count_front (λ c. not (c == newline_char)) X ≡ suc (count_front (λ c. not (c == newline_char)) X) =
+    omega arith in
+    rw (is, more) (ap (λ n. cond (b == tab) (1 + n) 0) rest)
 
-tabs_same : (X : List ℕ) → count_front (λ b. b == 9) (take (count_front (λ b. not (b == 10)) X) X)
-    ≡ count_front (λ b. b == 9) X
+tabs_same : (X : List ℕ) → count_front (λ b. b == tab) (take (count_front (λ b. not (b == newline_char)) X) X)
+    ≡ count_front (λ b. b == tab) X
 unfolding count_front
 tabs_same [] = refl
-tabs_same (b ∷ X) = tabs_same_by b X (tabs_same X) (b == 10) refl
+tabs_same (b ∷ X) = tabs_same_by b X (tabs_same X) (b == newline_char) refl
 
 take_nothing : (n : ℕ) → ◌≡◌ {A = List ℕ} [] (take n [])
 take_nothing zero = refl
@@ -115,12 +119,12 @@ pub stripped_line : (T : List ℕ) (p : ℕ) →
 unfolding raw_past
 stripped_line T p =
     let X = drop p T in
-    let n = count_front (λ b. not (b == 10)) X in
-    let t = count_front (λ b. b == 9) X in
+    let n = count_front (λ b. not (b == newline_char)) X in
+    let t = count_front (λ b. b == tab) X in
     let line : rest_of_line T p ≡ take n X = ap (λ m. take m X) (omega arith) in
     let rest : p + n - (p + t) ≡ n - t = omega arith in
     let there : drop t X ≡ drop (p + t) T = drop-drop t p T in
-    ap (λ l. drop (count_front (λ b. b == 9) l) l) line
+    ap (λ l. drop (count_front (λ b. b == tab) l) l) line
     ∙ ap (λ m. drop m (take n X)) (tabs_same X)
     ∙ drop_take t n X
     ∙ ap (take (n - t)) there

@@ -1,5 +1,6 @@
 -- An empty line: a newline alone.
 use Rattle.std.proofs.Common.{◌≡◌, ℕ, ◌+◌, Bool, true, false, List, [], ◌∷◌, Ok, Some, None, Option, slice_get, drop, refl, sym, ap, subst, ◌∙◌, arith}
+use Rattle.shgrammar.specs.Characters.{newline_char}
 use Rattle.shgrammar.specs.declared.keep.Keep.{Keep}
 use Rattle.shgrammar.specs.Bytes.{is_broken_at, past_blanks, past_byte, past_continuations}
 use Rattle.shgrammar.specs.Commands.{next_token, nothing_waits, a_comment}
@@ -66,7 +67,7 @@ newline_told edition B p keep blank o first =
     begun edition (drop p B) keep blank o (get_drop p B 0 ∙ ap (slice_get B) here ∙ first)
 
 -- it is the last byte of that line
-pub newline_stands : (B : List ℕ) (p : ℕ) → slice_get B p ≡ Some 10 → raw_stands (drop p B) 0 10 ≡ true
+pub newline_stands : (B : List ℕ) (p : ℕ) → slice_get B p ≡ Some 10 → raw_stands (drop p B) 0 newline_char ≡ true
 unfolding raw_stands
 newline_stands B p first =
     let here : p + 0 ≡ p = omega arith in

@@ -9,6 +9,7 @@ use Rattle.shast.specs.declared.tree.Comment.{Comment}
 use Rattle.shast.specs.declared.tree.RedirectOperator.{RedirectOperator}
 use Rattle.shast.specs.Tree.{ACommand, Items, compound, function, simple, with_redirects}
 use Rattle.shast.specs.View.{view_comment}
+use Rattle.shgrammar.specs.Characters.{less_than_sign}
 use Rattle.shgrammar.specs.declared.token.Token.{Token}
 use Rattle.shgrammar.specs.Commands.{redirect_operator_of, takes_here}
 use Rattle.shgrammar.specs.declared.token.Token.TheVariants as tokens
@@ -19,11 +20,11 @@ use Rattle.shline.specs.Clauses.{is_compound}
 use Rattle.shline.specs.declared.documents.Waiting as the_waiting
 use Rattle.shline.specs.Limits.{Waits, limits, wants_memory}
 
-byte_some : (T : List ℕ) (p : ℕ) (b : Option ℕ) → slice_get T p ≡ b → is_byte b 60 ≡ true →
-    list_any (λ b. b == 60) T ≡ true
+byte_some : (T : List ℕ) (p : ℕ) (b : Option ℕ) → slice_get T p ≡ b → is_byte b less_than_sign ≡ true →
+    list_any (λ b. b == less_than_sign) T ≡ true
 byte_some T p None is e = absurd cc
-byte_some T p (Some c) is e = list_any_at (λ b. b == 60) T p 0 (slice_get_within T p c is)
-    (ap (λ z. z == 60) (get_or_from_slice_get T p c 0 is) ∙ e)
+byte_some T p (Some c) is e = list_any_at (λ b. b == less_than_sign) T p 0 (slice_get_within T p c is)
+    (ap (λ z. z == less_than_sign) (get_or_from_slice_get T p c 0 is) ∙ e)
 
 -- the operator of a here-document stands in the text
 pub here_wants : (k : ℕ) (T : List ℕ) (token : Token) (p : ℕ) (o : RedirectOperator) → Shows token T p →
@@ -64,7 +65,8 @@ same_kind (compound c) redirects = refl
 same_kind (function f cs b) redirects = refl
 
 -- what stands after a place stands in the text
-pub seen_after : (T : List ℕ) (n : ℕ) → list_any (λ b. b == 60) (drop n T) ≡ true → list_any (λ b. b == 60) T ≡ true
+pub seen_after : (T : List ℕ) (n : ℕ) → list_any (λ b. b == less_than_sign) (drop n T) ≡ true →
+    list_any (λ b. b == less_than_sign) T ≡ true
 seen_after T zero so = so
 seen_after [] (suc n) so = absurd cc
 seen_after (b ∷ T) (suc n) so = or_right _ _ (seen_after T n so)

@@ -2,6 +2,7 @@
 use Rattle.std.proofs.Common.{◌≡◌, ◌∙◌, ℕ, zero-add, IfErr, IfOk, Result, ◌+◌, ◌-◌, ◌≤◌, ◌<◌, Bool, true, false, not, List, [], ◌∷◌, ◌++◌, Vec, Global, length, map, take, drop, Ok, Err, None, Some, refl, ap, subst, sym, append_assoc, append-nil, arith, length-append, length-drop, length-take}
 use Rattle.std.proofs.lemmas.List.{take-append-le}
 use Rattle.std.proofs.Math.Seq.{drop-append_seam, drop-append-add, take-add, take-take}
+use Rattle.shgrammar.specs.Characters.{newline_char}
 use Rattle.shgrammar.specs.declared.edition.Edition.{Edition}
 use Rattle.shgrammar.specs.declared.fault.Fault.{Fault}
 use Rattle.shpass.specs.declared.script_lines.LinesBefore.{LinesBefore}
@@ -134,7 +135,7 @@ outer_printed y H q blank line es text then outer is =
 whole_there : (edition : Edition) (H P more : List ℕ) (q : ℕ) (blank : Bool) (es : List AnEntry) (t : State) →
     Rattle.shgrammar.specs.Scripts.line_told edition H Whole false q 0 ≡ Ok ((es, true), t) → 0 < t.at →
     q + t.at ≤ length H
-    → Rattle.shgrammar.specs.Standing.raw_stands (drop q H) (t.at - 1) 10 ≡ true →
+    → Rattle.shgrammar.specs.Standing.raw_stands (drop q H) (t.at - 1) newline_char ≡ true →
     There edition H (P ++ (take t.at (drop q H) ++ more)) q (length P) blank true es t
 whole_there edition H P more q blank es t read some low stands =
     let D = drop q H in
@@ -167,8 +168,8 @@ module _ {S : Type 0} (edition : Edition) (y : Layout) (H : List ℕ) (old new :
       let size : t.at ≡ L = omega (arith, a.4, w.1, ends_at) in
       let some : 0 < t.at = omega (arith, a.4, w.3) in
       let high : q + t.at ≤ length H = omega (arith, size, ends_at, low) in
-      let stands : Rattle.shgrammar.specs.Standing.raw_stands D (t.at - 1) 10 ≡ true =
-      subst (λ (k : ℕ). Rattle.shgrammar.specs.Standing.raw_stands D (k - 1) 10 ≡ true) a.4 w.4 in
+      let stands : Rattle.shgrammar.specs.Standing.raw_stands D (t.at - 1) newline_char ≡ true =
+      subst (λ (k : ℕ). Rattle.shgrammar.specs.Standing.raw_stands D (k - 1) newline_char ≡ true) a.4 w.4 in
       let there = λ (more : List ℕ). whole_there edition H P more q blank es t a.2 some high stands in
       let here = blanked_row blank (map (moved_entry (length P)) es) in
       let alike : is_empty (map view_entry line.items) ≡ is_empty here = ap is_empty a.3

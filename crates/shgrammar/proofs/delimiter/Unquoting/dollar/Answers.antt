@@ -1,4 +1,5 @@
 use Rattle.std.proofs.Common.{◌∙◌, ◌||◌, ◌++◌, Bool, List, [], ◌∷◌, Option, ℕ, drop, sym, ap}
+use Rattle.shgrammar.specs.Characters.{dollar_sign, left_brace, left_parenthesis}
 use Rattle.shgrammar.specs.HereDocuments.{dollar_left, unquoted}
 use Rattle.shgrammar.specs.Standing.{is_byte}
 use Rattle.shgrammar.specs.Unquoting.{left_of, view_quoting}
@@ -11,7 +12,8 @@ returns-then-opens-clause-left c =
     let word = c.args.word.now in
     let left : Bool → Option (List ℕ) =
     λ (second : Bool). unquoted (view_quoting c.args.self.now.quoting) second (drop c.args.next word) in
-    let found = ap (λ (x : Option ℕ). is_byte x 40 || is_byte x 123) (sym c.byte_at-following.ensures)
+    let found = ap (λ (x : Option ℕ). is_byte x left_parenthesis || is_byte x left_brace)
+    (sym c.byte_at-following.ensures)
     ∙ sym c.opens.ensures ∙ c.if-opens.true in
     ap (λ (second : Bool). left_of text (dollar_left second (drop c.args.next word) left)) c.if-self.false
     ∙ dollar_opens text word c.args.next left found
@@ -22,9 +24,11 @@ returns-clause-left c =
     let word = c.args.word.now in
     let left : Bool → Option (List ℕ) =
     λ (second : Bool). unquoted (view_quoting c.args.self.now.quoting) second (drop c.args.next word) in
-    let found = ap (λ (x : Option ℕ). is_byte x 40 || is_byte x 123) (sym c.byte_at-following.ensures)
+    let found = ap (λ (x : Option ℕ). is_byte x left_parenthesis || is_byte x left_brace)
+    (sym c.byte_at-following.ensures)
     ∙ sym c.opens.ensures ∙ c.if-opens.false in
-    let second = sym (c.is_byte-self.ensures ∙ ap (λ (x : Option ℕ). is_byte x 36) c.byte_at-following.ensures) in
+    let second = sym (c.is_byte-self.ensures
+    ∙ ap (λ (x : Option ℕ). is_byte x dollar_sign) c.byte_at-following.ensures) in
     ap (λ (b : Bool). left_of text (dollar_left b (drop c.args.next word) left)) c.if-self.false
     ∙ dollar_on text word c.args.next left found
     ∙ ap (λ (b : Bool). left_of (text ++ 36 ∷ []) (left b)) second

@@ -1,4 +1,5 @@
 use Rattle.std.proofs.Common.{◌≡◌, ℕ, ◌-◌, ◌∙◌, true, ap}
+use Rattle.shgrammar.specs.Characters.{newline_char}
 use Rattle.shgrammar.specs.Bytes.{past_byte}
 use Rattle.shline.specs.InHand.{InHand}
 use Rattle.shline.specs.Clauses.{at_place, here_of, keep_of, start_of, text_of}
@@ -17,9 +18,9 @@ returns-in_ok-bodies_here-in-Newline-clause-end g c =
     let same = moved.2.0 in
     let read = rw (same.0, same.1, same.2, same.3) at c.in_ok-bodies_here-in-Newline.ensures.0 in
     let is : here_of c.step.new.self ≡ past_byte text (start_of start) = moved.0 in
-    let newline : raw_stands text (here_of c.step.new.self - 1) 10 ≡ true =
-    ap (λ (q : ℕ). raw_stands text (q - 1) 10) is
-    ∙ ap (λ (q : ℕ). raw_stands text q 10) (after_back text (start_of start) ∙ start.shows.6)
+    let newline : raw_stands text (here_of c.step.new.self - 1) newline_char ≡ true =
+    ap (λ (q : ℕ). raw_stands text (q - 1) newline_char) is
+    ∙ ap (λ (q : ℕ). raw_stands text q newline_char) (after_back text (start_of start) ∙ start.shows.6)
     ∙ start.shows.2 c.in-Newline.is in
     ends_line (keep_of start) (given start.how.edition text start.origin) (at_place c.step.new.self)
     (at_place c.bodies_here.new.self) read newline

@@ -1,4 +1,5 @@
 use Rattle.std.proofs.Common.{◌≡◌, ◌≤◌, drop}
+use Rattle.shgrammar.specs.Characters.{apostrophe}
 use Rattle.shgrammar.specs.Standing.{next_of}
 use Rattle.shline.specs.Clauses.{Inside, on}
 use Rattle.shline.proofs.cursor.Cursor.next_quote.Given as goal
@@ -6,4 +7,5 @@ use Rattle.shline.proofs.cursor.Cursor.next_quote.Given as goal
 abbrev pub invariant-near : goal.invariant-near
 invariant-near g l =
     let text = drop l.self.base (g.S.Source.bytes l.self.source.now) in
-    (next_of 39 text (on l.self l.at) ≡ next_of 39 text (on l.self l.from)) × (l.from ≤ l.at) × Inside l.self l.at
+    (next_of apostrophe text (on l.self l.at) ≡ next_of apostrophe text (on l.self l.from)) × (l.from ≤ l.at)
+    × Inside l.self l.at
