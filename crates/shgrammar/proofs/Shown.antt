@@ -14,8 +14,10 @@ use Rattle.shgrammar.specs.Classes.{is_blank, is_operator}
 use Rattle.shgrammar.specs.Standing.{is_byte, is_none, passes, raw_stands, at_end}
 use Rattle.shgrammar.specs.Bytes.{byte_at, past_byte, ends, ends_word, past_blanks, past_continuations, stands, stands_in}
 use Rattle.shgrammar.specs.Characters.{ampersand, vertical_line, semicolon, left_parenthesis, right_parenthesis, less_than_sign, greater_than_sign, newline_char, hyphen, number_sign}
+use Rattle.shast.specs.declared.tree.AndOrOperator.{AndOrOperator}
 use Rattle.shast.specs.declared.tree.RedirectOperator.{RedirectOperator}
-use Rattle.shgrammar.specs.Commands.{is_long, is_strip, redirect_operator_of, takes_here, falls_through}
+use Rattle.shgrammar.specs.Commands.{and_or_operator_of, begins_word, ends_item, falls_through, is_long, is_strip, redirect_operator_of, takes_here}
+use Rattle.shgrammar.specs.Compounds.{begins_pattern}
 use Rattle.shgrammar.specs.declared.edition.Edition.{Edition}
 use Rattle.shgrammar.specs.Tokens.{first_word, greater_at, is_comment, is_end, is_later, is_number, less_at, token_in, token_at, token_of, word_by, word_of}
 use Rattle.shgrammar.specs.Shows.{IsRead, Shows}
@@ -164,265 +166,81 @@ module _ (T : List ℕ) (p : ℕ) where
 
 -- A token shows its own bytes alone: a fact of another token holds since this is not that one.
 
--- what an operator shows its token shows: a second byte, a third one, and the `<` of a here-document
-redirect_read : (T : List ℕ) (p : ℕ) (o : RedirectOperator) → (is_long o ≡ true → IsRead T (past_byte T p)) →
-    (z : RedirectOperator) → redirect_operator_of (tokens.Redirect o) ≡ Some z → is_long z ≡ true →
-    IsRead T (past_byte T p)
-redirect_read T p o so z is long = let same : o ≡ z = cc in so (rw same long)
+-- So each fact is shown by the tokens that it is of.
+module _ (T : List ℕ) (p : ℕ) where
+  -- what the bytes of a token are
+  abbrev Of : Token → Type 0
+  Of t = Byte T p (byte_at T p) t
 
-strip_read : (T : List ℕ) (p : ℕ) (o : RedirectOperator) → (is_strip o ≡ true → IsRead T (past_byte T (past_byte T p)))
-    →
-    (z : RedirectOperator) → redirect_operator_of (tokens.Redirect o) ≡ Some z → is_strip z ≡ true →
-    IsRead T (past_byte T (past_byte T p))
-strip_read T p o so z is strip = let same : o ≡ z = cc in so (rw same strip)
+  word_shown : (t : Token) → Of t → begins_word t ≡ true → ends_word T p ≡ false
+  unfolding ends_word
+  word_shown tokens.Assignment e is = e
+  word_shown tokens.Word e is = e
+  word_shown _ e is = absurd cc
 
-here_read : (T : List ℕ) (p : ℕ) (o : RedirectOperator) → (takes_here o ≡ true → raw_stands T p less_than_sign ≡ true) →
-    (z : RedirectOperator) → redirect_operator_of (tokens.Redirect o) ≡ Some z → takes_here z ≡ true →
-    raw_stands T p less_than_sign ≡ true
-here_read T p o so z is takes = let same : o ≡ z = cc in so (rw same takes)
+  newline_shown : (t : Token) → past_continuations T p ≡ p → Of t → t ≡ tokens.Newline
+      → raw_stands T p newline_char ≡ true
+  unfolding raw_stands
+  newline_shown tokens.Newline still e is = ap (λ q. is_byte (slice_get T q) newline_char) (sym still) ∙ e
+  newline_shown _ still e is = absurd cc
+
+  end_shown : (t : Token) → past_continuations T p ≡ p → Of t → t ≡ tokens.End → at_end T p ≡ true
+  unfolding at_end
+  end_shown tokens.End still e is = ap (λ q. is_none (slice_get T q)) (sym still) ∙ e
+  end_shown _ still e is = absurd cc
+
+  and_or_shown : (t : Token) → Of t → (o : AndOrOperator) → and_or_operator_of t ≡ Some o → IsRead T (past_byte T p)
+  and_or_shown tokens.AndIf e o is = e
+  and_or_shown tokens.OrIf e o is = e
+  and_or_shown _ e o is = absurd cc
+
+  pattern_shown : (t : Token) → Of t → begins_pattern t ≡ true → ends_word T p ≡ false
+  unfolding ends_word
+  pattern_shown (tokens.Reserved r) e is = e
+  pattern_shown tokens.Assignment e is = e
+  pattern_shown tokens.Word e is = e
+  pattern_shown _ e is = absurd cc
+
+  item_end_shown : (t : Token) → Of t → ends_item t ≡ true → IsRead T (past_byte T p)
+  item_end_shown tokens.DoubleSemicolon e is = e
+  item_end_shown tokens.SemicolonAmpersand e is = e
+  item_end_shown _ e is = absurd cc
+
+  long_shown : (t : Token) → Of t → (o : RedirectOperator) → redirect_operator_of t ≡ Some o → is_long o ≡ true
+      → IsRead T (past_byte T p)
+  long_shown (tokens.Redirect z) e o is long = let same : z ≡ o = cc in e.0 (rw same long)
+  long_shown _ e o is long = absurd cc
+
+  strip_shown : (t : Token) → Of t → (o : RedirectOperator) → redirect_operator_of t ≡ Some o → is_strip o ≡ true
+      → IsRead T (past_byte T (past_byte T p))
+  strip_shown (tokens.Redirect z) e o is strip = let same : z ≡ o = cc in e.1 (rw same strip)
+  strip_shown _ e o is strip = absurd cc
+
+  here_shown : (t : Token) → past_continuations T p ≡ p → Of t → (o : RedirectOperator)
+      → redirect_operator_of t ≡ Some o → takes_here o ≡ true → raw_stands T p less_than_sign ≡ true
+  unfolding raw_stands
+  here_shown (tokens.Redirect z) still e o is takes =
+      let same : z ≡ o = cc in
+      ap (λ q. is_byte (slice_get T q) less_than_sign) (sym still) ∙ e.2 (rw same takes)
+  here_shown _ still e o is takes = absurd cc
 
 -- each token, by what its bytes are
 shows_by : (T : List ℕ) (p : ℕ) (t : Token) → past_continuations T p ≡ p → (is_end t ≡ false → IsRead T p) →
     Byte T p (byte_at T p) t → (is_comment t ≡ false → raw_stands T p number_sign ≡ false) → Shows t T p
-unfolding ends_word raw_stands at_end
-shows_by T p tokens.End still some e none = (
-  λ f. absurd cc,
-  some,
-  λ f. absurd cc,
-  λ f. ap (λ q. is_none (slice_get T q)) (sym still) ∙ e,
-  λ o f. absurd cc,
-  none,
-  still,
-  λ f. absurd cc,
-  λ f. absurd cc,
-  λ o f. absurd cc,
-  λ o f. absurd cc,
-  λ o f. absurd cc,
-)
-shows_by T p tokens.Newline still some e none = (
-  λ f. absurd cc,
-  some,
-  λ f. ap (λ q. is_byte (slice_get T q) newline_char) (sym still) ∙ e,
-  λ f. absurd cc,
-  λ o f. absurd cc,
-  none,
-  still,
-  λ f. absurd cc,
-  λ f. absurd cc,
-  λ o f. absurd cc,
-  λ o f. absurd cc,
-  λ o f. absurd cc,
-)
-shows_by T p tokens.Semicolon still some e none = (
-  λ f. absurd cc,
-  some,
-  λ f. absurd cc,
-  λ f. absurd cc,
-  λ o f. absurd cc,
-  none,
-  still,
-  λ f. absurd cc,
-  λ f. absurd cc,
-  λ o f. absurd cc,
-  λ o f. absurd cc,
-  λ o f. absurd cc,
-)
-shows_by T p tokens.DoubleSemicolon still some e none = (
-  λ f. absurd cc,
-  some,
-  λ f. absurd cc,
-  λ f. absurd cc,
-  λ o f. absurd cc,
-  none,
-  still,
-  λ f. absurd cc,
-  λ f. e,
-  λ o f. absurd cc,
-  λ o f. absurd cc,
-  λ o f. absurd cc,
-)
-shows_by T p tokens.SemicolonAmpersand still some e none = (
-  λ f. absurd cc,
-  some,
-  λ f. absurd cc,
-  λ f. absurd cc,
-  λ o f. absurd cc,
-  none,
-  still,
-  λ f. absurd cc,
-  λ f. e,
-  λ o f. absurd cc,
-  λ o f. absurd cc,
-  λ o f. absurd cc,
-)
-shows_by T p tokens.Ampersand still some e none = (
-  λ f. absurd cc,
-  some,
-  λ f. absurd cc,
-  λ f. absurd cc,
-  λ o f. absurd cc,
-  none,
-  still,
-  λ f. absurd cc,
-  λ f. absurd cc,
-  λ o f. absurd cc,
-  λ o f. absurd cc,
-  λ o f. absurd cc,
-)
-shows_by T p tokens.AndIf still some e none = (
-  λ f. absurd cc,
-  some,
-  λ f. absurd cc,
-  λ f. absurd cc,
-  λ o f. e,
-  none,
-  still,
-  λ f. absurd cc,
-  λ f. absurd cc,
-  λ o f. absurd cc,
-  λ o f. absurd cc,
-  λ o f. absurd cc,
-)
-shows_by T p tokens.OrIf still some e none = (
-  λ f. absurd cc,
-  some,
-  λ f. absurd cc,
-  λ f. absurd cc,
-  λ o f. e,
-  none,
-  still,
-  λ f. absurd cc,
-  λ f. absurd cc,
-  λ o f. absurd cc,
-  λ o f. absurd cc,
-  λ o f. absurd cc,
-)
-shows_by T p tokens.Pipe still some e none = (
-  λ f. absurd cc,
-  some,
-  λ f. absurd cc,
-  λ f. absurd cc,
-  λ o f. absurd cc,
-  none,
-  still,
-  λ f. absurd cc,
-  λ f. absurd cc,
-  λ o f. absurd cc,
-  λ o f. absurd cc,
-  λ o f. absurd cc,
-)
-shows_by T p tokens.OpenParen still some e none = (
-  λ f. absurd cc,
-  some,
-  λ f. absurd cc,
-  λ f. absurd cc,
-  λ o f. absurd cc,
-  none,
-  still,
-  λ f. absurd cc,
-  λ f. absurd cc,
-  λ o f. absurd cc,
-  λ o f. absurd cc,
-  λ o f. absurd cc,
-)
-shows_by T p tokens.CloseParen still some e none = (
-  λ f. absurd cc,
-  some,
-  λ f. absurd cc,
-  λ f. absurd cc,
-  λ o f. absurd cc,
-  none,
-  still,
-  λ f. absurd cc,
-  λ f. absurd cc,
-  λ o f. absurd cc,
-  λ o f. absurd cc,
-  λ o f. absurd cc,
-)
-shows_by T p (tokens.Redirect z) still some e none = (
-  λ f. absurd cc,
-  some,
-  λ f. absurd cc,
-  λ f. absurd cc,
-  λ o f. absurd cc,
-  none,
-  still,
-  λ f. absurd cc,
-  λ f. absurd cc,
-  redirect_read T p z e.0,
-  strip_read T p z e.1,
-  here_read T p z (λ f. ap (λ q. is_byte (slice_get T q) less_than_sign) (sym still) ∙ e.2 f),
-)
-shows_by T p tokens.Comment still some e none = (
-  λ f. absurd cc,
-  some,
-  λ f. absurd cc,
-  λ f. absurd cc,
-  λ o f. absurd cc,
-  none,
-  still,
-  λ f. absurd cc,
-  λ f. absurd cc,
-  λ o f. absurd cc,
-  λ o f. absurd cc,
-  λ o f. absurd cc,
-)
-shows_by T p tokens.Number still some e none = (
-  λ f. absurd cc,
-  some,
-  λ f. absurd cc,
-  λ f. absurd cc,
-  λ o f. absurd cc,
-  none,
-  still,
-  λ f. absurd cc,
-  λ f. absurd cc,
-  λ o f. absurd cc,
-  λ o f. absurd cc,
-  λ o f. absurd cc,
-)
-shows_by T p (tokens.Reserved r) still some e none = (
-  λ f. absurd cc,
-  some,
-  λ f. absurd cc,
-  λ f. absurd cc,
-  λ o f. absurd cc,
-  none,
-  still,
-  λ f. e,
-  λ f. absurd cc,
-  λ o f. absurd cc,
-  λ o f. absurd cc,
-  λ o f. absurd cc,
-)
-shows_by T p tokens.Assignment still some e none = (
-  λ f. e,
-  some,
-  λ f. absurd cc,
-  λ f. absurd cc,
-  λ o f. absurd cc,
-  none,
-  still,
-  λ f. e,
-  λ f. absurd cc,
-  λ o f. absurd cc,
-  λ o f. absurd cc,
-  λ o f. absurd cc,
-)
-shows_by T p tokens.Word still some e none = (
-  λ f. e,
-  some,
-  λ f. absurd cc,
-  λ f. absurd cc,
-  λ o f. absurd cc,
-  none,
-  still,
-  λ f. e,
-  λ f. absurd cc,
-  λ o f. absurd cc,
-  λ o f. absurd cc,
-  λ o f. absurd cc,
-)
+shows_by T p t still some e none = record {
+  word = word_shown T p t e;
+  read = some;
+  newline = newline_shown T p t still e;
+  ending = end_shown T p t still e;
+  and_or = and_or_shown T p t e;
+  no_comment = none;
+  not_continued = still;
+  pattern = pattern_shown T p t e;
+  item_end = item_end_shown T p t e;
+  long = long_shown T p t e;
+  strip = strip_shown T p t e;
+  here = here_shown T p t still e;
+}
 
 -- no continuation stands where blanks end
 pub blanks_still : (T : List ℕ) (p : ℕ) → past_continuations T (past_blanks T p) ≡ past_blanks T p
@@ -444,20 +262,7 @@ shown position T p =
 shows_later : (T : List ℕ) (p : ℕ) (later : Bool) → Shows tokens.SemicolonAmpersand T p →
     Shows (cond later tokens.SemicolonAmpersand tokens.Semicolon) T p
 shows_later T p true so = so
-shows_later T p false so = (
-  λ f. absurd cc,
-  so.1,
-  λ f. absurd cc,
-  λ f. absurd cc,
-  λ o f. absurd cc,
-  so.5,
-  so.6,
-  λ f. absurd cc,
-  λ f. absurd cc,
-  λ o f. absurd cc,
-  λ o f. absurd cc,
-  λ o f. absurd cc,
-)
+shows_later T p false so = shows_by T p tokens.Semicolon so.not_continued so.read tt so.no_comment
 
 -- and so for each token
 pub shows_in : (edition : Edition) (t : Token) (T : List ℕ) (p : ℕ) → Shows t T p → Shows (token_in edition t) T p

@@ -98,7 +98,7 @@ module _ (g : Given) where
   -- a byte is read where the token is not the end
   read : (n : Next) (s : State) → Handed n s → (test : Token → Bool) → test tokens.End ≡ false
       → test n.token ≡ true → IsRead T s.at
-  read n s so test none e = so.shows.1 (other test none n.token e)
+  read n s so test none e = so.shows.read (other test none n.token e)
 
   -- so the place after it is in the text
   pub read_on : (n : Next) (s : State) → Handed n s → (test : Token → Bool) → test tokens.End ≡ false
@@ -246,7 +246,7 @@ module _ (g : Given) where
           → N (operator_by p o) InText s
       by_operator (Some o) is =
           let byte = read n s so (λ t. is_some (redirect_operator_of t)) refl (ap is_some is) in
-          operator_ends o s byte (so.shows.9 o is) (so.shows.10 o is) ▹ λ x t le. gives le
+          operator_ends o s byte (so.shows.long o is) (so.shows.strip o is) ▹ λ x t le. gives le
       by_operator None is = record { told = tt }
 
   -- nothing moves where one more document waits
@@ -394,7 +394,7 @@ module _ (g : Given) where
         by_operator : (o : Option AndOrOperator) → and_or_operator_of a.next.token ≡ o
             → N (joined_by inner a o) (Turned Whole g AndOrHanded) s
         by_operator (Some o) is =
-            two_on s (so.shows.4 o is) ▹ λ x t le.
+            two_on s (so.shows.and_or o is) ▹ λ x t le.
             join_in a.next.broken t le ▹ λ j u one. pipeline_in j.1 u one ▹ λ p v good.
             pushed_on (gives good)
         by_operator None is = gives so
@@ -640,7 +640,7 @@ module _ (g : Given) where
         → N (an_item_end inner there n) EndHanded s
     unfolding an_item_end
     item_end_in there n s so =
-        picked_by (ends_item n.token) (λ e. ender_in (falls_through n.token) s (so.shows.8 e))
+        picked_by (ends_item n.token) (λ e. ender_in (falls_through n.token) s (so.shows.item_end e))
         (picked_by (is_closing closings.Esac n.token) (λ e. gives so) (stops inner n))
 
     abbrev CasesHanded : CasesSoFar → State → Type 0

@@ -79,16 +79,16 @@ module _ (g : Given) where
   unfolding end_of_line past_byte
   end_rest inner n s so =
       picked_by (is_newline_token n.token)
-      (λ e. let here = so.shows.6 in
+      (λ e. let here = so.shows.not_continued in
       let at : s.at ≡ past_byte T s.at - 1 = omega (arith, here) in
-      let newline = subst (λ p. raw_stands T p newline_char ≡ true) at (so.shows.2 (newline_is n.token e)) in
+      let newline = subst (λ p. raw_stands T p newline_char ≡ true) at (so.shows.newline (newline_is n.token e)) in
       tells_moved Whole g
       (tells_then Whole g
       (bodies_rest (record s { at = past_byte T s.at }) (read_on g n s so is_newline_token refl e) newline)
       (λ x t rest. tells_give Whole g rest)))
       (picked_by (is_end n.token)
       (λ e. let within = so.within in
-      let high = end_high T s.at (so.shows.3 (end_is n.token e)) in
+      let high = end_high T s.at (so.shows.ending (end_is n.token e)) in
       tells_then Whole g (waits_rest s (omega arith)) (λ x t at. tells_give Whole g (λ not_ended. at)))
       (stops inner n))
 

@@ -65,7 +65,7 @@ module _ (g : Given) where
   -- where the token passes such a test a byte is read
   pub read_here : (test : Token → Bool) → test tokens.End ≡ false → (n : Next) (s : State) → Begins g n s
       → test n.token ≡ true → IsRead T s.at
-  read_here test none n s so is = so.1 (no_end test none n.token is)
+  read_here test none n s so is = so.read (no_end test none n.token is)
 
   byte_leads : (s : State) → IsRead T s.at → leads_on g s (moved_on one_byte g s) ≡ true
   byte_leads s read = leads_byte g s (moved_on one_byte g s) read (after_low T s.at)
@@ -166,7 +166,7 @@ module _ (g : Given) where
     item_on i position s so is =
         let read = read_here begins_word refl i.next s so is in
         first g (word_on g inner fine s)
-        (λ w t on. led g ItemsShown s (leads_byte g s t read (on (so.0 is)))
+        (λ w t on. led g ItemsShown s (leads_byte g s t read (on (so.word is)))
         (pushes g (first g (next_on position t) (λ n u good. gives g good))))
 
     -- ---- redirections

@@ -5,11 +5,11 @@ use Rattle.std.proofs.lemmas.List.Elements.{All-head}
 use Rattle.std.proofs.lemmas.List.Folds.{list_any_at}
 use Rattle.std.proofs.lemmas.Option.{get_or_from_slice_get, slice_get_within}
 use Rattle.std.specs.List.{list_any}
+use Rattle.shgrammar.specs.Characters.{less_than_sign}
 use Rattle.shast.specs.declared.tree.Comment.{Comment}
 use Rattle.shast.specs.declared.tree.RedirectOperator.{RedirectOperator}
 use Rattle.shast.specs.Tree.{ACommand, Items, compound, function, simple, with_redirects}
 use Rattle.shast.specs.View.{view_comment}
-use Rattle.shgrammar.specs.Characters.{less_than_sign}
 use Rattle.shgrammar.specs.declared.token.Token.{Token}
 use Rattle.shgrammar.specs.Commands.{redirect_operator_of, takes_here}
 use Rattle.shgrammar.specs.declared.token.Token.TheVariants as tokens
@@ -30,7 +30,7 @@ byte_some T p (Some c) is e = list_any_at (λ b. b == less_than_sign) T p 0 (sli
 pub here_wants : (k : ℕ) (T : List ℕ) (token : Token) (p : ℕ) (o : RedirectOperator) → Shows token T p →
     redirect_operator_of token ≡ Some o → takes_here o ≡ true → wants_memory k T ≡ true
 unfolding raw_stands
-here_wants k T token p o shows is takes = or_right _ _ (byte_some T p _ refl (shows.11 o is takes))
+here_wants k T token p o shows is takes = or_right _ _ (byte_some T p _ refl (shows.here o is takes))
 
 is_operator : (token : Token) (o : RedirectOperator) → redirect_operator_of token ≡ Some o → is_end token ≡ false
 is_operator (tokens.Redirect p) o is = refl
@@ -39,7 +39,7 @@ is_operator _ o is = absurd cc
 -- the operator of a redirection is a byte at least
 pub operator_read : (T : List ℕ) (token : Token) (p : ℕ) (o : RedirectOperator) → Shows token T p →
     redirect_operator_of token ≡ Some o → IsRead T p
-operator_read T token p o shows is = shows.1 (is_operator token o is)
+operator_read T token p o shows is = shows.read (is_operator token o is)
 
 -- one that waits has taken some
 pub waits_memory : (k origin : ℕ) (T : List ℕ) (ws : List the_waiting.Waiting) (i : ℕ) →
