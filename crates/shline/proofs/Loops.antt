@@ -7,8 +7,12 @@ use Rattle.shgrammar.proofs.Turns.{many_again, many_done}
 
 -- what stayed over two steps
 over : {S : Type 0} {k : ℕ} {g : _} (start now new : Cursor S k g) → Keeps start now → Keeps now new → Keeps start new
-over start now new first second =
-    (second.0 ∙ first.0, second.1 ∙ first.1, second.2 ∙ first.2, second.3 ∙ first.3)
+over start now new first second = record {
+  source = second.source ∙ first.source;
+  base = second.base ∙ first.base;
+  origin = second.origin ∙ first.origin;
+  how = second.how ∙ first.how;
+}
 
 -- from the start of a loop to the token before a turn, and by that turn to another token
 module _ {S A : Type 0} {k : ℕ} {g : _} (start now new : Cursor S k g) (turn : A → Form (Step A)) (first a b : A)
@@ -22,24 +26,25 @@ module _ {S A : Type 0} {k : ℕ} {g : _} (start now new : Cursor S k g) (turn :
         → Rests start (many turn first) (at_token start) (many turn b) (at_token new) new
     loop_again {more = false} is left one = absurd (cc)
     loop_again {more = true} is left one =
-        let kept = left.2 in
-        let read = rw (kept.0, kept.1, kept.2, kept.3) at one.0 in
+        let kept = left.same in
+        let read = rw (kept.source, kept.base, kept.origin, kept.how) at one.read in
         let within : start_of new ≤ length (text_of start) =
-        rw (sym kept.0, sym kept.1, sym one.2.0, sym one.2.1) new.within in (
-          sym (many_again turn (keep_of start) (given_of start) a b (at_token now) (at_token new) read one.1 within)
-              ∙ left.0,
-          omega (arith, left.1, one.1),
-          over start now new kept one.2,
-        )
+        rw (sym kept.source, sym kept.base, sym one.same.source, sym one.same.base) new.within in record {
+          read =
+              sym (many_again turn (keep_of start) (given_of start) a b (at_token now) (at_token new) read one.onward
+              within) ∙ left.read;
+          onward = omega (arith, left.onward, one.onward);
+          same = over start now new kept one.same;
+        }
 
     -- and one after which none does
     pub loop_done : {more : Bool} → more ≡ false → Left → Turns now (turn a) (Ok more) b new
         → Leads start (many turn first) (at_token start) b (at_token new) new
     loop_done {more = true} is left one = absurd (cc)
     loop_done {more = false} is left one =
-        let kept = left.2 in
-        let read = rw (kept.0, kept.1, kept.2, kept.3) at one.0 in (
-          sym left.0 ∙ many_done turn (keep_of start) (given_of start) a b (at_token now) (at_token new) read,
-          omega (arith, left.1, one.1),
-          over start now new kept one.2,
-        )
+        let kept = left.same in
+        let read = rw (kept.source, kept.base, kept.origin, kept.how) at one.read in record {
+          read = sym left.read ∙ many_done turn (keep_of start) (given_of start) a b (at_token now) (at_token new) read;
+          onward = omega (arith, left.onward, one.onward);
+          same = over start now new kept one.same;
+        }

@@ -4,7 +4,7 @@ use Rattle.std.proofs.lemmas.Bool.{eqb-true, or_from, or_parts, true≢false}
 use Rattle.shline.proofs.ByteSets.{agree, agree_at, same}
 use Rattle.shline.specs.declared.reserved.TheConstants.{FIRST, SECOND}
 use Rattle.shline.specs.Beginnings.{may_begin, may_spell}
-use Rattle.shgrammar.specs.Characters.{backslash, exclamation_mark, left_brace, right_brace}
+use Rattle.shgrammar.specs.Characters.{exclamation_mark, left_brace, right_brace}
 use Rattle.shgrammar.specs.Bytes.{past_byte, past_continuations, stands}
 use Rattle.shgrammar.specs.Standing.{raw_stands}
 use Rattle.shgrammar.specs.Tokens.{first_of_words, is_word_at, reserved_words, Spelling}
@@ -14,13 +14,14 @@ use Rattle.shgrammar.proofs.Stretches.{raw_stays}
 
 module _ (T : List ℕ) (p a b : ℕ) (still : past_continuations T p ≡ p)
     (first : slice_get T p ≡ Some a) (second : slice_get T (p + 1) ≡ Some b) where
-  other_two : (c d : ℕ) (ds : List ℕ) (x y : Bool) → (a == c) ≡ x → (b == backslash) ≡ y
+  -- no word stands at p that may not begin with a and b: of two bytes or more, and any
+  other_two : (c d : ℕ) (ds : List ℕ) (x y : Bool) → (a == c) ≡ x → (b == 92) ≡ y
       → may_spell (c ∷ d ∷ ds) a b ≡ false → is_word_at T p (c ∷ d ∷ ds) ≡ false
   unfolding may_spell is_word_at stands past_byte raw_stands
   other_two c d ds false y e f bad = rw (still, first, e) refl
   other_two c d ds true true e f bad = absurd (true≢false (rw (e, f) at bad))
   other_two c d ds true false e f bad =
-      let whole : raw_stands T (p + 1) backslash ≡ false = rw second f in
+      let whole : raw_stands T (p + 1) 92 ≡ false = rw second f in
       let there : past_continuations T (p + 1) ≡ p + 1 = raw_stays T (p + 1) whole in
       let other : (b == d) ≡ false = rw (e, f) at bad in
       rw (still, first, e, there, second, other) refl
@@ -29,7 +30,7 @@ module _ (T : List ℕ) (p a b : ℕ) (still : past_continuations T p ≡ p)
   unfolding may_spell is_word_at stands
   other_word [] bad = absurd cc
   other_word (c ∷ []) bad = rw (still, first, bad) refl
-  other_word (c ∷ d ∷ ds) bad = other_two c d ds (a == c) (b == backslash) refl refl bad
+  other_word (c ∷ d ∷ ds) bad = other_two c d ds (a == c) (b == 92) refl refl bad
 
   pub none_begins : (ws : Row Spelling) → may_begin ws a b ≡ false → first_of_words T p ws ≡ None
   unfolding may_begin first_of_words
@@ -66,7 +67,8 @@ module _ (a b : ℕ) (bad : none a b ≡ true) where
   spells_one c false e some = e
   spells_one c true e some = e ∙ sym bad ∙ ap (λ x. none x b) (eqb-true a c e) ∙ some
 
-  two : (c d : ℕ) (ds : List ℕ) (x y z : Bool) → (a == c) ≡ x → (b == backslash) ≡ y → (b == d) ≡ z
+  -- nor may a longer one, whose first two bytes have one in common, and its first and a backslash
+  two : (c d : ℕ) (ds : List ℕ) (x y z : Bool) → (a == c) ≡ x → (b == 92) ≡ y → (b == d) ≡ z
       → none c d ≡ false → none c 92 ≡ false → may_spell (c ∷ d ∷ ds) a b ≡ false
   unfolding may_spell
   two c d ds false y z e f g some joined = rw e refl
@@ -76,7 +78,7 @@ module _ (a b : ℕ) (bad : none a b ≡ true) where
 
   spells_two : (c d : ℕ) (ds : List ℕ) → none c d ≡ false → none c 92 ≡ false
       → may_spell (c ∷ d ∷ ds) a b ≡ false
-  spells_two c d ds = two c d ds (a == c) (b == backslash) (b == d) refl refl refl
+  spells_two c d ds = two c d ds (a == c) (b == 92) (b == d) refl refl refl
 
   begins_none : b < 256 → may_begin reserved_words a b ≡ false
   unfolding may_begin reserved_words none alone

@@ -1,6 +1,7 @@
 -- Words for the clauses of the code: what a function of the reader answers, and what it leaves as it was.
 use Rattle.std.specs.Prelude.{◌≡◌, ◌⊎◌, ℕ, ◌+◌, ◌-◌, ◌<◌, ◌≤◌, ◌==◌, Bool, true, false, List, List as Row, [], length, drop, map, Result, Ok, Err, Vec, if◌then◌else◌}
 use Rattle.std.specs.Global.{Global}
+use Rattle.shgrammar.specs.Characters.{newline_char}
 use Rattle.shline.specs.declared.cursor.Cursor.{Cursor}
 use Rattle.shline.specs.Limits.{Limits, limits}
 use Rattle.shline.specs.declared.documents.Documents as the_documents
@@ -28,7 +29,7 @@ use Rattle.shgrammar.specs.Bytes.{ends_word, past_blanks, past_byte, past_contin
 use Rattle.shgrammar.specs.Shows.{IsRead}
 use Rattle.shgrammar.specs.declared.mode.Mode.{Mode}
 use Rattle.shgrammar.specs.declared.mode.Mode.TheVariants.{Plain}
-use Rattle.shgrammar.specs.Form.{Form, Read, Step, again, does, raw, step_if}
+use Rattle.shgrammar.specs.Form.{Form, Read, Step, does, raw, step_if}
 use Rattle.shgrammar.specs.Plain.{ArePlain}
 use Rattle.shgrammar.specs.HereDocuments.{rest_of_line}
 use Rattle.shgrammar.specs.Standing.{at_end, raw_stands}
@@ -147,34 +148,49 @@ at_token cursor = standing_with cursor.documents (start_of cursor)
 -- ---- what stays
 
 -- the text, and how it is read
-abbrev pub Keeps : {S : Type 0} {k : ℕ} {g : _} → Cursor S k g → Cursor S k g → Type 0
-Keeps old new = (new.source ≡ old.source) × (new.base ≡ old.base) × (new.origin ≡ old.origin) × (new.how ≡ old.how)
+pub record Keeps {S : Type 0} {k : ℕ} {g : _} (old new : Cursor S k g) : Type 0 where
+  pub source : new.source ≡ old.source
+  pub base : new.base ≡ old.base
+  pub origin : new.origin ≡ old.origin
+  pub how : new.how ≡ old.how
 
 -- and the here-documents
-abbrev pub Stays : {S : Type 0} {k : ℕ} {g : _} → Cursor S k g → Cursor S k g → Type 0
-Stays old new = Keeps old new × (new.documents ≡ old.documents)
+pub record Stays {S : Type 0} {k : ℕ} {g : _} (old new : Cursor S k g) : Type 0 where
+  pub same : Keeps old new
+  pub documents : new.documents ≡ old.documents
 
 -- and the token in hand
-abbrev pub Holds : {S : Type 0} {k : ℕ} {g : _} → Cursor S k g → Cursor S k g → Type 0
-Holds old new = Stays old new × (new.next ≡ old.next) × (start_of new ≡ start_of old)
+pub record Holds {S : Type 0} {k : ℕ} {g : _} (old new : Cursor S k g) : Type 0 where
+  pub stays : Stays old new
+  pub next : new.next ≡ old.next
+  pub start : start_of new ≡ start_of old
 
 -- the text and the here-documents, where the place goes to p, which is no further to the left
-abbrev pub Moves : {S : Type 0} {k : ℕ} {g : _} → Cursor S k g → Cursor S k g → ℕ → Type 0
-Moves old new p = (here_of new ≡ p) × (here_of old ≤ here_of new) × Stays old new
+pub record Moves {S : Type 0} {k : ℕ} {g : _} (old new : Cursor S k g) (p : ℕ) : Type 0 where
+  pub place : here_of new ≡ p
+  pub onward : here_of old ≤ here_of new
+  pub stays : Stays old new
 
 -- the same of a place after the start of the token in hand
-abbrev pub Steps : {S : Type 0} {k : ℕ} {g : _} → Cursor S k g → Cursor S k g → ℕ → Type 0
-Steps old new p = (here_of new ≡ p) × (start_of old < here_of new) × Stays old new
+pub record Steps {S : Type 0} {k : ℕ} {g : _} (old new : Cursor S k g) (p : ℕ) : Type 0 where
+  pub place : here_of new ≡ p
+  pub onward : start_of old < here_of new
+  pub stays : Stays old new
 
 -- the next token is in hand
-abbrev pub Looks : {S : Type 0} {k : ℕ} {g : _} → Cursor S k g → Position → Cursor S k g → Type 0
-Looks old position new = (new.next ≡ next_from old position) × (start_of new ≡ past_blanks (text_of old) (here_of old))
-    × (here_of old ≤ start_of new) × Stays old new
+pub record Looks {S : Type 0} {k : ℕ} {g : _} (old : Cursor S k g) (position : Position) (new : Cursor S k g) : Type 0
+  where
+    pub next : new.next ≡ next_from old position
+    pub start : start_of new ≡ past_blanks (text_of old) (here_of old)
+    pub onward : here_of old ≤ start_of new
+    pub stays : Stays old new
 
 -- bytes that are ordinary in a mode were passed
-abbrev pub Skips : {S : Type 0} {k : ℕ} {g : _} → Cursor S k g → Mode → Cursor S k g → Type 0
-Skips old mode new = ArePlain mode (text_of old) (here_of old) (here_of new) × (here_of old ≤ here_of new)
-    × (here_of new ≤ length (text_of old)) × Stays old new
+pub record Skips {S : Type 0} {k : ℕ} {g : _} (old : Cursor S k g) (mode : Mode) (new : Cursor S k g) : Type 0 where
+  pub plain : ArePlain mode (text_of old) (here_of old) (here_of new)
+  pub onward : here_of old ≤ here_of new
+  pub within : here_of new ≤ length (text_of old)
+  pub stays : Stays old new
 
 -- in plain mode, where no word ends, something was read
 abbrev pub SomeRead : {S : Type 0} {k : ℕ} {g : _} → Cursor S k g → Mode → Cursor S k g → Type 0
@@ -203,8 +219,11 @@ Gives bound view (Ok x) read = read ≡ Ok (view x)
 Gives bound view (Err e) read = Fails bound e read
 
 -- A form gives this from a state on, and leads to another, which is no further to the left.
-abbrev pub Leads : {S X : Type 0} {k : ℕ} {g : _} → Cursor S k g → Form X → State → X → State → Cursor S k g → Type 0
-Leads old form s x t new = (reads old form s ≡ Ok (x, t)) × (s.at ≤ t.at) × Keeps old new
+pub record Leads {S X : Type 0} {k : ℕ} {g : _} (old : Cursor S k g) (form : Form X) (s : State) (x : X) (t : State)
+    (new : Cursor S k g) : Type 0 where
+  pub read : reads old form s ≡ Ok (x, t)
+  pub onward : s.at ≤ t.at
+  pub same : Keeps old new
 
 -- What a function returned, seen by view, is what a form gives between two states. Or it stops.
 abbrev pub Goes : {S X Y : Type 0} {k : ℕ} {g : _} → Cursor S k g → Form Y → State → Result X Stop → (X → Y) → State →
@@ -236,28 +255,35 @@ TokenToToken old form result view new = Goes old form (at_token old) result view
 abbrev pub Finds : {S X : Type 0} {k : ℕ} {g : _} → Cursor S k g → Form X → X → Cursor S k g → Type 0
 Finds old form x new = Leads old form (at_token old) x (at_token new) new
 
--- and of a turn, which answers whether more may follow, and then leads on,
+-- A turn gives this, and leads to another token. Where more may follow, it goes on.
+pub record Turned {S A : Type 0} {k : ℕ} {g : _} (old : Cursor S k g) (form : Form (Step A)) (more : Bool) (a : A)
+    (new : Cursor S k g) : Type 0 where
+  pub read : reads old form (at_token old) ≡ Ok (step_if more a, at_token new)
+  pub onward : Onward (start_of old) (start_of new) more
+  pub same : Keeps old new
+
+-- The same of a turn, which answers whether more may follow,
 abbrev pub Turns : {S A : Type 0} {k : ℕ} {g : _} → Cursor S k g → Form (Step A) → Result Bool Stop → A → Cursor S k g →
     Type 0
-Turns old form (Ok more) a new = (reads old form (at_token old) ≡ Ok (step_if more a, at_token new))
-    × Onward (start_of old) (start_of new) more × Keeps old new
+Turns old form (Ok more) a new = Turned old form more a new
 Turns old form (Err e) a new = Fails (limits_of old) e (reads old form (at_token old)) × Keeps old new
 
 -- or of one that surely goes on.
 abbrev pub Adds : {S A : Type 0} {k : ℕ} {g : _} → Cursor S k g → Form (Step A) → Result (Unit {0}) Stop → A →
     Cursor S k g → Type 0
-Adds old form (Ok x) a new = (reads old form (at_token old) ≡ Ok (again a, at_token new))
-    × (start_of old < start_of new) × Keeps old new
+Adds old form (Ok x) a new = Turned old form true a new
 Adds old form (Err e) a new = Fails (limits_of old) e (reads old form (at_token old)) × Keeps old new
 
 -- What is left to be read from a state on gives what all gives.
-abbrev pub Rests : {S X : Type 0} {k : ℕ} {g : _} → Cursor S k g → Form X → State → Form X → State → Cursor S k g →
-    Type 0
-Rests old form s rest t new = (reads old rest t ≡ reads old form s) × (s.at ≤ t.at) × Keeps old new
+pub record Rests {S X : Type 0} {k : ℕ} {g : _} (old : Cursor S k g) (form : Form X) (s : State) (rest : Form X)
+    (t : State) (new : Cursor S k g) : Type 0 where
+  pub read : reads old rest t ≡ reads old form s
+  pub onward : s.at ≤ t.at
+  pub same : Keeps old new
 
 -- a line of a text ends at q: after its newline, or at the end, where it has none or is a delimiter's
 abbrev pub Ended : List ℕ → ℕ → Bool → Type 0
-Ended T q true = (raw_stands T (q - 1) 10 ≡ true) ⊎ (at_end T q ≡ true)
+Ended T q true = (raw_stands T (q - 1) newline_char ≡ true) ⊎ (at_end T q ≡ true)
 Ended T q false = at_end T q ≡ true
 
 -- what was told of a line, in the definitions

@@ -86,8 +86,11 @@ impl<'a, S: Source, const TREE: u8> Cursor<'a, S, TREE> {
         spare: Option<&'a mut Spare>,
     ) -> Cursor<'a, S, TREE>
         requires { (begin.at ≤ length (S.bytes source.now)) × (begin.origin ≤ begin.at) }
-        ensures { (result.source.now ≡ source.now) × (result.base ≡ begin.at) ×
-            (result.origin ≡ begin.origin) × (at_place result ≡ standing 0) × (result.how ≡ how) }
+        ensures source { result.source.now ≡ source.now }
+        ensures base { result.base ≡ begin.at }
+        ensures origin { result.origin ≡ begin.origin }
+        ensures place { at_place result ≡ standing 0 }
+        ensures how { result.how ≡ how }
     {
         // No token is in hand yet: the end of the text is one.
         let end = source.len() - begin.at;

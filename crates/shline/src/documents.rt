@@ -1,5 +1,6 @@
 //! Here-documents: those that wait, and their bodies (XCU 2.7.4).
 ghost use Rattle.std.specs.Prelude.{◌≡◌, ◌+◌, ◌<◌, ◌≤◌, ◌==◌, ◌&&◌, All, bytes_eq, fold, nat_lt, not, [], IfOk, IfSome, List as Row, ◌∷◌, length, option_map, ◌-◌, true, false};
+ghost use Rattle.shgrammar.specs.Characters.{backslash};
 ghost use Rattle.shline.specs.Clauses.{at_place, at_token, Between, BodyRead, bytes_between, end_of, given_of, here_of, Inside, Keeps, limits_of, line_bytes_from, on, PlaceToPlace, Reaches, seen, Stays, text_of, TokenToToken, view_waiting};
 ghost use Rattle.shline.specs.Limits.{Waits};
 ghost use Rattle.shgrammar.specs.States.{Waiting as Awaited};
@@ -235,7 +236,7 @@ impl<'a, S: Source, const TREE: u8> Cursor<'a, S, TREE> {
     /// Whether a backslash stands before a place, and not before that other one.
     fn is_backslash_before(&self, from: usize, at: usize) -> bool
         requires { Inside self.now at }
-        ensures value { result ≡ (nat_lt from at && seen self.now raw_stands (at - 1) 92) }
+        ensures value { result ≡ (nat_lt from at && seen self.now raw_stands (at - 1) backslash) }
         ensures some { result ≡ true → from < at }
     {
         from < at && self.raw_stands(at - 1, b'\\')
@@ -245,7 +246,8 @@ impl<'a, S: Source, const TREE: u8> Cursor<'a, S, TREE> {
     #[tactic(auto, using(crate::proofs::Awaited::odd_more_on))]
     fn ends_odd(&self, from: usize, end: usize) -> bool
         requires { Between self.now from end }
-        ensures { result ≡ fold (λ o b. b == 92 && not o) false (bytes_between self.now from end) }
+        ensures { result ≡ fold (λ o b. b == backslash && not o) false
+            (bytes_between self.now from end) }
     {
         let mut at = end;
         let mut odd = false;

@@ -1,5 +1,6 @@
 //! What is told of one line of a source (XCU 2.10.2).
 ghost use Rattle.std.specs.Prelude.{◌≡◌, ◌⊎◌, ◌+◌, ◌-◌, ◌^◌, ◌<◌, ◌≤◌, ℕ, drop, false, length, map, true, IfOk};
+ghost use Rattle.shgrammar.specs.Characters.{newline_char};
 ghost use Rattle.shline.specs.Clauses.{Gives, kept, Onward, view_told};
 ghost use Rattle.shline.specs.Limits.{limits};
 ghost use Rattle.shgrammar.specs.Scripts.{line_told};
@@ -66,7 +67,8 @@ pub fn line_at<'a, S: Source, const TREE: u8>(
     ensures within { IfOk result (λ x. begin.at + x.len ≤ length (S.bytes source.now)) }
     ensures fits { IfOk result (λ x. begin.at + x.len < 2 ^ 64) }
     ensures newline { IfOk result (λ x. x.newline ≡ true → (raw_stands (drop begin.at (S.bytes
-        source.now)) (x.len - 1) 10 ≡ true) ⊎ (begin.at + x.len ≡ length (S.bytes source.now))) }
+        source.now)) (x.len - 1) newline_char ≡ true) ⊎
+        (begin.at + x.len ≡ length (S.bytes source.now))) }
     ensures whole { IfOk result
         (λ x. x.newline ≡ false → begin.at + x.len ≡ length (S.bytes source.now)) }
 {

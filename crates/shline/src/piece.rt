@@ -1,5 +1,6 @@
 //! Which piece of a word begins at a place, and the pieces that hold no others (XCU 2.2, 2.6).
 ghost use Rattle.std.specs.Prelude.{◌≡◌, ◌≢◌, ◌⊎◌, ◌+◌, ◌<◌, ◌≤◌, IfOk, Some, false};
+ghost use Rattle.shgrammar.specs.Characters.{right_parenthesis};
 ghost use Rattle.shgrammar.specs.Bytes.{ends, ends_word, past_byte, stands};
 ghost use Rattle.shgrammar.specs.Shows.{IsRead};
 ghost use Rattle.shline.specs.Pieces.{PieceShows};
@@ -52,7 +53,7 @@ impl<'a, S: Source, const TREE: u8> Cursor<'a, S, TREE> {
     fn bracket(&self, nested: usize, here: usize) -> Piece
         requires here { ByteHere self.now here }
         ensures value { result ≡ bracket_by nested (stands (text_of self.now) (past_byte (text_of
-            self.now) (here_of self.now)) 41) }
+            self.now) (here_of self.now)) right_parenthesis) }
         ensures shows { PieceShows Mode.Arith nested result (text_of self.now) (on self.now here) }
     {
         if nested > 0 {

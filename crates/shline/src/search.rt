@@ -1,6 +1,7 @@
 //! Searches: the next place in a text where a byte stands, or one of two.
 ghost use Rattle.std.specs.Prelude.{◌≡◌, ◌≤◌, length};
 ghost use Rattle.memchr.specs.Find.{IsFirstByte};
+ghost use Rattle.shgrammar.specs.Characters.{apostrophe};
 ghost use Rattle.shline.specs.Sought.{is_sought};
 ghost use Rattle.shline.specs.Clauses.{Inside, Reaches};
 ghost use Rattle.shgrammar.specs.Standing.{next_of, next_such};
@@ -85,7 +86,7 @@ impl<'a, S: Source, const TREE: u8> Cursor<'a, S, TREE> {
     #[tactic(auto, using(crate::proofs::Searches::byte_passed, crate::proofs::Searches::byte_here, crate::proofs::Searches::byte_end))]
     pub(crate) fn next_quote(&self, from: usize) -> usize
         requires { Inside self.now from }
-        ensures { Reaches self.now (next_of 39) from result }
+        ensures { Reaches self.now (next_of apostrophe) from result }
     {
         let mut at = from;
         'near: for _ in 0..NEAR {

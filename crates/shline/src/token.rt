@@ -1,5 +1,6 @@
 //! The token that begins at a place (XCU 2.3, 2.4, 2.10.1).
 ghost use Rattle.std.specs.Prelude.{◌≡◌, ◌≤◌, Some, false, true, slice_get};
+ghost use Rattle.shgrammar.specs.Characters.{newline_char, semicolon};
 ghost use Rattle.shgrammar.specs.Classes.{is_blank};
 ghost use Rattle.shgrammar.specs.Standing.{continues, raw_past, raw_stands};
 ghost use Rattle.shgrammar.specs.Tokens.{begins_assignment, greater_at, is_name_at, is_number, less_at, past_digits, semicolon_at, token_in, word_by};
@@ -169,8 +170,8 @@ impl<'a, S: Source, const TREE: u8> Cursor<'a, S, TREE> {
     #[tactic(auto, unfolding(shgrammar::specs::Tokens::token_at, shgrammar::specs::Tokens::is_number, shgrammar::specs::Bytes::past_byte, shgrammar::specs::Bytes::stands, shgrammar::specs::Bytes::stands_in, shgrammar::specs::Standing::raw_stands))]
     fn other_token(&self, at: usize, position: Position) -> Token
         requires still { Still self.now at }
-        requires newline { seen self.now raw_stands at 10 ≡ false }
-        requires semicolon { seen self.now raw_stands at 59 ≡ false }
+        requires newline { seen self.now raw_stands at newline_char ≡ false }
+        requires semicolon { seen self.now raw_stands at semicolon ≡ false }
         ensures { result ≡ token_of self.now position (on self.now at) }
     {
         match self.raw_byte(at) {

@@ -22,7 +22,8 @@ returns-clause-value g c =
     let newline = c.in_ok-entries.newline in
     let inside : does (an_open_line (level most_open) c.args.begin.blank) (kept g.row.TREE c.args.how.keep) here
     (standing 0) ≡ Ok ((es, newline), inner) =
-    rw (at_line.0, at_line.1, at_line.2, at_line.3, at_line.4) at c.in_ok-entries.ensures.value.0 in
+    rw (at_line.source, at_line.base, at_line.origin, at_line.place, at_line.how) at c.in_ok-entries.ensures.value.read
+    in
     line_read (kept g.row.TREE c.args.how.keep) here (standing 0)
     (level most_open) c.args.begin.blank newline es inner inside
     ∙ ap (λ (zs : Row AnEntry). Ok ((zs, newline), standing inner.at)) (sym c.filled_entries.ensures)
@@ -37,7 +38,8 @@ returns-clause-spans g c =
     let newline = c.in_ok-entries.newline in
     let inside : does (an_open_line (level most_open) c.args.begin.blank) (kept g.row.TREE c.args.how.keep) here
     (standing 0) ≡ Ok ((es, newline), inner) =
-    rw (at_line.0, at_line.1, at_line.2, at_line.3, at_line.4) at c.in_ok-entries.ensures.value.0 in
+    rw (at_line.source, at_line.base, at_line.origin, at_line.place, at_line.how) at c.in_ok-entries.ensures.value.read
+    in
     let told : line_told c.args.how.edition bytes
     (kept g.row.TREE c.args.how.keep) c.args.begin.blank c.args.begin.at c.args.begin.origin
     ≡ Ok ((map view_entry c.filled_entries.result.items, newline), standing inner.at) =
@@ -50,17 +52,17 @@ returns-clause-spans g c =
 pub returns-clause-newline : goal.returns-clause-newline
 returns-clause-newline g c =
     let at_line = c.at_line-cursor.ensures in
-    let same = c.in_ok-entries.ensures.value.2 in
-    let ended = rw (at_line.0, at_line.1) at c.in_ok-entries.ensures.end in
-    let inside = rw (same.0, same.1, at_line.0, at_line.1) at c.open_line.new.self.inside in
+    let same = c.in_ok-entries.ensures.value.same in
+    let ended = rw (at_line.source, at_line.base) at c.in_ok-entries.ensures.end in
+    let inside = rw (same.source, same.base, at_line.source, at_line.base) at c.open_line.new.self.inside in
     newline_there (g.S.Source.bytes c.args.source.now) c.args.begin.at
     (here_of c.open_line.new.self) c.in_ok-entries.newline c.requires.0 inside ended
 
 pub returns-clause-whole : goal.returns-clause-whole
 returns-clause-whole g c =
     let at_line = c.at_line-cursor.ensures in
-    let same = c.in_ok-entries.ensures.value.2 in
-    let ended = rw (at_line.0, at_line.1) at c.in_ok-entries.ensures.end in
-    let inside = rw (same.0, same.1, at_line.0, at_line.1) at c.open_line.new.self.inside in
+    let same = c.in_ok-entries.ensures.value.same in
+    let ended = rw (at_line.source, at_line.base) at c.in_ok-entries.ensures.end in
+    let inside = rw (same.source, same.base, at_line.source, at_line.base) at c.open_line.new.self.inside in
     whole_there (g.S.Source.bytes c.args.source.now) c.args.begin.at
     (here_of c.open_line.new.self) c.in_ok-entries.newline c.requires.0 inside ended

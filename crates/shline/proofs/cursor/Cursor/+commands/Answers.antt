@@ -35,17 +35,20 @@ contents-pieces-preserved g t c =
     let inv = c.pieces.invariant in
     let told = c.in_ok-take_piece.ensures in
     let rest = c.skip_plain.ensures in
-    let was = inv.0.2 in
-    let same = told.value.2 in
+    let was = inv.rest.same in
+    let same = told.value.same in
+    let stays = rest.stays in
     let text = text_of c.args.self.now in
-    let piece = rw (was.0, was.1, was.2, was.3, c.if-branch.true, ← rest.3.1) at told.value.0 in
+    let piece =
+    rw (was.source, was.base, was.origin, was.how, c.if-branch.true, ← stays.documents) at told.value.read in
     let before = c.pieces.self.documents in
     let after = c.skip_plain.new.self.documents in
     let onward : here_of c.pieces.self < here_of c.take_piece.new.self = rw c.if-branch.true at told.onward in
-    let plain = rw (same.0, same.1, was.0, was.1) at rest.0 in
-    let within = rw (same.0, same.1, was.0, was.1) at rest.2 in (
-      (
-        piece_and_plain (level c.args.room) (keep_of c.args.self.now)
+    let plain = rw (same.source, same.base, was.source, was.base) at rest.plain in
+    let within = rw (same.source, same.base, was.source, was.base) at rest.within in record {
+      rest = record {
+        read =
+            piece_and_plain (level c.args.room) (keep_of c.args.self.now)
             (given c.args.self.now.how.edition text c.args.self.now.origin) c.args.mode
             (c.args.self.now.origin + c.args.opener)
             (map view_waiting after.waiting.items) after.bodies.items
@@ -53,18 +56,18 @@ contents-pieces-preserved g t c =
             (word_so_far c.take_piece.new.nested (map view_subst c.take_piece.new.substs.items))
             (map view_waiting before.waiting.items) before.bodies.items (here_of c.pieces.self)
             (here_of c.take_piece.new.self) (here_of c.skip_plain.new.self) _
-            inv.0.0 piece onward (omega (arith, rest.1, within)) plain rest.1 within,
-        omega (arith, inv.0.1, onward, rest.1),
-        (
-          rest.3.0.0 ∙ same.0 ∙ was.0,
-          rest.3.0.1 ∙ same.1 ∙ was.1,
-          rest.3.0.2 ∙ same.2 ∙ was.2,
-          rest.3.0.3 ∙ same.3 ∙ was.3,
-        ),
-      ),
-      omega (arith, told.nested, rest.1),
-      omega (arith, inv.2, onward, rest.1),
-    )
+            inv.rest.read piece onward (omega (arith, rest.onward, within)) plain rest.onward within;
+        onward = omega (arith, inv.rest.onward, onward, rest.onward);
+        same = record {
+          source = stays.same.source ∙ same.source ∙ was.source;
+          base = stays.same.base ∙ same.base ∙ was.base;
+          origin = stays.same.origin ∙ same.origin ∙ was.origin;
+          how = stays.same.how ∙ same.how ∙ was.how;
+        };
+      };
+      nested = omega (arith, told.nested, rest.onward);
+      after_opener = omega (arith, inv.after_opener, onward, rest.onward);
+    }
 
 -- the substitution that was read, as one more
 pub one_substitution-returns-in-Ok : goal.one_substitution-returns-in-Ok
@@ -72,7 +75,7 @@ one_substitution-returns-in-Ok g t c =
     let start = c.args.self.now in
     let keep = keep_of start in
     let own = c.open_level-outer.ensures in
-    let same = c.in-Ok.ensures.2 in
+    let same = c.in-Ok.ensures.same in
     let shut = c.close_level-bodies.ensures in
     let after = c.close_level-bodies.new.self in
     let list = view_list c.in-Ok.list in
@@ -81,13 +84,13 @@ one_substitution-returns-in-Ok g t c =
     let here = given start.how.edition (text_of start) start.origin in
     let stands : does (substitution_list (level c.args.room)) keep here (own_level (at_place start))
     ≡ Ok (list, inner) =
-    rw (own.same.0, own.same.1, own.same.2, own.same.3, own.level) at c.in-Ok.ensures.0 in
+    rw (own.same.source, own.same.base, own.same.origin, own.same.how, own.level) at c.in-Ok.ensures.read in
     let read = substitution_read keep here (at_place start) (level c.args.room) c.args.opener ss list inner stands in
-    let origin : after.origin ≡ start.origin = shut.same.2 ∙ same.2 ∙ own.same.2 in
+    let origin : after.origin ≡ start.origin = shut.same.origin ∙ same.origin ∙ own.same.origin in
     let bodies : c.close_level-bodies.result.items ≡ inner.bodies = shut.bodies in
     let place : here_of after ≡ inner.at = shut.place in
     let made =
-    rw (shut.same.3, same.3, own.same.3) at c.in_ok-add_subst-in-Ok.ensures.value
+    rw (shut.same.how, same.how, own.same.how) at c.in_ok-add_subst-in-Ok.ensures.value
     ∙ ap (λ (bs : Row Span). pushed (grows keep) ss
     (subst (filled bs list) (span after.origin c.args.opener (here_of after)))) bodies
     ∙ ap (λ (o : ℕ). pushed (grows keep) ss (subst (filled inner.bodies list) (span o c.args.opener (here_of after))))
@@ -95,65 +98,72 @@ one_substitution-returns-in-Ok g t c =
     ∙ ap (λ (p : ℕ). pushed (grows keep) ss (subst (filled inner.bodies list) (span start.origin c.args.opener p)))
     place in
     let state : at_place after ≡ outer_level (at_place start) inner =
-    ap (λ d. standing_with d (here_of after)) (shut.outer ∙ own.outer) ∙ ap (standing_with start.documents) place in (
-      read ∙ ap (λ (u : State). Ok
+    ap (λ d. standing_with d (here_of after)) (shut.outer ∙ own.outer) ∙ ap (standing_with start.documents) place in
+    record {
+      read =
+          read ∙ ap (λ (u : State). Ok
           (pushed (grows keep) ss (subst (filled inner.bodies list) (span start.origin c.args.opener inner.at)), u))
-          (sym state) ∙ ap (λ (zs : Row ASubst). Ok (zs, at_place after)) (sym made),
-      search rules,
-      search rules,
-    )
+          (sym state) ∙ ap (λ (zs : Row ASubst). Ok (zs, at_place after)) (sym made);
+      onward = search rules;
+      same = search rules;
+    }
 
 -- an ordinary byte of a string, and the plain ones after it
 pub construct-ordinary-preserved : goal.construct-ordinary-preserved
 construct-ordinary-preserved g t c =
     let start = c.args.self.now in
     let inv = c.ordinary.invariant in
-    let was = inv.0.2 in
+    let was = inv.rest.same in
     let old = c.ordinary.self in
     let new = c.skip_plain-in-Ordinary.new.self in
     let rest = c.skip_plain-in-Ordinary.ensures in
+    let stays = rest.stays in
     let inside = c.place-here.ensures.1 in
     let text = text_of start in
     let here : on old c.place-here.result ≡ past_continuations text (here_of old) =
-    rw (was.0, was.1) at c.place-here.ensures.0 in
+    rw (was.source, was.base) at c.place-here.ensures.0 in
     let told : c.piece.result ≡ piece_in start.how.edition c.args.mode (piece_at text c.args.mode 0 (here_of old)) =
-    rw (was.0, was.1, was.3) at c.piece.ensures.value in
+    rw (was.source, was.base, was.how) at c.piece.ensures.value in
     let is : c.piece.result ≡ pieces.Ordinary = c.in-Ordinary.is in
     let step : on old (c.place-here.result + 1) ≡ past_continuations text (here_of old) + 1 = omega (arith, here) in
     let plain : ArePlain c.args.mode text (past_continuations text (here_of old) + 1) (here_of new) =
-    rw (was.0, was.1, step) at rest.0 in
-    let low : past_continuations text (here_of old) + 1 ≤ here_of new = omega (arith, here, rest.1) in
-    let high : here_of new ≤ length text = rw (was.0, was.1) at rest.2 in
+    rw (was.source, was.base, step) at rest.plain in
+    let low : past_continuations text (here_of old) + 1 ≤ here_of new = omega (arith, here, rest.onward) in
+    let high : here_of new ≤ length text = rw (was.source, was.base) at rest.within in
     let on =
     ordinary_here start.how.edition (level (c.args.room - 1)) (keep_of start)
     (map view_waiting old.documents.waiting.items) old.documents.bodies.items text start.origin c.args.mode
     (start.origin + c.args.opener)
-    (map view_subst c.ordinary.substs.items) (here_of old) (here_of new) (sym told ∙ is) plain low high in (
-      (
-        rw rest.3.1 (sym on ∙ inv.0.0),
-        omega (arith, inv.0.1, inside.0, rest.1),
-        (rest.3.0.0 ∙ was.0, rest.3.0.1 ∙ was.1, rest.3.0.2 ∙ was.2, rest.3.0.3 ∙ was.3),
-      ),
-      omega (arith, inv.1, inside.0, rest.1),
-      inv.2,
-    )
+    (map view_subst c.ordinary.substs.items) (here_of old) (here_of new) (sym told ∙ is) plain low high in record {
+      rest = record {
+        read = rw stays.documents (sym on ∙ inv.rest.read);
+        onward = omega (arith, inv.rest.onward, inside.0, rest.onward);
+        same = record {
+          source = stays.same.source ∙ was.source;
+          base = stays.same.base ∙ was.base;
+          origin = stays.same.origin ∙ was.origin;
+          how = stays.same.how ∙ was.how;
+        };
+      };
+      after_opener = omega (arith, inv.after_opener, inside.0, rest.onward);
+      substs = inv.substs;
+    }
 
 -- the operator of a here-document stands in the text
 pub redirect-document-requires : goal.redirect-document-requires
 unfolding InHand
 redirect-document-requires g t c =
-    let number = c.number-number.ensures.2 in
     let operator = c.operator-span.ensures in
-    let same = operator.value.2 in
+    let same = operator.value.same in
     let target = c.in_ok-word.ensures in
-    let word_read = target.value.2 in
+    let word_read = target.value.same in
     let before = c.number-number.new.self in
     let is : redirect_operator_of before.next.token ≡ Some c.in-Some.operator = sym c.redirect_operator.ensures
     ∙ c.in-Some.is in (
       omega (arith),
       (
-        (target.place.0, rw (word_read.0, word_read.1, word_read.2) operator.start),
-        λ takes. rw (word_read.0, word_read.1, same.0, same.1)
+        (target.place.0, rw (word_read.source, word_read.base, word_read.origin) operator.start),
+        λ takes. rw (word_read.source, word_read.base, same.source, same.base)
             (here_wants g.row.TREE (text_of before) before.next.token
             (start_of before) c.in-Some.operator before.shows is takes),
       ),
@@ -169,12 +179,13 @@ redirects-returns g t c =
     let all = items_so_far (view_items c.turns.redirects) AsCommand self.next in
     let stops : begins_redirect self.next.token ≡ false = sym c.begins_redirect.ensures ∙ c.turns-test.false in
     let one : does (redirect_turn (level c.args.room) all) (keep_of start) here (at_token self)
-    ≡ Ok (done all, at_token self) = rw stops refl in (
-      sym c.turns.invariant.0 ∙ many_done (redirect_turn (level c.args.room)) (keep_of start) here all all
-          (at_token self) (at_token self) one,
-      search rules,
-      search rules,
-    )
+    ≡ Ok (done all, at_token self) = rw stops refl in record {
+      read =
+          sym c.turns.invariant.read ∙ many_done (redirect_turn (level c.args.room)) (keep_of start) here all all
+          (at_token self) (at_token self) one;
+      onward = search rules;
+      same = search rules;
+    }
 
 -- nor an item of a `case`
 pub cases-returns : goal.cases-returns
@@ -186,12 +197,13 @@ cases-returns g t c =
     let all = view_cases c.turns.cases self.next in
     let stops : is_closing Esac self.next.token ≡ true = sym c.is_closing.ensures.value ∙ c.turns-test.false in
     let one : does (case_turn (level c.args.room) all) (keep_of start) here (at_token self)
-    ≡ Ok (done all, at_token self) = rw stops refl in (
-      sym c.turns.invariant.0 ∙ many_done (case_turn (level c.args.room)) (keep_of start) here all all (at_token self)
-          (at_token self) one,
-      search rules,
-      search rules,
-    )
+    ≡ Ok (done all, at_token self) = rw stops refl in record {
+      read =
+          sym c.turns.invariant.read ∙ many_done (case_turn (level c.args.room)) (keep_of start) here all all
+          (at_token self) (at_token self) one;
+      onward = search rules;
+      same = search rules;
+    }
 
 -- ---- loops whose turns are rows
 

@@ -212,22 +212,31 @@ decreases-and_or_turn g l = 128 * l.room + 42
 
 abbrev pub invariant-construct-ordinary : goal.invariant-construct-ordinary
 invariant-construct-ordinary g l =
-    Rests l.fn.self ((level l.room).construct l.mode (l.fn.self.origin + l.opener) (map view_subst l.fn.substs.items))
-    (at_place l.fn.self)
-    (contents (level (l.room - 1)) l.mode (l.fn.self.origin + l.opener) (map view_subst l.substs.items))
-    (at_place l.self) l.self
-    × (l.opener ≤ here_of l.self) × (l.substs ≡ l.fn.substs)
+    record {
+      rest :
+          Rests l.fn.self
+          ((level l.room).construct l.mode (l.fn.self.origin + l.opener) (map view_subst l.fn.substs.items))
+          (at_place l.fn.self)
+          (contents (level (l.room - 1)) l.mode (l.fn.self.origin + l.opener) (map view_subst l.substs.items))
+          (at_place l.self) l.self;
+      after_opener : l.opener ≤ here_of l.self;
+      substs : l.substs ≡ l.fn.substs;
+    }
 
 abbrev pub decreases-construct-ordinary : goal.decreases-construct-ordinary
 decreases-construct-ordinary g l = length (text_of l.self) - here_of l.self
 
 abbrev pub invariant-contents-pieces : goal.invariant-contents-pieces
 invariant-contents-pieces g l =
-    Rests l.fn.self (many (a_piece (level l.room) l.mode (l.fn.self.origin + l.opener))
-    (word_so_far 0 (map view_subst l.fn.substs.items))) (at_place l.fn.self)
-    (many (a_piece (level l.room) l.mode (l.fn.self.origin + l.opener))
-    (word_so_far l.nested (map view_subst l.substs.items))) (at_place l.self) l.self
-    × (l.nested ≤ here_of l.self) × (l.opener ≤ here_of l.self)
+    record {
+      rest :
+          Rests l.fn.self (many (a_piece (level l.room) l.mode (l.fn.self.origin + l.opener))
+          (word_so_far 0 (map view_subst l.fn.substs.items))) (at_place l.fn.self)
+          (many (a_piece (level l.room) l.mode (l.fn.self.origin + l.opener))
+          (word_so_far l.nested (map view_subst l.substs.items))) (at_place l.self) l.self;
+      nested : l.nested ≤ here_of l.self;
+      after_opener : l.opener ≤ here_of l.self;
+    }
 
 abbrev pub decreases-contents-pieces : goal.decreases-contents-pieces
 decreases-contents-pieces g l = length (text_of l.self) - here_of l.self

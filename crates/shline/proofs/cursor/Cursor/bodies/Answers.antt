@@ -13,7 +13,7 @@ documents-preserved g c =
     let same = c.deref-document-items.ensures.value ∙ ap (λ v. v.items) c.replace-waiting.ensures.value in
     let one = waiting_from ws i d (omega (arith, c.documents-test.true, ap length same)) in
     let read = c.in_ok-one_body.ensures.read (drop (i + 1) (map view_waiting ws)) in
-    (search (rules, one, read), search rules, search rules)
+    record { read = search (rules, one, read); onward = search rules; same = search rules }
 
 pub returns-in_err-one_body : goal.returns-in_err-one_body
 returns-in_err-one_body g c =
@@ -36,11 +36,12 @@ returns g c =
       arith,
       c.documents-test.false,
       ap length (c.deref-document-items.ensures.value ∙ ap (λ v. v.items) c.replace-waiting.ensures.value),
-    ) in (
-      bodies_read (keep_of c.args.self.now) here start.waiting.items start.bodies.items bodies
-          c.documents.document-index (here_of c.args.self.now) (here_of c.documents.self) all c.documents.invariant.0
+    ) in record {
+      read =
+          bodies_read (keep_of c.args.self.now) here start.waiting.items start.bodies.items bodies
+          c.documents.document-index (here_of c.args.self.now) (here_of c.documents.self) all c.documents.invariant.read
           ∙ ap (λ ws. Ok (tt, record { at = here_of c.documents.self; waiting = map view_waiting ws; bodies = bodies }))
-          (sym c.clear.ensures.items),
-      search rules,
-      search rules,
-    )
+          (sym c.clear.ensures.items);
+      onward = search rules;
+      same = search rules;
+    }

@@ -6,6 +6,10 @@ use Rattle.shline.proofs.cursor.Cursor.bodies.Given as goal
 abbrev pub invariant-documents : goal.invariant-documents
 invariant-documents g l =
     let all = map view_waiting l.fn.self.documents.waiting.items in
-    (bodies_from (given_of l.fn.self) (drop l.document-index all) l.self.documents.bodies.items (here_of l.self)
-    ≡ bodies_from (given_of l.fn.self) all l.fn.self.documents.bodies.items (here_of l.fn.self))
-    × (here_of l.fn.self ≤ here_of l.self) × Keeps l.fn.self l.self
+    record {
+      read :
+          bodies_from (given_of l.fn.self) (drop l.document-index all) l.self.documents.bodies.items (here_of l.self)
+          ≡ bodies_from (given_of l.fn.self) all l.fn.self.documents.bodies.items (here_of l.fn.self);
+      onward : here_of l.fn.self ≤ here_of l.self;
+      same : Keeps l.fn.self l.self;
+    }

@@ -9,9 +9,10 @@ pub returns-then-is_empty : goal.returns-then-is_empty
 returns-then-is_empty g c =
     let start = c.args.self.now in
     let none : length start.documents.waiting.items ≡ 0 =
-    grind (arith, nat_tests, c.is_empty.ensures, c.if-is_empty.true) in (
-      none_awaited (keep_of start) (given start.how.edition (text_of start) start.origin) start.documents
-          (here_of start) none,
-      search rules,
-      search rules,
-    )
+    grind (arith, nat_tests, c.is_empty.ensures, c.if-is_empty.true) in record {
+      read =
+          none_awaited (keep_of start) (given start.how.edition (text_of start) start.origin) start.documents
+          (here_of start) none;
+      onward = search rules;
+      same = search rules;
+    }

@@ -15,12 +15,12 @@ returns-in_ok-bodies_here-in-Newline-clause-end g c =
     let start = c.args.self.now in
     let text = text_of start in
     let moved = c.step.ensures in
-    let same = moved.2.0 in
-    let read = rw (same.0, same.1, same.2, same.3) at c.in_ok-bodies_here-in-Newline.ensures.0 in
-    let is : here_of c.step.new.self ≡ past_byte text (start_of start) = moved.0 in
+    let same = moved.stays.same in
+    let read = rw (same.source, same.base, same.origin, same.how) at c.in_ok-bodies_here-in-Newline.ensures.read in
+    let is : here_of c.step.new.self ≡ past_byte text (start_of start) = moved.place in
     let newline : raw_stands text (here_of c.step.new.self - 1) newline_char ≡ true =
     ap (λ (q : ℕ). raw_stands text (q - 1) newline_char) is
-    ∙ ap (λ (q : ℕ). raw_stands text q newline_char) (after_back text (start_of start) ∙ start.shows.6)
-    ∙ start.shows.2 c.in-Newline.is in
+    ∙ ap (λ (q : ℕ). raw_stands text q newline_char) (after_back text (start_of start) ∙ start.shows.not_continued)
+    ∙ start.shows.newline c.in-Newline.is in
     ends_line (keep_of start) (given start.how.edition text start.origin) (at_place c.step.new.self)
     (at_place c.bodies_here.new.self) read newline

@@ -7,8 +7,13 @@ use Rattle.shline.proofs.cursor.Cursor.ends_odd.Given as goal
 abbrev pub invariant-backslashes : goal.invariant-backslashes
 invariant-backslashes g l =
     let text = drop l.self.base (g.S.Source.bytes l.self.source.now) in
-    (flipped l.odd (odd (raw text (on l.self l.from) (on l.self l.at)))
-    ≡ odd (raw text (on l.self l.from) (on l.self l.end))) × (l.from ≤ l.at) × (l.at ≤ l.end)
+    record {
+      value :
+          flipped l.odd (odd (raw text (on l.self l.from) (on l.self l.at)))
+          ≡ odd (raw text (on l.self l.from) (on l.self l.end));
+      low : l.from ≤ l.at;
+      high : l.at ≤ l.end;
+    }
 
 abbrev pub decreases-backslashes : goal.decreases-backslashes
 decreases-backslashes g l = l.at

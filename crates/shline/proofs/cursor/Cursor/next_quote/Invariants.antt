@@ -7,5 +7,8 @@ use Rattle.shline.proofs.cursor.Cursor.next_quote.Given as goal
 abbrev pub invariant-near : goal.invariant-near
 invariant-near g l =
     let text = drop l.self.base (g.S.Source.bytes l.self.source.now) in
-    (next_of apostrophe text (on l.self l.at) ≡ next_of apostrophe text (on l.self l.from)) × (l.from ≤ l.at)
-    × Inside l.self l.at
+    record {
+      value : next_of apostrophe text (on l.self l.at) ≡ next_of apostrophe text (on l.self l.from);
+      low : l.from ≤ l.at;
+      inside : Inside l.self l.at;
+    }

@@ -27,12 +27,12 @@ past_broken_blanks-at-requires g c =
 pub returns : goal.returns
 returns g c =
     let blanks = joined (text_of c.args.self.now) (here_of c.args.self.now)
-    (on c.args.self.now c.args.end) c.requires.end.0 c.requires.joined in (
-      rw (c.token-token.ensures, c.past_broken_blanks-at.ensures.0, blanks.0, blanks.1) refl,
-      c.past_broken_blanks-at.ensures.0 ∙ blanks.0,
-      omega (arith, c.requires.end.1, c.past_broken_blanks-at.ensures.1),
-      search rules,
-    )
+    (on c.args.self.now c.args.end) c.requires.end.0 c.requires.joined in record {
+      next = rw (c.token-token.ensures, c.past_broken_blanks-at.ensures.0, blanks.0, blanks.1) refl;
+      start = c.past_broken_blanks-at.ensures.0 ∙ blanks.0;
+      onward = omega (arith, c.requires.end.1, c.past_broken_blanks-at.ensures.1);
+      stays = search rules;
+    }
 
 pub invariant_of-self-clause-shows : goal.invariant_of-self-clause-shows
 unfolding InHand

@@ -36,12 +36,12 @@ returns g c =
     let T = text_of c.args.self.now in
     let none = sym c.continues_with.ensures ∙ c.if-continues_with.false in
     let blanks = whole T (here_of c.args.self.now)
-    (on c.args.self.now c.raw_past_and_byte-at.result.0) c.raw_past_and_byte-at.ensures.place.0 none in (
-      rw (blanks.0, blanks.1, c.token-token.ensures) refl,
-      sym blanks.0,
-      omega (arith, c.raw_past_and_byte-at.ensures.place.1),
-      search rules,
-    )
+    (on c.args.self.now c.raw_past_and_byte-at.result.0) c.raw_past_and_byte-at.ensures.place.0 none in record {
+      next = rw (blanks.0, blanks.1, c.token-token.ensures) refl;
+      start = sym blanks.0;
+      onward = omega (arith, c.raw_past_and_byte-at.ensures.place.1);
+      stays = search rules;
+    }
 
 pub invariant_of-self-clause-shows : goal.invariant_of-self-clause-shows
 unfolding InHand

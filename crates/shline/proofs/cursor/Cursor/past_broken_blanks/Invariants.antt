@@ -8,8 +8,12 @@ use Rattle.shline.proofs.cursor.Cursor.past_broken_blanks.Given as goal
 abbrev pub invariant-joined : goal.invariant-joined
 invariant-joined g l =
     let text = drop l.self.base (g.S.Source.bytes l.self.source.now) in
-    (past_blanks text (on l.self l.at) ≡ past_blanks text (on l.self l.from)) × (l.from ≤ l.at) × Inside l.self l.at
-    × (raw_in is_blank text (on l.self l.at) ≡ false)
+    record {
+      value : past_blanks text (on l.self l.at) ≡ past_blanks text (on l.self l.from);
+      low : l.from ≤ l.at;
+      inside : Inside l.self l.at;
+      end : raw_in is_blank text (on l.self l.at) ≡ false;
+    }
 
 abbrev pub decreases-joined : goal.decreases-joined
 decreases-joined g l = length (drop l.self.base (g.S.Source.bytes l.self.source.now)) - on l.self l.at

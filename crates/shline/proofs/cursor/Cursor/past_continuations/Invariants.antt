@@ -6,8 +6,11 @@ use Rattle.shline.proofs.cursor.Cursor.past_continuations.Given as goal
 abbrev pub invariant-continuations : goal.invariant-continuations
 invariant-continuations g l =
     let text = drop l.self.base (g.S.Source.bytes l.self.source.now) in
-    (past_continuations text (on l.self l.at) ≡ past_continuations text (on l.self l.from)) × (l.from ≤ l.at)
-    × Inside l.self l.at
+    record {
+      value : past_continuations text (on l.self l.at) ≡ past_continuations text (on l.self l.from);
+      low : l.from ≤ l.at;
+      inside : Inside l.self l.at;
+    }
 
 abbrev pub decreases-continuations : goal.decreases-continuations
 decreases-continuations g l = length (drop l.self.base (g.S.Source.bytes l.self.source.now)) - on l.self l.at

@@ -12,10 +12,11 @@ returns g c =
     let within : here_of self ≤ length (drop self.base bytes) = omega arith in
     let whole = length-drop self.base bytes in
     let run = c.run_at.ensures in
-    let plain = c.plain_front.ensures in (
-      λ k k_low k_high. run_all bytes self.base (here_of self) c.run_at.result.now run low within
-          (is_plain c.args.mode) c.plain_front.result plain.0 plain.1 k k_low (omega (arith, k_high)),
-      omega arith,
-      omega (arith, plain.0, run.short (omega (arith, whole, within)), whole, within),
-      search rules,
-    )
+    let plain = c.plain_front.ensures in record {
+      plain =
+          λ k k_low k_high. run_all bytes self.base (here_of self) c.run_at.result.now run low within
+          (is_plain c.args.mode) c.plain_front.result plain.0 plain.1 k k_low (omega (arith, k_high));
+      onward = omega arith;
+      within = omega (arith, plain.0, run.short (omega (arith, whole, within)), whole, within);
+      stays = search rules;
+    }
