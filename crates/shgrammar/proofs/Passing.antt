@@ -72,31 +72,30 @@ leads_by edition script p t es (Err f) y is y_is same = let moved = rw y_is at s
 
 -- a line that may be passed, as it is read with its tree
 passed_alone : (edition : Edition) → (bytes : List ℕ) (p q : ℕ) (line : LineBefore edition bytes p q) →
-    (fs : Row AnEntry) × (line_told edition bytes Whole false p 0 ≡ Ok ((fs, true), line.1))
+    (fs : Row AnEntry) × (line_told edition bytes Whole false p 0 ≡ Ok ((fs, true), line.state))
 passed_alone edition bytes p q line =
     let like = (alike_line (alike_level (given edition (drop p bytes) 0) most_open) false false).like (standing 0) in
-    kept_by line.1 (line_told edition bytes Whole false p 0)
-    (line_told edition bytes Nothing false p 0) line.0 line.2 like
+    kept_by line.state (line_told edition bytes Whole false p 0)
+    (line_told edition bytes Nothing false p 0) line.entries line.told like
 
 -- lines that are passed, and one more
 pub passed_more : (edition : Edition) → (bytes : List ℕ) (p q : ℕ) → ArePassed edition bytes p →
     LineBefore edition bytes p q → ArePassed edition bytes q
 passed_more edition bytes p q so line script same_q =
-    let t = line.1 in
-    let read = line.2 in
-    let some = line.4 in
-    let same : take (p + t.at) script ≡ take (p + t.at) bytes = rw line.3 at same_q in
+    let t = line.state in
+    let some = line.some in
+    let same : take (p + t.at) script ≡ take (p + t.at) bytes = rw line.end at same_q in
     let T = drop p bytes in
     let n = t.at - 1 in
     let kept = passed_alone edition bytes p q line in
     let again : line_told edition script Whole false p 0 ≡ Ok ((kept.0, true), t) =
-    line_there edition T (drop p script) n kept.0 t (omega (arith, some)) (newline_at T n line.6)
+    line_there edition T (drop p script) n kept.0 t (omega (arith, some)) (newline_at T n line.newline)
     (λ r lt. same_after p t.at bytes script same r (omega (arith, lt, some))) kept.1 in
     let low : take p script ≡ take p bytes =
     sym (take-take p (p + t.at) script (omega arith)) ∙ ap (take p) same ∙ take-take p (p + t.at) bytes (omega arith) in
     so script low ∙ leads_by edition script p t kept.0 (line_from edition script Whole false p)
     (line_told edition script Whole false p 0) refl again (line_moved edition script p false)
-    ∙ ap (first_fault_from edition script) (sym line.3)
+    ∙ ap (first_fault_from edition script) (sym line.end)
 
 -- the last byte of a line that is passed
 pub newline_after : (bytes : List ℕ) (p q len : ℕ) → q ≡ p + len → 0 < len →
@@ -107,7 +106,7 @@ newline_after bytes p q len ends some stands =
 
 pub newline_before : (edition : Edition) → (bytes : List ℕ) (p q : ℕ) → LineBefore edition bytes p q →
     slice_get bytes (q - 1) ≡ Some 10
-newline_before edition bytes p q line = newline_after bytes p q line.1.at line.3 line.4 line.6
+newline_before edition bytes p q line = newline_after bytes p q line.state.at line.end line.some line.newline
 
 -- what was read there tells that it is none
 pub stops_unended : (edition : Edition) → (bytes : List ℕ) (p len : ℕ) (blank newline : Bool) (es : Row AnEntry) →
@@ -115,17 +114,17 @@ pub stops_unended : (edition : Edition) → (bytes : List ℕ) (p len : ℕ) (bl
     (newline ≡ true → raw_stands (drop p bytes) (len - 1) newline_char ≡ false) → StopsAt edition bytes p
 stops_unended edition bytes p len blank newline es is other q line =
     let own = passed_alone edition bytes p q line in
-    let same : SameBy false p blank (Ok ((es, newline), standing len)) (Ok ((own.0, true), line.1)) =
+    let same : SameBy false p blank (Ok ((es, newline), standing len)) (Ok ((own.0, true), line.state)) =
     rw (is, own.1) at (line_outer edition bytes p blank) in
     let no : false ≡ true = sym (other same.1) ∙ ap (λ (n : ℕ). raw_stands (drop p bytes) (n - 1) newline_char) same.2
-    ∙ line.6 in
+    ∙ line.newline in
     absurd cc
 
 pub stops_faulty : (edition : Edition) → (bytes : List ℕ) (p : ℕ) (blank : Bool) (f : Fault) →
     line_from edition bytes Outer blank p ≡ Err f → StopsAt edition bytes p
 stops_faulty edition bytes p blank f is q line =
     let own = passed_alone edition bytes p q line in
-    let same : SameBy false p blank (Err f) (Ok ((own.0, true), line.1)) =
+    let same : SameBy false p blank (Err f) (Ok ((own.0, true), line.state)) =
     rw (is, own.1) at (line_outer edition bytes p blank) in absurd same
 
 -- ---- the first fault after some bytes, and that of the script

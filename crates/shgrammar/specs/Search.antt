@@ -17,11 +17,14 @@ MayPass edition bytes n = (script : List ℕ) (f : Option Fault) → take n scri
     FirstFault edition (drop n script) f → FirstFault edition script (option_map (moved_fault n) f)
 
 -- the line at an offset has no fault, and a newline ended it and is its last byte, before the offset q
-abbrev pub LineBefore : Edition → List ℕ → ℕ → ℕ → Type 0
-LineBefore edition bytes p q =
-    (es : Row AnEntry) × (t : State) × (line_told edition bytes Nothing false p 0 ≡ Ok ((es, true), t)) × (q ≡ p + t.at)
-    × (0 < t.at) × (q ≤ length bytes)
-    × (raw_stands (drop p bytes) (t.at - 1) newline_char ≡ true)
+pub record LineBefore (edition : Edition) (bytes : List ℕ) (p q : ℕ) : Type 0 where
+  pub entries : Row AnEntry
+  pub state : State
+  pub told : line_told edition bytes Nothing false p 0 ≡ Ok ((entries, true), state)
+  pub end : q ≡ p + state.at
+  pub some : 0 < state.at
+  pub within : q ≤ length bytes
+  pub newline : raw_stands (drop p bytes) (state.at - 1) newline_char ≡ true
 
 -- no such line begins at an offset
 abbrev pub StopsAt : Edition → List ℕ → ℕ → Type 0

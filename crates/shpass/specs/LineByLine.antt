@@ -77,46 +77,62 @@ module _ {S : Type 0} where
   before_of lines = lines.before
 
   -- the next line is the first
-  abbrev pub AtStart : ScriptLines S → Type 0
-  AtStart lines = (lines.at ≡ 0) × (lines.before.gap ≡ false) × (lines.before.begun ≡ false)
+  pub record AtStart (lines : ScriptLines S) : Type 0 where
+    pub at : lines.at ≡ 0
+    pub gap : lines.before.gap ≡ false
+    pub begun : lines.before.begun ≡ false
 
   -- the lines so far gave this
   abbrev pub Stands : ScriptLines S → LinesSoFar → Type 0
   Stands lines so = Before lines.before so
 
   -- the script stays, and by which edition and with whose memory it is read
-  abbrev pub SameScript : ScriptLines S → ScriptLines S → Type 0
-  SameScript old new = (new.source ≡ old.source) × (new.edition ≡ old.edition) × (new.alloc ≡ old.alloc)
+  pub record SameScript (old new : ScriptLines S) : Type 0 where
+    pub source : new.source ≡ old.source
+    pub edition : new.edition ≡ old.edition
+    pub alloc : new.alloc ≡ old.alloc
 
   -- The reading goes to just past a line that was told, and what the lines gave has its entries too.
-  abbrev pub GoesPast : ScriptLines S → ParsedLine → ScriptLines S → Type 0
-  GoesPast old told new =
-      SameScript old new × (new.at ≡ old.at + told.len)
-      × ((so : LinesSoFar) → Stands old so → Stands new (with_line so (map view_entry told.entries.items)))
+  pub record GoesPast (old : ScriptLines S) (told : ParsedLine) (new : ScriptLines S) : Type 0 where
+    pub same : SameScript old new
+    pub at : new.at ≡ old.at + told.len
+    pub stands : (so : LinesSoFar) → Stands old so → Stands new (with_line so (map view_entry told.entries.items))
 
-  -- It goes past the line at its place: further on where a newline ended it, and never past the end. At a
-  -- fault nothing moves, nor where memory ran out.
+  -- It goes past the line at its place: further on where a newline ended it, and never past the end.
+  pub record GoesOn (bytes : S → List ℕ) (old : ScriptLines S) (told : ParsedLine) (new : ScriptLines S) : Type 0 where
+    pub past : GoesPast old told new
+    pub onward : Onward old.at new.at told.newline
+    pub within : new.at ≤ length (bytes_of bytes old)
+
+  -- At a fault nothing moves, nor where memory ran out.
   abbrev pub MovesOn : (S → List ℕ) → ScriptLines S → Result ParsedLine Stop → ScriptLines S → Type 0
-  MovesOn bytes old (Ok told) new =
-      GoesPast old told new × Onward old.at new.at told.newline × (new.at ≤ length (bytes_of bytes old))
+  MovesOn bytes old (Ok told) new = GoesOn bytes old told new
   MovesOn bytes old (Err e) new = new ≡ old
 
   -- A line with these entries, but for the trees in command substitutions, after lines that gave this, from
   -- `old` to `new`. A newline ended it and is its last byte.
-  abbrev pub IsWholeLine : List ℕ → LinesSoFar → ScriptLines S → Vec Entry Global → ScriptLines S → Type 0
-  IsWholeLine B so old es new =
-      (t : State) × (new.at ≡ old.at + t.at)
-      × OuterReads old.edition B so old.at (Ok ((map view_entry es.items, true), t)) × (0 < t.at)
-      × (raw_stands (drop old.at B) (t.at - 1) newline_char ≡ true)
-      × Stands new (with_line so (map view_entry es.items))
+  pub record IsWholeLine (B : List ℕ) (so : LinesSoFar) (old : ScriptLines S) (es : Vec Entry Global)
+      (new : ScriptLines S) : Type 0 where
+    pub state : State
+    pub at : new.at ≡ old.at + state.at
+    pub reads : OuterReads old.edition B so old.at (Ok ((map view_entry es.items, true), state))
+    pub some : 0 < state.at
+    pub newline : raw_stands (drop old.at B) (state.at - 1) newline_char ≡ true
+    pub stands : Stands new (with_line so (map view_entry es.items))
 
-  -- It goes past such a line. Where there is none nothing moves, nor where memory ran out.
+  -- It goes past such a line.
+  pub record GoesPastWhole (bytes : S → List ℕ) (old : ScriptLines S) (es : Vec Entry Global) (new : ScriptLines S)
+      : Type 0 where
+    pub same : SameScript old new
+    pub onward : old.at < new.at
+    pub within : new.at ≤ length (bytes_of bytes old)
+    pub newline : slice_get (bytes_of bytes old) (new.at - 1) ≡ Some newline_char
+    pub whole : (so : LinesSoFar) → Stands old so → IsWholeLine (bytes_of bytes old) so old es new
+
+  -- Where there is none nothing moves, nor where memory ran out.
   abbrev pub PassesWhole : {E : Type 0} → (S → List ℕ) → ScriptLines S → Result (Option (Vec Entry Global)) E →
       ScriptLines S → Type 0
-  PassesWhole bytes old (Ok (Some es)) new =
-      SameScript old new × (old.at < new.at) × (new.at ≤ length (bytes_of bytes old))
-      × (slice_get (bytes_of bytes old) (new.at - 1) ≡ Some newline_char)
-      × ((so : LinesSoFar) → Stands old so → IsWholeLine (bytes_of bytes old) so old es new)
+  PassesWhole bytes old (Ok (Some es)) new = GoesPastWhole bytes old es new
   PassesWhole bytes old (Ok None) new = (new ≡ old) × StopsAt old.edition (bytes_of bytes old) old.at
   PassesWhole bytes old (Err e) new = new ≡ old
 

@@ -1,5 +1,6 @@
 //! What may be passed of a script that is read in parts.
 ghost use Rattle.std.specs.Prelude.{◌≡◌, ◌-◌, ◌<◌, ◌≤◌, IfErr, IfOk, IfSome, None, Some, length, slice_get, true};
+ghost use Rattle.shgrammar.specs.Characters.{newline_char};
 ghost use Rattle.shline.specs.Limits.{wants_memory};
 ghost use Rattle.shgrammar.specs.Search.{LineBefore, MayPass, StopsAt};
 
@@ -60,7 +61,8 @@ pub fn faultless_front<S: Source>(
 ) -> Result<usize, AllocError>
     ensures passed { IfOk result (λ n. MayPass edition (S.bytes source.now) n) }
     ensures within { IfOk result (λ n. n ≤ length (S.bytes source.now)) }
-    ensures newline { IfOk result (λ n. 0 < n → slice_get (S.bytes source.now) (n - 1) ≡ Some 10) }
+    ensures newline { IfOk result
+        (λ n. 0 < n → slice_get (S.bytes source.now) (n - 1) ≡ Some newline_char) }
     // They are all: no such line follows.
     ensures all { IfOk result (StopsAt edition (S.bytes source.now)) }
     // Where no `<` stands, it succeeds, whatever memory is left.

@@ -1,5 +1,6 @@
 //! Whether a line ends with its newline.
 ghost use Rattle.std.specs.Prelude.{◌≡◌, ◌+◌, ◌-◌, ◌^◌, ◌<◌, drop};
+ghost use Rattle.shgrammar.specs.Characters.{newline_char};
 ghost use Rattle.shgrammar.specs.Standing.{raw_stands};
 
 use shsource::Source;
@@ -9,7 +10,7 @@ use shsource::Source;
 pub fn ends_in_newline<S: Source>(source: &S, at: usize, len: usize) -> bool
     requires some { 0 < len }
     requires fits { at + len < 2 ^ 64 }
-    ensures { result ≡ raw_stands (drop at (S.bytes source.now)) (len - 1) 10 }
+    ensures { result ≡ raw_stands (drop at (S.bytes source.now)) (len - 1) newline_char }
 {
     match source.byte(at + (len - 1)) {
         Some(byte) => byte == b'\n',

@@ -2,7 +2,6 @@
 use Rattle.std.proofs.Common.{◌≡◌, ◌∙◌, ℕ, zero-add, IfErr, IfOk, Result, ◌+◌, ◌-◌, ◌≤◌, ◌<◌, Bool, true, false, not, List, [], ◌∷◌, ◌++◌, Vec, Global, length, map, take, drop, Ok, Err, None, Some, refl, ap, subst, sym, append_assoc, append-nil, arith, length-append, length-drop, length-take}
 use Rattle.std.proofs.lemmas.List.{take-append-le}
 use Rattle.std.proofs.Math.Seq.{drop-append_seam, drop-append-add, take-add, take-take}
-use Rattle.shgrammar.specs.Characters.{newline_char}
 use Rattle.shgrammar.specs.declared.edition.Edition.{Edition}
 use Rattle.shgrammar.specs.declared.fault.Fault.{Fault}
 use Rattle.shpass.specs.declared.script_lines.LinesBefore.{LinesBefore}
@@ -15,7 +14,9 @@ use Rattle.shpass.specs.LineByLine.{Before, IsReadBy, IsWholeLine, LineWithin, O
 use Rattle.shgrammar.specs.declared.keep.Keep.TheVariants.{Whole}
 use Rattle.shast.specs.Moved.{blanked_row, moved_entry, outer_entry, placed_body}
 use Rattle.shgrammar.specs.Moved.{moved_fault}
-use Rattle.shgrammar.specs.Scripts.{AScript, FirstFault, Outcome, LinesSoFar, faulty, is_blank_line, last_line, line_ended, nothing_yet, with_line}
+use Rattle.shgrammar.specs.Characters.{newline_char}
+use Rattle.shgrammar.specs.Standing.{raw_stands}
+use Rattle.shgrammar.specs.Scripts.{AScript, FirstFault, Outcome, LinesSoFar, faulty, is_blank_line, last_line, line_ended, line_told, nothing_yet, with_line}
 use Rattle.shgrammar.specs.Sights.{State, standing}
 use Rattle.shpass.proofs.LineByLine.{line_only, line_read, told_in}
 use Rattle.shgrammar.proofs.LineInPiece.{There, outer_alone, fault_there, stands_there, told_same}
@@ -133,9 +134,9 @@ outer_printed y H q blank line es text then outer is =
 -- the line at q of H is whole, and its first bytes are taken after P: whatever
 -- follows them, it is read there
 whole_there : (edition : Edition) (H P more : List ℕ) (q : ℕ) (blank : Bool) (es : List AnEntry) (t : State) →
-    Rattle.shgrammar.specs.Scripts.line_told edition H Whole false q 0 ≡ Ok ((es, true), t) → 0 < t.at →
+    line_told edition H Whole false q 0 ≡ Ok ((es, true), t) → 0 < t.at →
     q + t.at ≤ length H
-    → Rattle.shgrammar.specs.Standing.raw_stands (drop q H) (t.at - 1) newline_char ≡ true →
+    → raw_stands (drop q H) (t.at - 1) newline_char ≡ true →
     There edition H (P ++ (take t.at (drop q H) ++ more)) q (length P) blank true es t
 whole_there edition H P more q blank es t read some low stands =
     let D = drop q H in
@@ -161,15 +162,15 @@ module _ {S : Type 0} (edition : Edition) (y : Layout) (H : List ℕ) (old new :
       let D = drop q H in
       let w = whole b.so b.left_so in
       let blank = is_blank_line b.so in
-      let reads = subst (λ e. OuterReads e H b.so q (Ok ((map view_entry line.items, true), w.0))) by w.2 in
-      let a = outer_alone edition H q blank true (map view_entry line.items) w.0 reads in
+      let reads = subst (λ e. OuterReads e H b.so q (Ok ((map view_entry line.items, true), w.state))) by w.reads in
+      let a = outer_alone edition H q blank true (map view_entry line.items) w.state reads in
       let es = a.0 in
       let t = a.1 in
-      let size : t.at ≡ L = omega (arith, a.4, w.1, ends_at) in
-      let some : 0 < t.at = omega (arith, a.4, w.3) in
+      let size : t.at ≡ L = omega (arith, a.4, w.at, ends_at) in
+      let some : 0 < t.at = omega (arith, a.4, w.some) in
       let high : q + t.at ≤ length H = omega (arith, size, ends_at, low) in
-      let stands : Rattle.shgrammar.specs.Standing.raw_stands D (t.at - 1) newline_char ≡ true =
-      subst (λ (k : ℕ). Rattle.shgrammar.specs.Standing.raw_stands D (k - 1) newline_char ≡ true) a.4 w.4 in
+      let stands : raw_stands D (t.at - 1) newline_char ≡ true =
+      subst (λ (k : ℕ). raw_stands D (k - 1) newline_char ≡ true) a.4 w.newline in
       let there = λ (more : List ℕ). whole_there edition H P more q blank es t a.2 some high stands in
       let here = blanked_row blank (map (moved_entry (length P)) es) in
       let alike : is_empty (map view_entry line.items) ≡ is_empty here = ap is_empty a.3
@@ -177,7 +178,7 @@ module _ {S : Type 0} (edition : Edition) (y : Layout) (H : List ℕ) (old new :
       let then_is = outer_printed y H q blank (map view_entry line.items) es text then a.3 is in
       let done : ArePrinted edition y (P ++ take t.at D) new.before then = record {
         so = with_line b.so here;
-        left_so = left_as new.before b.so (map view_entry line.items) here alike w.5;
+        left_so = left_as new.before b.so (map view_entry line.items) here alike w.stands;
         from = λ more s rest.
             let same : P ++ take t.at D ++ more ≡ P ++ (take t.at D ++ more) = append_assoc P (take t.at D) more in
             let at : length (P ++ take t.at D) ≡ length P + t.at =

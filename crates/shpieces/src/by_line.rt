@@ -1,5 +1,6 @@
 //! Printing a script that is read a line at a time, and in pieces.
 ghost use Rattle.std.specs.Prelude.{◌≡◌, ◌-◌, ◌<◌, ◌≤◌, ◌++◌, ℕ, [], IfErr, IfOk, List as Row, Some, length, slice_get, take};
+ghost use Rattle.shgrammar.specs.Characters.{newline_char};
 ghost use Rattle.shgrammar.specs.Search.{StopsAt};
 ghost use Rattle.shpieces.specs.Printing.{IsErrorWithin, IsNoText, IsPrinted, edition_of, error_of, moved_error};
 ghost use Rattle.shpieces.specs.declared.by_line.PrintError.TheVariants.{Memory};
@@ -93,7 +94,7 @@ impl Printing {
             IsPrinted e y (front ++ take n (S.bytes source.now)) self.new) }
         ensures within { IfOk result (λ n. n ≤ length (S.bytes source.now)) }
         ensures newline { IfOk result
-            (λ n. 0 < n → slice_get (S.bytes source.now) (n - 1) ≡ Some 10) }
+            (λ n. 0 < n → slice_get (S.bytes source.now) (n - 1) ≡ Some newline_char) }
         // They are all: no such line follows.
         ensures all { IfOk result (StopsAt (edition_of self.old) (S.bytes source.now)) }
     {

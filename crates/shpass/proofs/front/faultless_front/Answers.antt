@@ -7,14 +7,15 @@ pub lines-preserved : goal.lines-preserved
 lines-preserved g c =
     let bytes = g.S.Source.bytes c.args.source.now in
     let line : LineBefore c.args.edition bytes c.lines.at c.in-Some.next =
-    rw c.in-Some.is at c.in_ok-next.ensures.some in (
-      line.5,
-      passed_more c.args.edition bytes c.lines.at c.in-Some.next c.lines.invariant.1 line,
-      λ some. newline_before c.args.edition bytes c.lines.at c.in-Some.next line,
-    )
+    rw c.in-Some.is at c.in_ok-next.ensures.some in record {
+      within = line.within;
+      passed = passed_more c.args.edition bytes c.lines.at c.in-Some.next c.lines.invariant.passed line;
+      newline = λ some. newline_before c.args.edition bytes c.lines.at c.in-Some.next line;
+    }
 
 pub returns-clause-passed : goal.returns-clause-passed
-returns-clause-passed g c = may_pass c.args.edition (g.S.Source.bytes c.args.source.now) c.lines.at c.lines.invariant.1
+returns-clause-passed g c = may_pass c.args.edition
+    (g.S.Source.bytes c.args.source.now) c.lines.at c.lines.invariant.passed
 
 pub returns-clause-all : goal.returns-clause-all
 returns-clause-all g c = let none : c.in_ok-next.field-0 ≡ None = search rules in c.in_ok-next.ensures.none none

@@ -10,21 +10,24 @@ lines-preserved g c =
     let inv = c.lines.invariant in
     let line = c.in-Ok.told in
     let before = so_far c.lines.entries.items c.lines.lines.before.gap in
-    let read = told_in (λ e B. LineReads e B before c.lines.lines.at) bytes _ c.args.edition _ (Ok line) inv.3 inv.5
-    (c.in-Ok.ensures.line before inv.0) in
+    let read = told_in (λ e B. LineReads e B before c.lines.lines.at) bytes _ c.args.edition _
+    (Ok line) inv.source inv.edition
+    (c.in-Ok.ensures.line before inv.stands) in
     let moves = c.in-Ok.ensures.moves in
     let all = c.in_ok-append-in-Ok.ensures.items in
     let on = ended_on c.args.edition bytes c.lines.entries.items c.append.new.self.items line.entries.items all
-    c.lines.lines c.read_next.new.self inv.1 line.len moves.0.1 (moves.0.2 before inv.0)
-    (leads_on c.args.edition bytes before c.lines.lines.at line true c.if-not-told.false read) in (
-      on.0,
-      on.1,
-      all_within (length bytes) c.lines.entries.items c.append.new.self.items line.entries.items all
-          (rw inv.3 at c.in-Ok.ensures.within) inv.2,
-      ap (λ source. g.S.Source.bytes source.now) moves.0.0.0 ∙ inv.3,
-      rw inv.3 at moves.2,
-      moves.0.0.1 ∙ inv.5,
-    )
+    c.lines.lines c.read_next.new.self inv.rest line.len moves.past.at (moves.past.stands before
+    inv.stands)
+    (leads_on c.args.edition bytes before c.lines.lines.at line true c.if-not-told.false read) in record {
+      stands = on.0;
+      rest = on.1;
+      nodes =
+          all_within (length bytes) c.lines.entries.items c.append.new.self.items line.entries.items all
+          (rw inv.source at c.in-Ok.ensures.within) inv.nodes;
+      source = ap (λ source. g.S.Source.bytes source.now) moves.past.same.source ∙ inv.source;
+      within = rw inv.source at moves.within;
+      edition = moves.past.same.edition ∙ inv.edition;
+    }
 
 pub returns-then-not-told-clause-value : goal.returns-then-not-told-clause-value
 returns-then-not-told-clause-value g c =
@@ -32,12 +35,13 @@ returns-then-not-told-clause-value g c =
     let inv = c.lines.invariant in
     let line = c.in-Ok.told in
     let before = so_far c.lines.entries.items c.lines.lines.before.gap in
-    let read = told_in (λ e B. LineReads e B before c.lines.lines.at) bytes _ c.args.edition _ (Ok line) inv.3 inv.5
-    (c.in-Ok.ensures.line before inv.0) in
+    let read = told_in (λ e B. LineReads e B before c.lines.lines.at) bytes _ c.args.edition _
+    (Ok line) inv.source inv.edition
+    (c.in-Ok.ensures.line before inv.stands) in
     ap (λ es. record { entries = es; fault = None }) c.list_of-then-not-told.ensures
     ∙ script_only c.args.edition bytes _
     (last_on c.args.edition bytes c.lines.entries.items c.append.new.self.items line.entries.items
-    c.in_ok-append-in-Ok.ensures.items c.lines.lines c.read_next.new.self inv.1
+    c.in_ok-append-in-Ok.ensures.items c.lines.lines c.read_next.new.self inv.rest
     (leads_on c.args.edition bytes before c.lines.lines.at line false c.if-not-told.true read))
 
 pub returns-then-not-told-clause-spans : goal.returns-then-not-told-clause-spans
@@ -46,7 +50,7 @@ returns-then-not-told-clause-spans g c =
     let inv = c.lines.invariant in
     rw c.list_of-then-not-told.ensures
     (all_within (length bytes) c.lines.entries.items c.append.new.self.items c.in-Ok.told.entries.items
-    c.in_ok-append-in-Ok.ensures.items (rw inv.3 at c.in-Ok.ensures.within) inv.2)
+    c.in_ok-append-in-Ok.ensures.items (rw inv.source at c.in-Ok.ensures.within) inv.nodes)
 
 pub returns-in-Err-clause-value : goal.returns-in-Err-clause-value
 returns-in-Err-clause-value g c =
@@ -55,8 +59,8 @@ returns-in-Err-clause-value g c =
     let fault = c.in_ok-fault-in-Err.fault in
     let before = so_far c.lines.entries.items c.lines.lines.before.gap in
     let read = told_in (λ e B. LineReads e B before c.lines.lines.at) bytes _ c.args.edition _
-    (Err c.in-Err.stop) inv.3 inv.5 (c.in-Err.ensures.line before inv.0) in
+    (Err c.in-Err.stop) inv.source inv.edition (c.in-Err.ensures.line before inv.stands) in
     ap (λ es. record { entries = es; fault = Some fault }) c.list_of-in-Err.ensures
     ∙ script_only c.args.edition bytes _
-    (inv.1 _ (leads_nowhere c.args.edition bytes before c.lines.lines.at c.in-Err.stop fault
+    (inv.rest _ (leads_nowhere c.args.edition bytes before c.lines.lines.at c.in-Err.stop fault
     c.in_ok-fault-in-Err.ensures.wrong read))

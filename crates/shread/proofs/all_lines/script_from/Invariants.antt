@@ -10,10 +10,14 @@ abbrev pub invariant-lines : goal.invariant-lines
 invariant-lines g l =
     let bytes = g.S.Source.bytes l.source in
     let so : LinesSoFar = record { entries = map view_entry l.entries.items; gap = l.lines.before.gap } in
-    Stands l.lines so × ((s : AScript) → Rest l.fn.edition bytes so (place_of l.lines) s → Outcome l.fn.edition bytes s)
-    × NodesWithin (length bytes) (entries_of so.entries)
-    × (bytes_of g.S.Source.bytes l.lines ≡ bytes) × (place_of l.lines ≤ length bytes)
-    × (edition_of l.lines ≡ l.fn.edition)
+    record {
+      stands : Stands l.lines so;
+      rest : (s : AScript) → Rest l.fn.edition bytes so (place_of l.lines) s → Outcome l.fn.edition bytes s;
+      nodes : NodesWithin (length bytes) (entries_of so.entries);
+      source : bytes_of g.S.Source.bytes l.lines ≡ bytes;
+      within : place_of l.lines ≤ length bytes;
+      edition : edition_of l.lines ≡ l.fn.edition;
+    }
 
 abbrev pub decreases-lines : goal.decreases-lines
 decreases-lines g l = length (g.S.Source.bytes l.source) - place_of l.lines

@@ -11,36 +11,38 @@ pub returns-then-ends_in_newline : goal.returns-then-ends_in_newline
 returns-then-ends_in_newline g c =
     let bytes = g.S.Source.bytes c.args.self.now.source.now in
     let moves = c.in-Ok.ensures.moves in
-    let some = rw c.if-told.true at moves.1 in
-    let stands = rw moves.0.0.0 at (sym c.ends_in_newline.ensures ∙ c.if-ends_in_newline.true) in
-    let size : 0 < c.in-Ok.told.len = omega (arith, some, moves.0.1) in (
-      moves.0.0,
-      some,
-      moves.2,
-      newline_after bytes c.args.self.now.at c.read.new.self.at c.in-Ok.told.len moves.0.1 size stands,
-      λ so stood. (
-        standing c.in-Ok.told.len,
-        moves.0.1,
-        rw (c.in-Ok.is, c.if-told.true) at
-            (outer_line bytes _ c.args.self.now c.read.result so stood c.read.ensures.value),
-        size,
-        stands,
-        moves.0.2 so stood,
-      ),
-    )
+    let past = moves.past in
+    let some = rw c.if-told.true at moves.onward in
+    let stands = rw past.same.source at (sym c.ends_in_newline.ensures ∙ c.if-ends_in_newline.true) in
+    let size : 0 < c.in-Ok.told.len = omega (arith, some, past.at) in record {
+      same = past.same;
+      onward = some;
+      within = moves.within;
+      newline = newline_after bytes c.args.self.now.at c.read.new.self.at c.in-Ok.told.len past.at size stands;
+      whole = λ so stood. record {
+        state = standing c.in-Ok.told.len;
+        at = past.at;
+        reads =
+            rw (c.in-Ok.is, c.if-told.true) at
+            (outer_line bytes _ c.args.self.now c.read.result so stood c.read.ensures.value);
+        some = size;
+        newline = stands;
+        stands = past.stands so stood;
+      };
+    }
 
 pub returns-else-told : goal.returns-else-told
 returns-else-told g c =
     let bytes = g.S.Source.bytes c.args.self.now.source.now in
     let told = c.in-Ok.told in
-    let keeps = c.in-Ok.ensures.moves.0.0 in
+    let keeps = c.in-Ok.ensures.moves.past.same in
     let blank = is_blank_after c.args.self.now.before in
     let stops = stops_unended c.args.self.now.edition bytes c.args.self.now.at told.len blank told.newline
     (map view_entry told.entries.items) c.in-Ok.ensures.value in (
-      rw (keeps.0, keeps.1, keeps.2) refl,
+      rw (keeps.source, keeps.edition, keeps.alloc) refl,
       elim c.else-told.branch [
         | else-told-via-then-told+else-ends_in_newline w ↦ stops
-            (λ on. rw keeps.0 at (sym w.ends_in_newline.ensures ∙ w.if-ends_in_newline.false))
+            (λ on. rw keeps.source at (sym w.ends_in_newline.ensures ∙ w.if-ends_in_newline.false))
         | else-told-via-else-told w ↦ stops (λ on. let no : true ≡ false = sym on ∙ w.if-told.false in absurd cc)
       ],
     )
