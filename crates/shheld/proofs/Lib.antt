@@ -1,6 +1,5 @@
 pub mod TopLines
 pub mod Rows
-pub mod Walks
 pub mod Within
 pub mod Places
 pub mod Nodes

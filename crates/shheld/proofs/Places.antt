@@ -1,6 +1,5 @@
 -- A line of a row where it stands in the text: its bytes, its spans and its nodes.
 use Rattle.std.proofs.Common.{◌≡◌, ℕ, ◌+◌, ◌-◌, ◌^◌, ◌<◌, ◌≤◌, List, List as Row, ◌∷◌, ◌++◌, drop, length, subst, arith}
-use Rattle.shast.specs.Everywhere.{SpansWithin}
 use Rattle.shast.specs.Nodes.{NodesWithin}
 use Rattle.shast.specs.Tree.{Entries}
 use Rattle.shgrammar.specs.declared.edition.Edition.{Edition}
@@ -10,7 +9,7 @@ use Rattle.shwindow.specs.declared.line.HeldLine.{HeldLine}
 use Rattle.shwindow.proofs.Rows.{extent_append, row_at, row_extent, row_head}
 use Rattle.shheld.specs.TopLines.{IsTopLine}
 use Rattle.shheld.proofs.TopLines.{top_lines}
-use Rattle.shheld.proofs.Within.{line_all_fit, line_nodes_fit}
+use Rattle.shheld.proofs.Within.{line_nodes_fit}
 
 module _ (edition : Edition) (B : List ℕ) (before : Row (HeldLine AKind)) (l : HeldLine AKind)
     (rest : Row (HeldLine AKind)) (row : IsRow (IsTopLine edition) B (before ++ l ∷ rest)) where
@@ -31,10 +30,7 @@ module _ (edition : Edition) (B : List ℕ) (before : Row (HeldLine AKind)) (l :
   )
 
   module _ (xs : Entries) (kind_is : l.kind ≡ entries_line xs) (small : length B < 2 ^ 64) where
-    pub row_all_fit : SpansWithin (2 ^ 64 - 1 - extent before) xs
-    row_all_fit = line_all_fit edition (drop (extent before) B) l xs row_line kind_is (extent before)
-        (omega (arith, row_line_within, small))
-
+    -- where it stands, no node of it goes past the greatest offset that there is
     pub row_nodes_fit : NodesWithin (2 ^ 64 - 1 - extent before) xs
     row_nodes_fit = line_nodes_fit edition (drop (extent before) B) l xs row_line kind_is (extent before)
         (omega (arith, row_line_within, small))

@@ -1,14 +1,12 @@
 -- The script of a row of lines, its entries and its first fault.
-use Rattle.std.proofs.Common.{◌≡◌, ℕ, ◌+◌, Bool, true, false, List, List as Row, [], ◌∷◌, ◌++◌, Option, drop, length, map, sym, ap, subst, refl, ◌∙◌, arith}
+use Rattle.std.proofs.Common.{◌≡◌, ℕ, ◌+◌, Bool, true, false, List, List as Row, [], ◌∷◌, ◌++◌, drop, length, map, sym, ap, subst, refl, ◌∙◌, arith}
 use Rattle.std.proofs.lemmas.List.{drop-drop}
 use Rattle.shast.specs.Tree.{Entries}
 use Rattle.shgrammar.specs.declared.edition.Edition.{Edition}
-use Rattle.shgrammar.specs.declared.fault.Fault.{Fault}
 use Rattle.shgrammar.specs.Joined.{AreLines, lines_joined, line_joined_by, last_of, more_of}
 use Rattle.shgrammar.specs.Lines.{AKind, ALine, IsLine, blank_line, entries_line, end_line, faulty_line, line_read, line_stops}
 use Rattle.shgrammar.specs.Scripts.{AScript, FirstFault, Outcome}
 use Rattle.shgrammar.proofs.Joining.{script_joined}
-use Rattle.shgrammar.proofs.Scripts.{script_only}
 use Rattle.shwindow.specs.Lines.{IsRow, extent, last_line, more_lines}
 use Rattle.shwindow.specs.declared.line.HeldLine.{HeldLine}
 use Rattle.shwindow.proofs.Rows.{extent_push, row_ended, row_extent, row_head, row_rest}
@@ -133,11 +131,3 @@ row_fault edition B ended last row =
       subst (λ w. Outcome edition B (record { entries = (script_of (ended ++ last ∷ [])).entries; fault = w }))
           (row_wrong edition B ended last row) all,
     )
-
--- and there is no other
-pub row_fault_only : (edition : Edition) (B : List ℕ) (ended : Row (HeldLine AKind)) (last : HeldLine AKind) →
-    IsRow (IsTopLine edition) B (ended ++ last ∷ []) → (f : Option Fault) → FirstFault edition B f →
-    f ≡ fault_at (extent ended) last.kind
-row_fault_only edition B ended last row f first =
-    let same = script_only edition B _ first.1 ∙ sym (script_only edition B _ (row_fault edition B ended last row).1) in
-    ap (λ (s : AScript). s.fault) same

@@ -1,12 +1,11 @@
 -- The spans and the nodes of a line's entries lie within the line.
 use Rattle.std.proofs.Common.{◌≡◌, ℕ, ◌+◌, ◌-◌, ◌^◌, ◌<◌, List, subst, arith}
-use Rattle.shast.specs.Everywhere.{SpansWithin, HaveItems}
+use Rattle.shast.specs.Everywhere.{SpansWithin}
 use Rattle.shast.specs.Nodes.{NodesWithin, entries_nodes}
 use Rattle.shast.specs.Tree.{Entries}
 use Rattle.shast.proofs.Reach.{within_more}
 use Rattle.shgrammar.specs.declared.edition.Edition.{Edition}
 use Rattle.shgrammar.specs.Lines.{AKind, EntryNodesWithin, EntrySpansWithin, entries_line}
-use Rattle.shgrammar.proofs.EachSpan.{all_within_more}
 use Rattle.shgrammar.proofs.Everywhere.{line_everywhere}
 use Rattle.shgrammar.proofs.Within.{entries_within}
 use Rattle.shwindow.specs.declared.line.HeldLine.{HeldLine}
@@ -20,16 +19,11 @@ module _ (edition : Edition) (T : List ℕ) (l : HeldLine AKind) (xs : Entries) 
   pub line_all_within : SpansWithin l.len xs
   line_all_within = everywhere.0
 
-  pub line_have_items : HaveItems xs
-  line_have_items = everywhere.1
-
+  -- no node of the line names an offset past its end
   pub line_are_within : NodesWithin l.len xs
   line_are_within = subst (EntryNodesWithin l.len) kind_is (entries_within edition T (as_read l) is)
 
   -- so no offset of a line that stands in a text is past the greatest one that there is
   module _ (base : ℕ) (fits : base + l.len < 2 ^ 64) where
-    pub line_all_fit : SpansWithin (2 ^ 64 - 1 - base) xs
-    line_all_fit = all_within_more l.len (2 ^ 64 - 1 - base) xs (omega (arith, fits)) line_all_within
-
     pub line_nodes_fit : NodesWithin (2 ^ 64 - 1 - base) xs
     line_nodes_fit = within_more l.len (2 ^ 64 - 1 - base) (entries_nodes xs) (omega (arith, fits)) line_are_within

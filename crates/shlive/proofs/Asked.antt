@@ -51,11 +51,7 @@ module _ (part : Part) (next : ASplice → Parser) (bytes : List ℕ) where
       ap (with_bytes part next) (append_assoc bytes (text ++ 10 ∷ []) rest)
       ∙ seam ((text ++ 10 ∷ []) ++ rest) all ∙ ap (after_payload (next (splice_by part bytes))) (line_ends text rest p)
 
-  pub bytes_cut : length bytes < part.count → with_bytes part next bytes ≡ unfinished
-  bytes_cut few =
-      ap (λ l. after_payload (next (splice_by part (take part.count bytes))) (first_line l))
-      (drop_all part.count bytes (omega (arith, few)))
-
+  -- without the newline they are cut off
   pub bytes_cut_line : (text : List ℕ) → length bytes ≡ part.count → IsInLine text →
       with_bytes part next (bytes ++ text) ≡ unfinished
   bytes_cut_line text all p = seam text all ∙ ap (after_payload (next (splice_by part bytes))) (line_open text p)

@@ -12,9 +12,7 @@ after_both : (t u : List ℕ) (l : Lined) → with_text_before t (with_text_befo
 after_both t u None = refl
 after_both t u (Some (line, rest)) = ap (λ l. Some (l, rest)) (sym (append_assoc t u line))
 
-pub in_line_nothing : IsInLine []
-in_line_nothing rest = after_nothing (first_line rest)
-
+-- one byte more that is no newline brings none
 pub in_line_more : (text : List ℕ) (b : ℕ) → IsInLine text → is_newline b ≡ false → IsInLine (text ++ b ∷ [])
 in_line_more text b p other rest =
     let here : first_line (b ∷ rest) ≡ with_text_before (b ∷ []) (first_line rest) = rw other refl in

@@ -1,13 +1,10 @@
 -- The words of a line, found from left to right.
 use Rattle.std.proofs.Common.{◌≡◌, ℕ, ◌+◌, ◌<◌, ◌≤◌, ◌==◌, cond, Bool, true, false, List, [], ◌∷◌, ◌++◌, length, take, drop, get_or, refl, sym, ap, ◌∙◌, append_assoc, append-nil, add-one, drop-cons, None}
-use Rattle.std.proofs.lemmas.List.{take_more, take_all, drop_all}
+use Rattle.std.proofs.lemmas.List.{take_more}
 use Rattle.shgrammar.specs.Characters.{space}
 use Rattle.shlive.specs.RequestKinds.{before, number_alone, kind_by_name, kind_of_words, part_of_words, words}
 
-before_nothing : (ws : List (List ℕ)) → before [] (before [] ws) ≡ before [] ws
-before_nothing [] = refl
-before_nothing (w ∷ ws) = refl
-
+-- two texts before words are one
 before_both : (t u : List ℕ) (ws : List (List ℕ)) → before t (before u ws) ≡ before (t ++ u) ws
 before_both t u [] = refl
 before_both t u (w ∷ ws) = ap (λ l. l ∷ ws) (sym (append_assoc t u w))
@@ -41,13 +38,6 @@ pub cut_here : (line : List ℕ) (at : ℕ) → at < length line → (get_or lin
 cut_here line at low blank =
     let here : words (drop at line) ≡ [] ∷ words (drop (at + 1) line) = at_byte line at low ∙ rw blank refl in
     ap (before (take at line)) here ∙ ap (λ t. t ∷ words (drop (at + 1) line)) (append-nil (take at line))
-
-pub no_cut : (line : List ℕ) (at : ℕ) → length line ≤ at → before (take at line) (words (drop at line)) ≡ line ∷ []
-no_cut line at end =
-    let all : take at line ≡ line = take_all at line end in
-    let none : drop at line ≡ [] = drop_all at line end in
-    ap (λ t. before t (words (drop at line))) all ∙ ap (λ l. before line (words l)) none
-    ∙ ap (λ t. t ∷ []) (append-nil line)
 
 -- ---- words too many
 

@@ -69,10 +69,7 @@ nodes_at_is base at es h = asked (holds at) (holds (at - base)) base (λ n. with
 not_before : (b at s e : ℕ) → at < b → (nat_le (b + s) at && nat_lt at (b + e)) ≡ false
 not_before b at s e h = grind (arith, nat_tests)
 
-filter_none : (p : NodeLine → Bool) → ((n : NodeLine) → p n ≡ false) → (ns : Row NodeLine) → filter p ns ≡ []
-filter_none p h [] = refl
-filter_none p h (n ∷ ns) = rw (h n) (filter_none p h ns)
-
+-- no node at a base holds an offset before it
 all_passed : (b at : ℕ) (ns : Row NodeLine) → at < b → filter (holds at) (map (placed b) ns) ≡ []
 all_passed b at [] h = refl
 all_passed b at (n ∷ ns) h = rw (not_before b at n.start n.«end» h) (all_passed b at ns h)

@@ -242,10 +242,6 @@ pub cut_all : {X : Type 0} (ks new : Row (Row X)) (p : BlockPlace) (n : ℕ) →
 cut_all ks new p n before from = sym (joined_split n new) ∙ ap (λ x. x ++ in_one_row (drop n new)) before
     ∙ ap (λ x. lines_before ks p ++ x) from ∙ place_split ks p
 
--- nor do the blocks before it
-pub front_same : {X : Type 0} (ks new : Row (Row X)) (m n : ℕ) → m ≤ n → take n new ≡ take n ks → take m new ≡ take m ks
-front_same ks new m n low same = sym (take-take m n new low) ∙ ap (take m) same ∙ take-take m n ks low
-
 -- the block after a block is taken out
 pub taken_out : {X : Type 0} (ks rs : Row (Row X)) (n : ℕ) → n + 1 < length ks →
     rs ≡ take (n + 1) ks ++ drop (suc (n + 1)) ks

@@ -104,11 +104,6 @@ module _ {K : Type 0} (Is : List ℕ → HeldLine K → Type 0) where
   row_ended T x [] y ys row = row_ended_by T x (y ∷ ys) row (λ none. absurd cc)
   row_ended T x (z ∷ xs) y ys row = row_ended_by T x (z ∷ (xs ++ y ∷ ys)) row (λ none. absurd cc)
 
-  -- a line is the last one exactly where it did not end
-  pub row_last : (T : List ℕ) (h : HeldLine K) (hs : Row (HeldLine K)) → IsRow Is T (h ∷ hs) → h.ended ≡ false → hs ≡ []
-  row_last T h _ (last_line is e whole) not_ended = refl
-  row_last T h hs (more_lines is e row) not_ended = absurd cc
-
   -- and a line alone is that one
   pub row_alone : (T : List ℕ) (h : HeldLine K) → IsRow Is T (h ∷ []) → h.ended ≡ false
   row_alone T h (last_line is e whole) = e

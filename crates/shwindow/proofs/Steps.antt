@@ -198,10 +198,7 @@ module _ {K : Type 0} (Is : List ℕ → HeldLine K → Type 0) (laws : Reads Is
 
   -- ---- no sum is past the ends of the texts
 
-  pub hand_fits : (w : ℕ) (read : Row (HeldLine K)) (q p : ℕ) (h : HeldLine K) (hs : Row (HeldLine K)) →
-      Going Is B U a e b w read q p (h ∷ hs) → p + h.len ≤ length B
-  hand_fits w read q p h hs g = hold_fits Is laws B (b + (q - e)) p h hs g.hand
-
+  -- what was read ends in the new text
   pub place_fits : (w : ℕ) (read : Row (HeldLine K)) (q p : ℕ) (hs : Row (HeldLine K)) →
       Going Is B U a e b w read q p hs → q ≤ length U
   place_fits w read q p hs g = boundary_within Is laws U q g.boundary
