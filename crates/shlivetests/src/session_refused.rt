@@ -66,9 +66,44 @@ fn is_as_before(
     Ok(read <= window as u64 && alike_at_each(session, opened, step)?)
 }
 
-/// Refuses each growth of an edit in turn. Where one cannot be done without, all is as before, but for what
-/// was read, and then the same edit is made. To make it, the window is read. Nodes are asked for at one
-/// offset of so many.
+/// An edit of a script, how many bytes it has to read, and sessions on the script before it and after it.
+/// Nodes are asked for at one offset of so many.
+#[derive(Clone, Copy)]
+struct TriedEdit<'a, 'b> {
+    script: &'a [u8],
+    splices: &'a [Splice<'b>],
+    before: &'a Session,
+    made: &'a Session,
+    window: usize,
+    step: usize,
+}
+
+/// Makes an edit with the next growth refused. Where it cannot be done without, all is as before, but for
+/// what was read, and then the same edit is made. Answers whether a growth was refused.
+fn made_without_one(
+    rt: &impl Abort,
+    alloc: Global,
+    edit: &TriedEdit<'_, '_>,
+    growths: &mut Growths,
+) -> Result<bool, Fail> {
+    let mut session = opened(alloc, edit.script)?;
+    growths.refuse_next();
+    let mut read = session.meter();
+    let edited = make(&mut session, edit.splices);
+    let is_met = growths.is_met();
+    if let Err(error) = edited {
+        assert!(rt; is_met && error == LiveError::Memory);
+        assert!(rt; is_as_before(&session, edit.before, edit.window, edit.step)?);
+        read = session.meter();
+        make(&mut session, edit.splices)?;
+    }
+    assert!(rt; session.meter() == read.saturating_add(edit.window as u64));
+    assert!(rt; alike_at_each(&session, edit.made, edit.step)?);
+    Ok(is_met)
+}
+
+/// Refuses each growth of an edit in turn. To make it, the window is read. Nodes are asked for at one offset
+/// of so many.
 pub(crate) fn each_refused(
     rt: &impl Abort,
     alloc: Global,
@@ -78,23 +113,17 @@ pub(crate) fn each_refused(
 ) -> Result<(), Fail> {
     let before = opened(alloc, script)?;
     let made = opened(alloc, &spliced_all(alloc, script, splices)?)?;
-    let window = window(alloc, script, splices)?;
+    let edit = TriedEdit {
+        script,
+        splices,
+        before: &before,
+        made: &made,
+        window: window(alloc, script, splices)?,
+        step,
+    };
     let mut growths = Growths::of(alloc);
     for _ in 1..200 {
-        let mut session = opened(alloc, script)?;
-        growths.refuse_next();
-        let mut read = session.meter();
-        let edited = make(&mut session, splices);
-        let is_met = growths.is_met();
-        if let Err(error) = edited {
-            assert!(rt; is_met && error == LiveError::Memory);
-            assert!(rt; is_as_before(&session, &before, window, step)?);
-            read = session.meter();
-            make(&mut session, splices)?;
-        }
-        assert!(rt; session.meter() == read.saturating_add(window as u64));
-        assert!(rt; alike_at_each(&session, &made, step)?);
-        if !is_met {
+        if !made_without_one(rt, alloc, &edit, &mut growths)? {
             break;
         }
     }
@@ -228,8 +257,39 @@ fn written<R: Read + Drop>(
     Ok(served(alloc, &mut session, requests, page))
 }
 
-/// Refuses each growth of a request in turn: its reply is as with ample memory, or `no memory`, and then the
-/// script is as before. The request after it needs none.
+/// Requests on a script, what they are replied, and sessions on the script before them and after them.
+#[derive(Clone, Copy)]
+struct TriedRequests<'a> {
+    script: &'a [u8],
+    requests: &'a [u8],
+    whole: &'a Page,
+    before: &'a Session,
+    made: &'a Session,
+}
+
+/// Serves requests with the next growth refused: the reply is as with ample memory, or `no memory`, and then
+/// the script is as before. Answers whether a growth was refused.
+fn served_without_one(
+    rt: &impl Abort,
+    alloc: Global,
+    asked: &TriedRequests<'_>,
+    growths: &mut Growths,
+) -> Result<bool, Fail> {
+    let mut session = opened(alloc, asked.script)?;
+    let mut page = page_of(PAGE);
+    growths.refuse_next();
+    let status = served(alloc, &mut session, asked.requests, &mut page);
+    let is_met = growths.is_met();
+    if page.text() == asked.whole.text() {
+        assert!(rt; status == 0 && alike(&session, asked.made)?);
+    } else {
+        assert!(rt; is_met && page.text() == b"no memory\nnone\n".as_slice());
+        assert!(rt; status == 0 && alike(&session, asked.before)?);
+    }
+    Ok(is_met)
+}
+
+/// Refuses each growth of a request in turn. The request after it needs none.
 fn replied_in_turn(
     rt: &impl Abort,
     alloc: Global,
@@ -240,20 +300,16 @@ fn replied_in_turn(
     let mut made = opened(alloc, script)?;
     let mut whole = page_of(PAGE);
     assert!(rt; served(alloc, &mut made, requests, &mut whole) == 0);
+    let asked = TriedRequests {
+        script,
+        requests,
+        whole: &whole,
+        before: &before,
+        made: &made,
+    };
     let mut growths = Growths::of(alloc);
     for _ in 1..200 {
-        let mut session = opened(alloc, script)?;
-        let mut page = page_of(PAGE);
-        growths.refuse_next();
-        let status = served(alloc, &mut session, requests, &mut page);
-        let is_met = growths.is_met();
-        if page.text() == whole.text() {
-            assert!(rt; status == 0 && alike(&session, &made)?);
-        } else {
-            assert!(rt; is_met && page.text() == b"no memory\nnone\n".as_slice());
-            assert!(rt; status == 0 && alike(&session, &before)?);
-        }
-        if !is_met {
+        if !served_without_one(rt, alloc, &asked, &mut growths)? {
             break;
         }
     }
@@ -315,30 +371,38 @@ fn requests(rt: HostRuntime) -> Result<(), Fail> {
 
 const TOGETHER: &[u8] = b"batch 2\n0 1 1\nx\n4 5 2\nyy\n";
 
-/// After `no memory` all is as before, and the same request is made once there is memory: it reads the
-/// window.
+/// Serves the batch with the next growth refused. After `no memory` all is as before, and the same request is
+/// made once there is memory: it reads the window. Answers whether a growth was refused.
+fn batch_without_one(
+    rt: &impl Abort,
+    alloc: Global,
+    (before, made): (&Session, &Session),
+    growths: &mut Growths,
+) -> Result<bool, Fail> {
+    let mut session = opened(alloc, b"a\nb\nc\n")?;
+    let mut page = page_of(PAGE);
+    growths.refuse_next();
+    let mut read = session.meter();
+    let mut status = served(alloc, &mut session, TOGETHER, &mut page);
+    let is_met = growths.is_met();
+    if page.text() == b"no memory\n".as_slice() {
+        assert!(rt; is_met && status == 0 && is_as_before(&session, before, 7, 1)?);
+        page = page_of(PAGE);
+        read = session.meter();
+        status = served(alloc, &mut session, TOGETHER, &mut page);
+    }
+    assert!(rt; status == 0 && page.text() == b"ok 7 0\n".as_slice());
+    assert!(rt; session.meter() == read.saturating_add(7) && alike(&session, made)?);
+    Ok(is_met)
+}
+
 #[test]
 fn batch(rt: HostRuntime) -> Result<(), Fail> {
-    let alloc = rt.alloc();
-    let before = opened(alloc, b"a\nb\nc\n")?;
-    let made = opened(alloc, b"x\nb\nyy\n")?;
-    let mut growths = Growths::of(alloc);
+    let before = opened(rt.alloc(), b"a\nb\nc\n")?;
+    let made = opened(rt.alloc(), b"x\nb\nyy\n")?;
+    let mut growths = Growths::of(rt.alloc());
     for _ in 1..200 {
-        let mut session = opened(alloc, b"a\nb\nc\n")?;
-        let mut page = page_of(PAGE);
-        growths.refuse_next();
-        let mut read = session.meter();
-        let mut status = served(alloc, &mut session, TOGETHER, &mut page);
-        let is_met = growths.is_met();
-        if page.text() == b"no memory\n".as_slice() {
-            assert!(rt; is_met && status == 0 && is_as_before(&session, &before, 7, 1)?);
-            page = page_of(PAGE);
-            read = session.meter();
-            status = served(alloc, &mut session, TOGETHER, &mut page);
-        }
-        assert!(rt; status == 0 && page.text() == b"ok 7 0\n".as_slice());
-        assert!(rt; session.meter() == read.saturating_add(7) && alike(&session, &made)?);
-        if !is_met {
+        if !batch_without_one(&rt, rt.alloc(), (&before, &made), &mut growths)? {
             break;
         }
     }

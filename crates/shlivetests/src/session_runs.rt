@@ -58,11 +58,11 @@ fn replies<R: Read + Drop>(
     alloc: Global,
     script: &[u8],
     reader: R,
-    (text, status): (&[u8], u8),
+    (text, status): (&[u8], usize),
 ) -> Result<bool, Fail> {
     let mut page = page_of(PAGE);
     let answered = answer(alloc, script, reader, &mut page)?;
-    Ok(answered == status && page.text() == text)
+    Ok(answered as usize == status && page.text() == text)
 }
 
 const THREE: &[u8] = b"a\nb\nc\n";
@@ -108,7 +108,7 @@ fn judge(
     step: usize,
 ) -> Result<(), Fail> {
     let tape = Tape::new(&requests.bytes, step);
-    let wanted = (text.bytes.as_slice(), text.number as u8);
+    let wanted = (text.bytes.as_slice(), text.number);
     let right = replies(alloc, script, tape, wanted)?;
     assert!(rt; right, "{:?} in steps of {step}", requests.bytes);
     Ok(())
@@ -205,7 +205,7 @@ fn chunk_ends(rt: HostRuntime) -> Result<(), Fail> {
 
 /// How much of `MENDED_REPLIES` is written where the input ends after so many bytes
 /// of `MENDED`, and the status.
-fn cut_replies(len: usize) -> (usize, u8) {
+fn cut_replies(len: usize) -> (usize, usize) {
     match len {
         0 => (0, 0),
         1..=12 => (0, 2),
@@ -355,6 +355,42 @@ const PIECES: &[u8] = br##"
  "case x in y) z;; esac\n", "\\\n", "}", "")
 "##;
 
+/// Makes an edit in a session, and tells whether it is then as one that is opened on these bytes.
+fn edits_alike(
+    alloc: Global,
+    session: &mut Session,
+    (start, end): (usize, usize),
+    new: &[u8],
+    made: &[u8],
+) -> Result<bool, Fail> {
+    session.edit(start, end, new)?;
+    alike(session, &opened(alloc, made)?)
+}
+
+/// Puts new bytes at a random place of a script, in the place of five at most, and takes them back now and
+/// then. Tells whether the session was as one opened anew each time.
+fn random_edit(
+    alloc: Global,
+    session: &mut Session,
+    bytes: &mut Vec<u8>,
+    new: &[u8],
+    dice: &mut Dice,
+) -> Result<bool, Fail> {
+    let start = dice.below(bytes.len().saturating_add(1));
+    let end = start.saturating_add(dice.below(6)).min(bytes.len());
+    let made = spliced(alloc, bytes, start, end, new)?;
+    if !edits_alike(alloc, session, (start, end), new, &made)? {
+        return Ok(false);
+    }
+    if dice.below(3) != 0 && made.len() <= 120 {
+        *bytes = made;
+        return Ok(true);
+    }
+    let old = Vec::from_slice(alloc, bytes.get(start..end).unwrap_or(b""))?;
+    let place = (start, start.saturating_add(new.len()));
+    edits_alike(alloc, session, place, &old, bytes)
+}
+
 #[test]
 fn random_edits(rt: HostRuntime) -> Result<(), Fail> {
     let alloc = rt.alloc();
@@ -364,25 +400,9 @@ fn random_edits(rt: HostRuntime) -> Result<(), Fail> {
     let mut bytes = Vec::from_slice(alloc, FUNCTION)?;
     let mut session = opened(alloc, &bytes)?;
     for turn in 0..1_000 {
-        let a = dice.below(bytes.len().saturating_add(1));
-        let b = a.saturating_add(dice.below(6)).min(bytes.len());
         let new = picked(&pieces, &mut dice);
-        let made = spliced(alloc, &bytes, a, b, new)?;
-        session.edit(a, b, new)?;
-        assert!(rt;
-            alike(&session, &opened(alloc, &made)?)?,
-            "seed {seed}, turn {turn}"
-        );
-        if dice.below(3) == 0 || made.len() > 120 {
-            let old = Vec::from_slice(alloc, bytes.get(a..b).unwrap_or(b""))?;
-            session.edit(a, a.saturating_add(new.len()), &old)?;
-            assert!(rt;
-                alike(&session, &opened(alloc, &bytes)?)?,
-                "seed {seed}, turn {turn} undone"
-            );
-        } else {
-            bytes = made;
-        }
+        let right = random_edit(alloc, &mut session, &mut bytes, new, &mut dice)?;
+        assert!(rt; right, "seed {seed}, turn {turn}");
     }
     Ok(())
 }

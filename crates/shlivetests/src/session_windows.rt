@@ -179,6 +179,38 @@ fn is_over(dice: &mut Dice, session: &Session) -> bool {
     session.script_len() > 400 || (session.status() == 1 && dice.below(3) == 0)
 }
 
+/// Has the script be the first one again, now and then. Tells whether that was right.
+fn starts_over(
+    alloc: Global,
+    session: &mut Session,
+    bytes: &mut Vec<u8>,
+    dice: &mut Dice,
+) -> Result<bool, Fail> {
+    if !is_over(dice, session) {
+        return Ok(true);
+    }
+    let anew = part(0, bytes.len(), SCRIPT);
+    is_right(alloc, session, bytes, &[anew], 7)
+}
+
+/// Makes a random edit, which may be undone. Tells whether all was right.
+fn random_edit(
+    alloc: Global,
+    session: &mut Session,
+    bytes: &mut Vec<u8>,
+    pieces: &[Cell],
+    dice: &mut Dice,
+) -> Result<bool, Fail> {
+    let edit = thrown(pieces, dice, bytes.len());
+    let old = Vec::from_slice(alloc, bytes.get(edit.a..edit.b).unwrap_or(b""))?;
+    let right = is_right(alloc, session, bytes, &[edit], 7)?;
+    if !right || !is_undone(dice, session) {
+        return Ok(right);
+    }
+    let undone = part(edit.a, edit.a.saturating_add(edit.bytes.len()), &old);
+    is_right(alloc, session, bytes, &[undone], 7)
+}
+
 #[test]
 fn random_edits(rt: HostRuntime) -> Result<(), Fail> {
     let alloc = rt.alloc();
@@ -188,22 +220,33 @@ fn random_edits(rt: HostRuntime) -> Result<(), Fail> {
     let mut bytes = Vec::from_slice(alloc, SCRIPT)?;
     let mut session = opened(alloc, &bytes)?;
     for turn in 0..1_000 {
-        let edit = thrown(&pieces, &mut dice, bytes.len());
-        let old = Vec::from_slice(alloc, bytes.get(edit.a..edit.b).unwrap_or(b""))?;
-        let right = is_right(alloc, &mut session, &mut bytes, &[edit], 7)?;
+        let right = random_edit(alloc, &mut session, &mut bytes, &pieces, &mut dice)?
+            && starts_over(alloc, &mut session, &mut bytes, &mut dice)?;
         assert!(rt; right, "seed {seed}, turn {turn}");
-        if is_undone(&mut dice, &session) {
-            let undone = part(edit.a, edit.a.saturating_add(edit.bytes.len()), &old);
-            let right = is_right(alloc, &mut session, &mut bytes, &[undone], 7)?;
-            assert!(rt; right, "seed {seed}, turn {turn} undone");
-        }
-        if is_over(&mut dice, &session) {
-            let anew = part(0, bytes.len(), SCRIPT);
-            let right = is_right(alloc, &mut session, &mut bytes, &[anew], 7)?;
-            assert!(rt; right, "seed {seed}, turn {turn} anew");
-        }
     }
     Ok(())
+}
+
+/// Where the first of so many random edits may begin, and how far each may be from the one before it: near to
+/// it, or all over the bytes.
+fn spread(dice: &mut Dice, len: usize, count: usize) -> (usize, usize) {
+    match dice.below(2) {
+        0 => (0, len / count.max(1)),
+        _ => (dice.below(len.saturating_add(1)), 8),
+    }
+}
+
+/// A random edit of the bytes from here on, as far on as that at most.
+fn thrown_from<'a>(
+    pieces: &'a [Cell],
+    dice: &mut Dice,
+    (at, most): (usize, usize),
+    len: usize,
+) -> Splice<'a> {
+    let edit = thrown(pieces, dice, most);
+    let a = at.saturating_add(edit.a).min(len);
+    let b = at.saturating_add(edit.b).min(len);
+    part(a, b, edit.bytes)
 }
 
 /// Random edits that rise, five at most: near to each other, or all over the bytes.
@@ -214,17 +257,12 @@ fn thrown_together<'a>(
     len: usize,
 ) -> Result<Vec<Splice<'a>>, AllocError> {
     let count = dice.below(5).saturating_add(1);
-    let (mut at, most) = match dice.below(2) {
-        0 => (0, len / count.max(1)),
-        _ => (dice.below(len.saturating_add(1)), 8),
-    };
+    let (mut at, most) = spread(dice, len, count);
     let mut splices = Vec::new(alloc);
     for _ in 0..count {
-        let edit = thrown(pieces, dice, most);
-        let a = at.saturating_add(edit.a).min(len);
-        let b = at.saturating_add(edit.b).min(len);
-        splices.push(part(a, b, edit.bytes))?;
-        at = b;
+        let edit = thrown_from(pieces, dice, (at, most), len);
+        at = edit.b;
+        splices.push(edit)?;
     }
     Ok(splices)
 }
@@ -247,6 +285,24 @@ fn undoing<'a>(
     Ok(undone)
 }
 
+/// Makes random edits together, which may be undone together. Tells whether all was right.
+fn random_batch(
+    alloc: Global,
+    session: &mut Session,
+    bytes: &mut Vec<u8>,
+    pieces: &[Cell],
+    dice: &mut Dice,
+) -> Result<bool, Fail> {
+    let splices = thrown_together(alloc, pieces, dice, bytes.len())?;
+    let old = Vec::from_slice(alloc, bytes)?;
+    let right = is_right(alloc, session, bytes, &splices, 7)?;
+    if !right || !is_undone(dice, session) {
+        return Ok(right);
+    }
+    let undone = undoing(alloc, &old, &splices)?;
+    Ok(is_right(alloc, session, bytes, &undone, 7)? && *bytes == old)
+}
+
 #[test]
 fn random_batches(rt: HostRuntime) -> Result<(), Fail> {
     let alloc = rt.alloc();
@@ -256,20 +312,9 @@ fn random_batches(rt: HostRuntime) -> Result<(), Fail> {
     let mut bytes = Vec::from_slice(alloc, SCRIPT)?;
     let mut session = opened(alloc, &bytes)?;
     for turn in 0..2_000 {
-        let splices = thrown_together(alloc, &pieces, &mut dice, bytes.len())?;
-        let old = Vec::from_slice(alloc, &bytes)?;
-        let right = is_right(alloc, &mut session, &mut bytes, &splices, 7)?;
+        let right = random_batch(alloc, &mut session, &mut bytes, &pieces, &mut dice)?
+            && starts_over(alloc, &mut session, &mut bytes, &mut dice)?;
         assert!(rt; right, "seed {seed}, turn {turn}");
-        if is_undone(&mut dice, &session) {
-            let undone = undoing(alloc, &old, &splices)?;
-            let right = is_right(alloc, &mut session, &mut bytes, &undone, 7)?;
-            assert!(rt; right && bytes == old, "seed {seed}, turn {turn} undone");
-        }
-        if is_over(&mut dice, &session) {
-            let anew = part(0, bytes.len(), SCRIPT);
-            let right = is_right(alloc, &mut session, &mut bytes, &[anew], 7)?;
-            assert!(rt; right, "seed {seed}, turn {turn} anew");
-        }
     }
     Ok(())
 }
@@ -290,23 +335,26 @@ fn thrown_after<'a>(pieces: &'a [Cell], dice: &mut Dice, len: usize) -> Splice<'
     part(a, b, edit.bytes)
 }
 
-/// Edits where a chunk ends and the next one begins.
+/// Makes some edits where a chunk ends and the next one begins. Tells whether all were right.
+fn edits_over_chunks(alloc: Global, pieces: &[Cell], dice: &mut Dice) -> Result<bool, Fail> {
+    let mut bytes = after_newlines(alloc, dice)?;
+    let mut session = opened(alloc, &bytes)?;
+    let mut right = true;
+    for _ in 0..3 {
+        let edit = thrown_after(pieces, dice, bytes.len());
+        right = right && is_right(alloc, &mut session, &mut bytes, &[edit], 97)?;
+    }
+    Ok(right)
+}
+
 #[test]
 fn over_chunks(rt: HostRuntime) -> Result<(), Fail> {
-    let alloc = rt.alloc();
-    let pieces = pieces(alloc)?;
+    let pieces = pieces(rt.alloc())?;
     let seed = 20_261_129;
     let mut dice = Dice(seed);
     for turn in 0..200 {
-        let mut bytes = after_newlines(alloc, &mut dice)?;
-        let mut session = opened(alloc, &bytes)?;
-        for _ in 0..3 {
-            let edit = thrown_after(&pieces, &mut dice, bytes.len());
-            assert!(rt;
-                is_right(alloc, &mut session, &mut bytes, &[edit], 97)?,
-                "seed {seed}, turn {turn}"
-            );
-        }
+        let right = edits_over_chunks(rt.alloc(), &pieces, &mut dice)?;
+        assert!(rt; right, "seed {seed}, turn {turn}");
     }
     Ok(())
 }
@@ -331,6 +379,22 @@ fn lines(alloc: Global, pieces: &[Cell], dice: &mut Dice) -> Result<Vec<u8>, Fai
     Ok(bytes)
 }
 
+/// Puts in lines at a random place, in the place of some thousands of bytes at times. Tells whether that was
+/// right.
+fn edits_lines(
+    alloc: Global,
+    session: &mut Session,
+    bytes: &mut Vec<u8>,
+    pieces: &[Cell],
+    dice: &mut Dice,
+) -> Result<bool, Fail> {
+    let a = dice.below(bytes.len().saturating_add(1));
+    let most = if dice.below(2) == 0 { 12_000 } else { 9 };
+    let b = a.saturating_add(dice.below(most)).min(bytes.len());
+    let new = lines(alloc, pieces, dice)?;
+    is_right(alloc, session, bytes, &[part(a, b, &new)], 997)
+}
+
 #[test]
 fn many_lines(rt: HostRuntime) -> Result<(), Fail> {
     let alloc = rt.alloc();
@@ -340,14 +404,8 @@ fn many_lines(rt: HostRuntime) -> Result<(), Fail> {
     let mut bytes = long(alloc)?;
     let mut session = opened(alloc, &bytes)?;
     for turn in 0..8 {
-        let a = dice.below(bytes.len().saturating_add(1));
-        let most = if dice.below(2) == 0 { 12_000 } else { 9 };
-        let b = a.saturating_add(dice.below(most)).min(bytes.len());
-        let new = lines(alloc, &pieces, &mut dice)?;
-        assert!(rt;
-            is_right(alloc, &mut session, &mut bytes, &[part(a, b, &new)], 997)?,
-            "seed {seed}, turn {turn}"
-        );
+        let right = edits_lines(alloc, &mut session, &mut bytes, &pieces, &mut dice)?;
+        assert!(rt; right, "seed {seed}, turn {turn}");
     }
     Ok(())
 }
