@@ -88,6 +88,8 @@ const ROWS: &[u8] = br#"
 ("", "hello\nedit 0 0 5\nab", "no request\n" 2)
 ("f() { echo $(a | b); }\n", "outline\nat 17\nat 23\n",
  "outline 7\n0 22 function f\n4 22 brace\n6 19 simple\n11 19 subst\n13 18 pipeline\n13 14 simple\n17 18 simple\nat 8\n0 22 function f\n4 22 brace\n6 19 simple\n11 19 word\n11 19 subst\n13 18 pipeline\n17 18 simple\n17 18 word\nat 0\n" 0)
+("for i in a; do b; done\n", "at 4\nedit 10 11 0\n\nfault\nedit 10 10 1\n;\noutline\nquit\n",
+ "at 2\n0 22 for i\n4 5 word\nok 22 1\nfault 17 1 18 11\nok 23 0\noutline 2\n0 22 for i\n15 16 simple\n" 0)
 ("'", "print\noutline\nat 0\nquit\nprint\n", "none\noutline 0\nat 0\n" 1)
 ("a\n", "quit", "" 2) ("a\n", "edit 0 0 1\nxy", "" 2)
 ("a\n", "edit 0 1 0\n\n\nfault\n", "ok 1 0\nno request\nnone\n" 0)
@@ -117,7 +119,7 @@ fn judge(
 #[test]
 fn rows(rt: HostRuntime) -> Result<(), Fail> {
     let alloc = rt.alloc();
-    for row in &counted(alloc, ROWS, 16)? {
+    for row in &counted(alloc, ROWS, 17)? {
         let [script, requests, text] = cells::<3>(row)?;
         judge(&rt, alloc, &script.bytes, (requests, text), 1)?;
         judge(&rt, alloc, &script.bytes, (requests, text), 2)?;
