@@ -20,7 +20,7 @@ pub(crate) fn all_rows(alloc: Global) -> Result<Vec<Vec<Cell>>, Fail> {
     for table in [LINES, REDIRECTIONS, COMPOUNDS, LISTS, WORDS, SCRIPTS] {
         all.append(&mut rows(alloc, table)?)?;
     }
-    if all.len() != 1_403 {
+    if all.len() != 1_400 {
         return Err(Fail::from("another number of rows"));
     }
     Ok(all)

@@ -55,7 +55,6 @@ pub(crate) const COMPOUNDS: &[u8] = br###"
 ("((a))", "(0-5 (1-4 [2-3]))")
 ("( ( a ) )", "(0-9 (2-7 [4-5]))")
 ("{ { a;}\n}", "{0-9 {2-7 [4-5]}}")
-("{ (a) }", "{0-7 (2-5 [3-4])}")
 ("({ a;})", "(0-7 {1-6 [3-4]})")
 ("{ a\n\n b\n}", "{0-9 [2-3] ~[6-7]}")
 ("{ a;}\n(b)", "{0-5 [2-3]} (6-9 [7-8])")
@@ -174,7 +173,6 @@ pub(crate) const COMPOUNDS: &[u8] = br###"
 ("for a; #b\n#c\ndo d;done", "<0-22 for 4-5 do #7-9 #10-12 [16-17]>")
 ("for a #b\n\n# c\nin d #e\n\n#f\ndo #g\nh;done",
     "<0-38 for 4-5 in 17-18 do #6-8 #10-13 #19-21 #23-25 #29-31 [32-33]>")
-("for a in b #c\ndo d;done", "<0-23 for 4-5 in 9-10 do #11-13 [17-18]>")
 ("for a in b;#c\ndo d;done", "for a in b #c\ndo d;done", "<0-23 for 4-5 in 9-10 do #11-13 [17-18]>")
 ("for a in # b \ndo c;done", "<0-23 for 4-5 in do #9-12 [17-18]>")
 // the first entry read after `do` is not blank, others are as they stand

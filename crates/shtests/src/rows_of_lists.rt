@@ -62,7 +62,6 @@ pub(crate) const LISTS: &[u8] = br###"
 ("(a}", "fault 12 at 3")
 ("(a;}", "(a;fi", "fault 11 at 3")
 ("{ a;;}", "fault 11 at 3")
-("(a;;)", "fault 11 at 2")
 ("{ a; ;}", "fault 11 at 5")
 ("{ a\n;}", "fault 11 at 4")
 ("{ #a\n}", "fault 11 at 5")

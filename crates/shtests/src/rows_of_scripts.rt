@@ -15,7 +15,7 @@ pub(crate) const SCRIPTS: &[u8] = br###"
 // a fault of each kind, in a script of one line
 ("in\n", ";a\n", "fault 11 at 0")
 ("! a\n", "!0-1[2-3]")
-("\t}\n", "a;;", "fault 11 at 1")
+("\t}\n", "fault 11 at 1")
 ("a & ; b\n", "fault 11 at 4")
 ("a ;; b\n", "fault 11 at 2")
 ("a 12<b", "[0-1 2-4<4-5:5-6]")
