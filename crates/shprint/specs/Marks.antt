@@ -1,6 +1,7 @@
 -- What is printed, from left to right.
 use Rattle.std.specs.Prelude.{◌==◌, ◌++◌, [], ◌∷◌, List as Row, codes, if◌then◌else◌}
 use Rattle.std.proofs.Math.ListN.{replicate}
+use Rattle.shgrammar.specs.Characters.{space}
 use Rattle.shast.specs.Shape.{Text}
 use Rattle.shprint.specs.declared.layout.Layout.{Layout}
 
@@ -37,7 +38,7 @@ laid ms = laid_after [] ms
 
 -- what stands for each level
 abbrev pub step : Layout → Text
-step y = if y.indent == 0 then codes "\t" else replicate y.indent 32
+step y = if y.indent == 0 then codes "\t" else replicate y.indent space
 
 -- a margin, with which a line begins, one level deeper
 abbrev pub deeper : Layout → Text → Text

@@ -6,7 +6,7 @@ use Rattle.shast.specs.declared.tree.RedirectOperator.TheVariants as redirects
 use Rattle.shast.specs.Tree.{AHereOf, AJoinOf, EntriesOf, no_entry, more_entries, AnEntryOf, entry, AContentOf, command, remark, AnAndOrOf, and_or, AndOrPartsOf, no_and_or, more_and_or, APipelineOf, pipeline, PipelinePartsOf, no_pipe, more_pipes, ACommandOf, simple, compound, function, ACompoundOf, formed, AFormOf, brace, subshell, if_then, while_do, until_do, for_in, case_in, ABranchOf, branch, BranchesOf, no_branch, more_branches, OtherwiseOf, no_else, otherwise, ForWordsOf, no_in, in_words, CaseItemsOf, no_case, more_cases, ACaseItemOf, case_item, PatternsOf, no_pattern, more_patterns, ItemsOf, no_item, more_items, AnItemOf, item, assign, argument, redirect, AWordOf, word}
 use Rattle.shast.specs.Shape.{Text, Shape}
 use Rattle.shast.specs.Spelling.{and_or_text, redirect_text}
-use Rattle.shgrammar.specs.Characters.{hyphen}
+use Rattle.shgrammar.specs.Characters.{hyphen, newline_char}
 use Rattle.shgrammar.specs.HereDocuments.{ADelimiter, delimiter_of}
 use Rattle.shprint.specs.declared.layout.Layout.{Layout}
 use Rattle.shprint.specs.Marks.{text, line_end, document, Marks, laid, deeper, one, lines_between}
@@ -86,7 +86,7 @@ print_operator y operator (word t substs) =
 -- the line of a delimiter
 abbrev pub delimiter_line : Option ADelimiter → Text
 delimiter_line None = []
-delimiter_line (Some d) = d.text ++ 10 ∷ []
+delimiter_line (Some d) = d.text ++ newline_char ∷ []
 
 -- the bytes of a body as they stand, and the line of the delimiter that the word is
 abbrev pub print_here : Shape AWordOf → Option (AHereOf Text) → Marks
