@@ -8,6 +8,7 @@ use Rattle.shast.specs.Opened.{item_content_bodies, item_bodies, items_bodies, e
 module _ {T M : Type 0} where
   -- ---- a row of parts and another
 
+  -- for each kind of part: the bodies of two rows are those of the first and then those of the second
   pub entries_append : (xs ys : Row (AnEntryOf T M)) (ts : Row T) →
       entries_bodies (entries_of (xs ++ ys)) ts ≡ entries_bodies (entries_of xs) (entries_bodies (entries_of ys) ts)
   unfolding entries_bodies
@@ -49,6 +50,7 @@ module _ {T M : Type 0} where
 
   -- ---- the bodies of a part stand before what follows
 
+  -- for each kind of part: before ts and us it has the bodies that it has before ts, and then us
   pub item_content_before : (c : AnItemContentOf T M) (ts us : Row T) →
       item_content_bodies c (ts ++ us) ≡ item_content_bodies c ts ++ us
   unfolding item_content_bodies

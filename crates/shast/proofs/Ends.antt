@@ -11,17 +11,21 @@ use Rattle.shast.proofs.Seen.{entry_seen}
 abbrev pub end_up_to : ℕ → Row Entry → ℕ → ℕ
 end_up_to before xs i = commands_end before (entries_of (map view_entry (take i xs)))
 
+-- where an entry ends, after what ends before it
 abbrev entry_end : ℕ → AnEntry → ℕ
 entry_end before (entry what background blank comment) = command_end before what
 
+-- past the first entry, the others end as they do after that one's end
 entry_first : (before i : ℕ) (x : Entry) (xs : Row Entry) →
     end_up_to before (x ∷ xs) (suc i) ≡ end_up_to (entry_end before (view_entry x)) xs i
 entry_first before i x xs = rw (entry_seen x) refl
 
+-- an entry of the code ends where what it is ends
 entry_is : (before : ℕ) (x : Entry) →
     entry_end before (view_entry x) ≡ command_end before (view_content (out-Entry x).what)
 entry_is before x = rw (entry_seen x) refl
 
+-- with the entry at an index, they end where that one does
 end_suc : (before : ℕ) (xs : Row Entry) (i : ℕ) (d : Entry) → i < length xs →
     end_up_to before xs (suc i) ≡ command_end (end_up_to before xs i) (view_content (out-Entry (get_or xs i d)).what)
 end_suc before [] i d h = absurd (omega arith)

@@ -6,6 +6,7 @@ use Rattle.shast.specs.Bodies.{fill_item_content, fill_item, fill_items, fill_en
 use Rattle.shast.specs.Opened.{open_item_content, open_item, open_items, opened, open_entry, open_content, open_and_or, open_and_or_parts, open_pipeline, open_pipes, open_command, open_compound, open_form, open_branch, open_branches, open_else, open_cases, open_case, item_content_bodies, item_bodies, items_bodies, entries_bodies, entry_bodies, content_bodies, and_or_bodies, and_or_parts_bodies, pipeline_bodies, pipes_bodies, command_bodies, compound_bodies, form_bodies, branch_bodies, branches_bodies, else_bodies, cases_bodies, case_bodies, bodies_of}
 
 module _ {T M : Type 0} (nothing : T) where
+  -- for each kind of part: opened and filled with its bodies it is what it was, and those after them are left
   item_content_back : (c : AnItemContentOf T M) (ts : Row T) →
       fill_item_content (open_item_content nothing c) (item_content_bodies c ts) ≡ (c, ts)
   unfolding fill_item_content open_item_content item_content_bodies
@@ -110,6 +111,7 @@ module _ {T M : Type 0} (nothing : T) where
     case_back : (c : ACaseItemOf T M) (ts : Row T) → fill_case (open_case nothing c) (case_bodies c ts) ≡ (c, ts)
     case_back (case_item comments patterns body mark) ts = rw (entries_back body ts) refl
 
+  -- so a list that is opened and filled is what it was
   fill_back : (es : EntriesOf T M) → (fill_entries (opened nothing es) (bodies_of es)).0 ≡ es
   fill_back es = ap (λ (r : EntriesOf T M × Row T). r.0) (entries_back es [])
 

@@ -6,6 +6,7 @@ use Rattle.shast.specs.Bodies.{fill_item_content, fill_item, fill_items, fill_en
 use Rattle.shast.specs.Opened.{open_item_content, open_item, open_items, opened, open_entry, open_content, open_and_or, open_and_or_parts, open_pipeline, open_pipes, open_command, open_compound, open_form, open_branch, open_branches, open_else, open_cases, open_case}
 
 module _ {T M : Type 0} (nothing : T) where
+  -- for each kind of part: opened once it was filled, it is what it is when it is opened
   item_content_blind : (c : AnItemContentOf T M) (ts : Row T) →
       open_item_content nothing (fill_item_content c ts).0 ≡ open_item_content nothing c
   unfolding fill_item_content open_item_content
@@ -105,6 +106,7 @@ module _ {T M : Type 0} (nothing : T) where
     case_blind : (c : ACaseItemOf T M) (ts : Row T) → open_case nothing (fill_case c ts).0 ≡ open_case nothing c
     case_blind (case_item comments patterns body mark) ts = rw (entries_blind body ts) refl
 
+  -- and so is a list
   pub filled_blind : (ts : Row T) (es : EntriesOf T M) → opened nothing (filled ts es) ≡ opened nothing es
   unfolding filled
   filled_blind [] es = refl

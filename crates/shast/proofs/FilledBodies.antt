@@ -13,6 +13,7 @@ module _ {T : Type 0} where
   replaced (t ∷ ts) [] = []
   replaced (t ∷ ts) (u ∷ us) = t ∷ replaced ts us
 
+  -- by as many all are replaced, of none none is, and there are as many as before
   replaced_all : (ts us : Row T) → length ts ≡ length us → replaced ts us ≡ ts
   unfolding replaced
   replaced_all [] [] h = refl
@@ -32,6 +33,7 @@ module _ {T : Type 0} where
   same_length (t ∷ ts) (u ∷ us) = rw (same_length ts us) refl
 
 module _ {T M : Type 0} where
+  -- for each kind of part: filled, it has its bodies, the first of them replaced by those put in
   item_content_kept : (c : AnItemContentOf T M) (ts us : Row T) →
       item_content_bodies (fill_item_content c ts).0 (replaced (fill_item_content c ts).1 us)
       ≡ replaced ts (item_content_bodies c us)
@@ -148,6 +150,7 @@ module _ {T M : Type 0} where
         case_bodies (fill_case c ts).0 (replaced (fill_case c ts).1 us) ≡ replaced ts (case_bodies c us)
     case_kept (case_item comments patterns body mark) ts us = entries_kept body ts us
 
+  -- a filled list has the bodies of the list, the first of them replaced by those put in
   bodies_kept : (ts : Row T) (es : EntriesOf T M) → bodies_of (filled ts es) ≡ replaced ts (bodies_of es)
   bodies_kept ts es = rw (filled_is ts es, ← entries_kept es ts [], none_replaced (fill_entries es ts).1) refl
 

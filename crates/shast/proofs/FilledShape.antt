@@ -12,6 +12,7 @@ module _ (B : List ℕ) where
   abbrev pub texts : Row Span → Row (List ℕ)
   texts bs = map (text_at B) bs
 
+  -- for each kind of part: the shape of it filled is its shape, filled with the texts
   item_content_fill : (c : AnItemContent) (bs : Row Span) →
       fill_item_content (shape_of_item_content B c) (texts bs)
       ≡ (shape_of_item_content B (fill_item_content c bs).0, texts (fill_item_content c bs).1)
@@ -136,6 +137,7 @@ module _ (B : List ℕ) where
   shape_filled [] es = refl
   shape_filled (b ∷ bs) es = ap (λ (r : Shape EntriesOf × Row (List ℕ)). r.0) (sym (entries_fill es (b ∷ bs)))
 
+  -- for each kind of part: the shape of it open is its shape, open
   item_content_open : (nothing : Span) (c : AnItemContent) →
       shape_of_item_content B (open_item_content nothing c)
       ≡ open_item_content (text_at B nothing) (shape_of_item_content B c)
@@ -243,6 +245,7 @@ module _ (B : List ℕ) where
       shape_of B (opened nothing es) ≡ opened (text_at B nothing) (shape_of B es)
   shape_open nothing es = entries_open nothing es
 
+  -- for each kind of part: the bodies of its shape are the texts of its bodies
   item_content_texts : (c : AnItemContent) (bs : Row Span) →
       item_content_bodies (shape_of_item_content B c) (texts bs) ≡ texts (item_content_bodies c bs)
   unfolding item_content_bodies

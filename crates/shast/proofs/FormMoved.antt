@@ -9,6 +9,7 @@ use Rattle.shast.specs.Nodes.{placed_span}
 module _ (f h : Span → Span) where
   -- ---- what stands first in a row, and whether a list holds a command
 
+  -- each of these is the same with every span changed
   same_first : (es : Entries) → first_not_blank (carried f h true es) ≡ first_not_blank es
   same_first no_entry = refl
   same_first (more_entries (entry what background blank comment) es) = refl
@@ -38,6 +39,7 @@ module _ (f h : Span → Span) where
   -- ---- each part
 
   mutual
+    -- each kind of part is in normal form with every span changed where it is without that
     same_all : (es : Entries) → are_normal (carried f h true es) ≡ are_normal es
     same_all no_entry = refl
     same_all (more_entries e es) = rw (same_entry e, same_all es) refl

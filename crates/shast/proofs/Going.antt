@@ -26,6 +26,7 @@ module _ {A : Type 0} (f : A → Row Span → A × Row Span) where
   going_end (x ∷ xs) (suc i) bs h = ap (λ (r : Row A × Row Span). (x ∷ r.0, r.1)) (going_end xs i bs (omega arith))
 
   module _ {X : Type 0} (v : X → A) where
+    -- with the node at an index done, those from the next index on are left to do
     going_suc : (xs : Row X) (i : ℕ) (x y : X) (bs cs : Row Span) → i < length xs → (v y, cs) ≡ f (v (get_or xs i x)) bs
         → going (map v (set xs i y)) (suc i) cs ≡ going (map v xs) i bs
     unfolding going
@@ -49,6 +50,7 @@ going_over f v xs i bs h =
 
 -- ---- the walks of the definitions, as rows
 
+-- each kind of row is filled as going over it from its first part on does
 pub items_going : (is : Row AnItem) (bs : Row Span) → let r = going fill_item is 0 bs in
     fill_items (items_of is) bs ≡ (items_of r.0, r.1)
 unfolding going fill_items
@@ -92,6 +94,7 @@ cases_going (c ∷ cs) bs = rw (cases_going cs (fill_case c bs).1) refl
 
 -- ---- the two cases of filling a list, and a row of entries
 
+-- with no body a row stays as it is, and with some it is filled from its first entry on
 pub row_none : (bs : Row Span) (es : Row AnEntry) → length bs ≡ 0 → filled_row bs es ≡ es
 unfolding filled_row
 row_none [] es none = refl
@@ -102,6 +105,7 @@ unfolding filled_row
 row_some [] es some = absurd (omega arith)
 row_some (b ∷ bs) es some = refl
 
+-- the list of a row is filled as the row is
 list_by_row : (es : Row AnEntry) (bs : Row Span) →
     fill_entries (entries_of es) bs ≡ (entries_of (fill_row es bs).0, (fill_row es bs).1)
 unfolding fill_entries fill_row
@@ -114,6 +118,7 @@ unfolding filled filled_row
 row_filled [] es = refl
 row_filled (b ∷ bs) es = ap (λ (r : Entries × Row Span). r.0) (sym (list_by_row es (b ∷ bs)))
 
+-- with no body a list stays as it is, and with some it is filled from its first entry on
 pub filled_none : (bs : Row Span) (es : Entries) → length bs ≡ 0 → filled bs es ≡ es
 unfolding filled
 filled_none [] es none = refl
@@ -126,5 +131,6 @@ filled_some (b ∷ bs) es some = refl
 
 -- ---- an entry after the last body
 
+-- it stays as it is
 pub none_left : (e : AnEntry) (bs : Row Span) (n : ℕ) → length bs ≤ n → fill_entry e (drop n bs) ≡ (e, drop n bs)
 none_left e bs n over = rw (drop_all n bs over) (entry_none e)

@@ -13,6 +13,7 @@ use Rattle.shast.specs.Nodes.{and_or_node, and_or_span, node, pipeline_node, pip
 use Rattle.shast.specs.View.{view_and_or, view_and_or_part, view_command, view_pipeline, view_pipeline_part}
 use Rattle.shast.proofs.Seen.{and_or_seen, pipeline_seen}
 
+-- an and-or list of one pipeline is no node
 one_pipeline : (p : APipeline) (xs : Row AndOrPart) → length xs ≡ 0 →
     and_or_node (and_or p (and_or_parts_of (map view_and_or_part xs))) ≡ []
 one_pipeline p [] h = refl
@@ -21,6 +22,7 @@ one_pipeline p (x ∷ xs) h = absurd (omega arith)
 pub and_or_alone : (a : AndOr) → length (out-AndOr a).rest.items ≡ 0 → and_or_node (view_and_or a) ≡ []
 and_or_alone a h = rw (and_or_seen a) (one_pipeline (view_pipeline (out-AndOr a).first) (out-AndOr a).rest.items h)
 
+-- one of more pipelines is a node, where it stands
 pipelines : (p : APipeline) (xs : Row AndOrPart) → 0 < length xs
     → let a = and_or p (and_or_parts_of (map view_and_or_part xs)) in
     and_or_node a ≡ node NodeKind.AndOr (and_or_span a) ∷ []
@@ -31,6 +33,7 @@ pub and_or_joined : (a : AndOr) → 0 < length (out-AndOr a).rest.items →
     and_or_node (view_and_or a) ≡ node NodeKind.AndOr (and_or_span (view_and_or a)) ∷ []
 and_or_joined a h = rw (and_or_seen a) (pipelines (view_pipeline (out-AndOr a).first) (out-AndOr a).rest.items h)
 
+-- a pipeline of one command and without `!` is no node
 one_command : (bang : Option Span) (c : ACommand) (xs : Row PipelinePart) → bang ≡ None → length xs ≡ 0
     → pipeline_node (pipeline bang c (pipeline_parts_of (map view_pipeline_part xs))) ≡ []
 one_command None c [] none h = refl
@@ -42,6 +45,7 @@ pub pipeline_alone : (p : Pipeline) → (out-Pipeline p).bang ≡ None → lengt
 pipeline_alone p none h = rw (pipeline_seen p)
     (one_command (out-Pipeline p).bang (view_command (out-Pipeline p).first) (out-Pipeline p).rest.items none h)
 
+-- one with `!` or with more commands is a node, where it stands
 commands : (bang : Option Span) (c : ACommand) (xs : Row PipelinePart) → (is_some bang ≡ true) ⊎ (0 < length xs)
     → let p = pipeline bang c (pipeline_parts_of (map view_pipeline_part xs)) in
     pipeline_node p ≡ node NodeKind.Pipeline (pipeline_span p) ∷ []

@@ -16,6 +16,7 @@ module _ {A X : Type 0} (f : A → Span) (v : X → A) where
   last_span before [] = before
   last_span before (x ∷ xs) = last_span (f (v x)) xs
 
+  -- it is where the element at the greatest index stands
   at_last : (before : Span) (xs : Row X) (k : ℕ) (x : X) → suc k ≡ length xs → Some x ≡ slice_get xs k →
       last_span before xs ≡ f (v x)
   unfolding last_span
@@ -29,19 +30,23 @@ module _ {A X : Type 0} (f : A → Span) (v : X → A) where
   last_is before [] x e = absurd (cc)
   last_is before (y ∷ ys) x e = at_last before (y ∷ ys) (length (y ∷ ys) - 1) x (omega arith) e
 
+-- the last item of a list of items is the last of their row
 items_last : (before : Span) (xs : Row Item) →
     last_item before (items_of (map view_item xs)) ≡ last_span item_span view_item before xs
 unfolding last_span
 items_last before [] = refl
 items_last before (x ∷ xs) = items_last (item_span (view_item x)) xs
 
+-- so it stands where the last element of the vector does
 pub last_item_is : (before : Span) (xs : Row Item) (x : Item) → Some x ≡ slice_get xs (length xs - 1) →
     last_item before (items_of (map view_item xs)) ≡ item_span (view_item x)
 last_item_is before xs x e = rw (items_last before xs) (last_is item_span view_item before xs x e)
 
+-- an operand of an and-or list stands where its pipeline does
 abbrev part_span : AnAndOrPart → Span
 part_span p = pipeline_span p.pipeline
 
+-- the same two of the pipelines after the first one of an and-or list
 parts_last : (before : Span) (xs : Row AndOrPart) →
     last_pipeline before (and_or_parts_of (map view_and_or_part xs)) ≡ last_span part_span view_and_or_part before xs
 unfolding last_span
@@ -52,9 +57,11 @@ pub last_pipeline_is : (before : Span) (xs : Row AndOrPart) (x : AndOrPart) → 
     last_pipeline before (and_or_parts_of (map view_and_or_part xs)) ≡ pipeline_span (view_and_or_part x).pipeline
 last_pipeline_is before xs x e = rw (parts_last before xs) (last_is part_span view_and_or_part before xs x e)
 
+-- an operand of a pipeline stands where its command does
 abbrev pipe_span : APipelinePart → Span
 pipe_span p = command_span p.command
 
+-- the same two of the commands after the first one of a pipeline
 pipes_last : (before : Span) (xs : Row PipelinePart) →
     last_command before (pipeline_parts_of (map view_pipeline_part xs))
     ≡ last_span pipe_span view_pipeline_part before xs

@@ -15,6 +15,7 @@ use Rattle.shast.specs.Capped.{capped, capped_body, capped_by}
 
 module _ (f h g fb hb gb : Span → Span) (P : Span → Type 0) (Q : Items → Type 0) (is : (s : Span) → P s → f (h s) ≡ g s)
     (body_is : (s : Span) → P s → fb (hb s) ≡ gb s) where
+  -- for each kind of part: what f makes of what h makes of it is what g makes of it
   some_over : (c : Option Span) → OfSome P c → option_map f (option_map h c) ≡ option_map g c
   some_over None so = refl
   some_over (Some s) so = ap Some (is s so)
@@ -155,6 +156,7 @@ module _ (f h g fb hb gb : Span → Span) (P : Span → Type 0) (Q : Items → T
 -- ---- where f leaves each span as it is, and fb each body
 
 module _ (f fb : Span → Span) (is : (s : Span) → f s ≡ s) (body_is : (s : Span) → fb s ≡ s) where
+  -- for each kind of part: it stays as it is
   some_same : (c : Option Span) → option_map f c ≡ c
   some_same None = refl
   some_same (Some s) = ap Some (is s)
@@ -267,6 +269,7 @@ module _ (f fb : Span → Span) (is : (s : Span) → f s ≡ s) (body_is : (s : 
 -- ---- what holds of every span and of all items holds throughout
 
 module _ (P : Span → Type 0) (Q : Items → Type 0) (p : (s : Span) → P s) (q : (items : Items) → Q items) where
+  -- for each kind of part: P holds of each of its spans, and Q of the items of each simple command in it
   some_all : (c : Option Span) → OfSome P c
   some_all None = tt
   some_all (Some s) = p s
@@ -375,12 +378,14 @@ module _ (P : Span → Type 0) (Q : Items → Type 0) (p : (s : Span) → P s) (
 
 -- ---- lists at bases
 
+-- a body that was not read stays where it is, and one that was read moves as a span does
 body_unread : (base : ℕ) (s : Span) → s.«end» ≡ 0 → placed_body base s ≡ s
 body_unread base s is = ap (body_by base s) is
 
 body_read : (base : ℕ) (s : Span) (n : ℕ) → s.«end» ≡ suc n → placed_body base s ≡ placed_span base s
 body_read base s n is = ap (body_by base s) is
 
+-- at the base 0 a span stays where it is, and so do a body and a list
 span_still : (s : Span) → placed_span 0 s ≡ s
 span_still s =
     let one : 0 + s.start ≡ s.start = omega arith in
@@ -394,12 +399,14 @@ body_still s (suc n) is = body_read 0 s n is ∙ span_still s
 pub by_nothing : (es : Entries) → moved 0 es ≡ es
 by_nothing es = same (placed_span 0) (placed_body 0) (λ s. span_still s) (λ s. body_still s s.«end» refl) es
 
+-- nothing is asked of a span, and nothing of items
 abbrev always : Span → Type 0
 always s = Unit {0}
 
 abbrev any : Items → Type 0
 any items = Unit {0}
 
+-- a span that moves by a and then by b moves by a + b, and so do a body and a list
 span_twice : (a b : ℕ) (s : Span) → placed_span b (placed_span a s) ≡ placed_span (a + b) s
 span_twice a b s =
     let one : b + (a + s.start) ≡ a + b + s.start = omega arith in
@@ -423,6 +430,7 @@ by_both a b es =
 
 -- ---- where no offset goes beyond the greatest one
 
+-- a body that was not read stays where it is, and one that was read moves as a span does
 pub unread_stays : (base : ℕ) (s : Span) → s.«end» ≤ 0 → s ≡ capped_body base s
 unread_stays base s le =
     let is : s.«end» ≡ 0 = omega (arith, le) in
@@ -433,6 +441,7 @@ read_moves base s lt =
     let is : s.«end» ≡ suc (s.«end» - 1) = omega (arith, lt) in
     sym (ap (capped_by base s) is)
 
+-- there a span is where it is without a greatest offset, and so are a body and a list
 capped_is : (base : ℕ) (s : Span) → base ≤ 2 ^ 64 - 1 → IsSpanWithin (2 ^ 64 - 1 - base) s →
     capped base s ≡ placed_span base s
 capped_is base s fits so =

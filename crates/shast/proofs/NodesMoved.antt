@@ -13,10 +13,12 @@ use Rattle.shast.specs.Nodes.{IsSpanWithin, IsWithin, NodesWithin, and_or_node, 
 use Rattle.shast.specs.Moved.{carried, carried_and_or, carried_and_or_parts, carried_branch, carried_branches, carried_case, carried_cases, carried_command, carried_compound, carried_content, carried_else, carried_entry, carried_for_words, carried_form, carried_item, carried_items, carried_patterns, carried_pipeline, carried_pipes, carried_subst, carried_substs, carried_word, moved, placed_body}
 use Rattle.shast.specs.Everywhere.{HaveItems, IsSome, InEntry, InContent, InAndOr, InAndOrParts, InPipeline, InPipes, InCommand, InCompound, InForm, InBranch, InBranches, InElse, InForWords, InCases, InCase, InPatterns, InItems, InItem, InWord, InSubsts, InSubst, Throughout}
 
+-- nothing is asked of a span
 abbrev Always : Span → Type 0
 Always s = Unit {0}
 
 module _ (b : ℕ) where
+  -- a span and a body, at the base
   abbrev f : Span → Span
   f = placed_span b
 
@@ -25,6 +27,7 @@ module _ (b : ℕ) where
 
   -- ---- where a part stands
 
+  -- for each kind of part: at the base it stands where it did, moved by the base
   word_there : (w : AWord) → word_span (carried_word f fb true w) ≡ f (word_span w)
   word_there (word span substs) = refl
 
@@ -90,9 +93,11 @@ module _ (b : ℕ) where
 
   -- ---- nodes
 
+  -- nodes, at the base
   abbrev there : Row NodeLine → Row NodeLine
   there ns = map (placed b) ns
 
+  -- the nodes of comments, and each part that is a node itself, are the same nodes, moved
   comments_there : (cs : Row Span) → map comment_node (map f cs) ≡ there (map comment_node cs)
   comments_there [] = refl
   comments_there (c ∷ cs) = ap (λ r. comment_node (f c) ∷ r) (comments_there cs)
@@ -125,6 +130,7 @@ module _ (b : ℕ) where
   pipeline_node_there (pipeline (Some bang) first rest) so =
       ap (λ (s : Span). node NodeKind.Pipeline s ∷ []) (pipeline_there (pipeline (Some bang) first rest) so)
 
+  -- where two rows of nodes are moved, or three, or a node and a row, they are moved together
   two : (ms ns : Row NodeLine) (os qs : Row NodeLine) → os ≡ there ms → qs ≡ there ns → os ++ qs ≡ there (ms ++ ns)
   two ms ns os qs one other = rw (one, other) (sym (map-append (placed b) ms ns))
 
@@ -136,6 +142,7 @@ module _ (b : ℕ) where
   one_more m n ms ns one other = rw (one, other) refl
 
   mutual
+    -- for each kind of part: its nodes at the base are its nodes, moved
     entries_there : (es : Entries) → Throughout Always IsSome es →
         entries_nodes (carried f fb true es) ≡ there (entries_nodes es)
     entries_there no_entry so = refl
@@ -289,12 +296,14 @@ module _ (b : ℕ) where
     subst_there (subst entries span) so =
         one_more (node NodeKind.Subst (f span)) (node NodeKind.Subst span) _ _ refl (entries_there entries so.0)
 
+-- the nodes of a list at a base are its nodes, moved there
 pub nodes_moved : (base : ℕ) (es : Entries) → HaveItems es →
     entries_nodes (moved base es) ≡ map (placed base) (entries_nodes es)
 nodes_moved base es so = entries_there base es so
 
 -- ---- what is asked for
 
+-- what is moved by b and then by a is moved by b + a: a name, a node and nodes
 name_again : (a b : ℕ) (name : Option Span) →
     option_map (placed_span a) (option_map (placed_span b) name) ≡ option_map (placed_span (b + a)) name
 name_again a b None = refl
@@ -313,10 +322,12 @@ placed_again : (a b : ℕ) (ns : Row NodeLine) → map (placed a) (map (placed b
 placed_again a b [] = refl
 placed_again a b (n ∷ ns) = rw (placed_again a b ns) (ap (λ m. m ∷ map (placed (b + a)) ns) (one_again a b n))
 
+-- so a list that was moved has, in order, the nodes that it has at the sum of both bases
 nodes_of_moved : (more base : ℕ) (es : Entries) → HaveItems es →
     nodes_of more (moved base es) ≡ nodes_of (base + more) es
 nodes_of_moved more base es so = rw (nodes_moved base es so, placed_again more base (entries_nodes es)) refl
 
+-- and so it is of its outline, and of its nodes at an offset
 pub outline_moved : (base more : ℕ) (es : Entries) → HaveItems es →
     outline more (moved base es) ≡ outline (base + more) es
 outline_moved base more es so = ap (filter in_outline) (nodes_of_moved more base es so)
@@ -327,6 +338,7 @@ nodes_at_moved base more at es so = ap (filter (holds at)) (nodes_of_moved more 
 
 -- ---- a limit
 
+-- what is within a limit is within base + limit once it is moved: a name, a node, and a list
 name_up : (limit base : ℕ) (name : Option Span) → MatchOption name (Unit {0}) (IsSpanWithin limit) →
     MatchOption (option_map (placed_span base) name) (Unit {0}) (IsSpanWithin (base + limit))
 name_up limit base None so = tt

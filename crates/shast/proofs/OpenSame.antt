@@ -15,6 +15,7 @@ use Rattle.shast.proofs.FilledBlind.{filled_blind}
 -- ---- nodes
 
 module _ (nothing : Span) where
+  -- for each kind of part: open, it stands where it does with its bodies
   span_item : (i : AnItem) → item_span (open_item nothing i) ≡ item_span i
   unfolding open_item open_item_content
   span_item (item broken (assign w)) = refl
@@ -74,6 +75,7 @@ module _ (nothing : Span) where
         span_pipeline first,
       ) refl
 
+  -- and it ends where it does with them
   end_command : (c : AContent) (before other : ℕ) → before ≡ other →
       command_end before (open_content nothing c) ≡ command_end other c
   unfolding open_content
@@ -92,6 +94,7 @@ module _ (nothing : Span) where
   pub ends_open : (es : Entries) (before : ℕ) → commands_end before (opened nothing es) ≡ commands_end before es
   ends_open es before = end_entries es before before refl
 
+  -- open, an and-or list, a pipeline and a compound command are the nodes that they are with them
   node_and_or : (a : AnAndOr) → and_or_node (open_and_or nothing a) ≡ and_or_node a
   unfolding open_and_or open_and_or_parts
   node_and_or (and_or first no_and_or) = refl
@@ -123,6 +126,7 @@ module _ (nothing : Span) where
   node_form (for_in name words body) span = refl
   node_form (case_in w items tail) span = refl
 
+  -- for each kind of part: open, it has the nodes that it has with its bodies
   item_same : (i : AnItem) → item_nodes (open_item nothing i) ≡ item_nodes i
   unfolding open_item open_item_content
   item_same (item broken (assign (word span substs))) = refl
@@ -202,6 +206,7 @@ module _ (nothing : Span) where
     case_same : (c : ACaseItem) → case_nodes (open_case nothing c) ≡ case_nodes c
     case_same (case_item comments patterns body span) = rw (nodes_open body) refl
 
+-- to fill a list changes no node
 pub filled_nodes : (bs : Row Span) (es : Entries) → entries_nodes (filled bs es) ≡ entries_nodes es
 filled_nodes bs es =
     let nothing : Span = record { start = 0; «end» = 0 } in
@@ -211,6 +216,7 @@ filled_nodes bs es =
 pub filled_within : (limit : ℕ) (bs : Row Span) (es : Entries) → NodesWithin limit es → NodesWithin limit (filled bs es)
 filled_within limit bs es so = All-same (IsWithin limit) _ _ (filled_nodes bs es) so
 
+-- nor where the last and-or list ends
 pub filled_ends : (bs : Row Span) (es : Entries) (before : ℕ) →
     commands_end before (filled bs es) ≡ commands_end before es
 filled_ends bs es before =
@@ -220,6 +226,7 @@ filled_ends bs es before =
 -- ---- the normal form
 
 module _ {T M : Type 0} (nothing : T) where
+  -- what stands first in a row, and whether a list holds a command, are the same with no body
   first_open : (es : EntriesOf T M) → first_not_blank (opened nothing es) ≡ first_not_blank es
   unfolding opened open_entry
   first_open no_entry = refl
@@ -243,6 +250,7 @@ module _ {T M : Type 0} (nothing : T) where
   whole_open : (es : EntriesOf T M) → is_whole (opened nothing es) ≡ is_whole es
   whole_open es = rw (holds_open es, first_open es) refl
 
+  -- for each kind of part: open, it is in normal form where it is with its bodies
   normal_content_open : (c : AnItemContentOf T M) →
       is_normal_content (open_item_content nothing c) ≡ is_normal_content c
   unfolding open_item_content
@@ -328,6 +336,7 @@ module _ {T M : Type 0} (nothing : T) where
   pub normal_open : (es : EntriesOf T M) → is_normal (opened nothing es) ≡ is_normal es
   normal_open es = rw (first_open es, all_open es) refl
 
+  -- a filled list is in normal form where the list is, and so are its first entry and all of them
   pub filled_normal_by : (bs : Row T) (es : EntriesOf T M) → is_normal (filled bs es) ≡ is_normal es
   filled_normal_by bs es = rw (← normal_open (filled bs es), filled_blind nothing bs es) (normal_open es)
 
@@ -343,6 +352,7 @@ unfolding filled
 filled_normal [] es = refl
 filled_normal (b ∷ bs) es = filled_normal_by b (b ∷ bs) es
 
+-- the same of its first entry, and of each of its entries
 pub first_filled : {T M : Type 0} (bs : Row T) (es : EntriesOf T M) →
     first_not_blank (filled bs es) ≡ first_not_blank es
 unfolding filled
@@ -357,6 +367,7 @@ all_filled (b ∷ bs) es = all_filled_by b (b ∷ bs) es
 -- ---- the spelling
 
 module _ (nothing : Text) where
+  -- for each kind of part: open, it has the tokens that it has with its bodies
   spelled_item : (i : Shape AnItemOf) → spell_item (open_item nothing i) ≡ spell_item i
   unfolding open_item open_item_content
   spelled_item (item broken (assign w)) = refl
@@ -434,5 +445,6 @@ module _ (nothing : Text) where
     spelled_case : (c : Shape ACaseItemOf) → spell_case (open_case nothing c) ≡ spell_case c
     spelled_case (case_item comments patterns body mark) = rw (spelling_open body) refl
 
+-- to fill a shape changes no token
 pub filled_spelling : (ts : Row Text) (es : Shape EntriesOf) → spelling (filled ts es) ≡ spelling es
 filled_spelling ts es = rw (← spelling_open [] (filled ts es), filled_blind [] ts es) (spelling_open [] es)

@@ -10,17 +10,20 @@ use Rattle.shast.specs.declared.tree.Span.{Span}
 use Rattle.shast.specs.Nodes.{word_nodes, NodesWithin, IsSpanWithin, IsWithin, and_or_nodes, and_or_parts_nodes, and_or_span, branch_nodes, branches_nodes, command_nodes, command_span, comment_node, entries_nodes, entry_nodes, form_node, form_nodes, item_nodes, item_span, items_nodes, items_span, last_command, last_item, last_pipeline, node, pipeline_nodes, pipeline_span, pipes_nodes, subst_nodes, substs_nodes, compound_nodes, compound_span, through, case_nodes, cases_nodes, patterns_nodes, commands_end}
 use Rattle.shast.specs.Tree.{ACaseMark, AHere, ABranch, ACommand, AForm, APipeline, APipelinePart, ASubst, AWord, AnAndOr, AnAndOrPart, AnEntry, AnItem, Entries, and_or, and_or_parts_of, argument, assign, brace, branches_of, case_in, command, compound, entries_of, entry, for_in, formed, if_then, item, items_of, pipeline, pipeline_parts_of, redirect, remark, simple, subshell, subst, substs_of, until_do, while_do, word, ACompound, function, ACaseItem, case_item, cases_of, patterns_of, more_and_or, more_pipes, no_and_or, no_pipe}
 
+-- the nodes of two rows of entries are those of the one and then those of the other
 nodes_append : (es ls : Row AnEntry) →
     entries_nodes (entries_of (es ++ ls)) ≡ entries_nodes (entries_of es) ++ entries_nodes (entries_of ls)
 nodes_append [] ls = refl
 nodes_append (e ∷ es) ls = rw (nodes_append es ls) (sym (append_assoc (entry_nodes e) _ _))
 
 module _ (limit : ℕ) where
+  -- no node of these names an offset above the limit
   abbrev pub Nodes : Row NodeLine → Type 0
   Nodes ns = All (IsWithin limit) ns
 
   -- ---- a part of a tree, by where it stands and by its nodes
 
+  -- for each kind of part: no offset of where it stands, and none of its nodes, is above the limit
   abbrev pub CommentFits : Span → Type 0
   CommentFits c = IsSpanWithin limit c
 
@@ -54,12 +57,15 @@ module _ (limit : ℕ) where
 
   -- ---- nodes
 
+  -- a node without a name fits where its span does
   fits_node : (kind : NodeKind) (s : Span) → IsSpanWithin limit s → IsWithin limit (node kind s)
   fits_node kind s so = record { start = so.0; «end» = so.1; name = tt }
 
+  -- nodes fit with one more that does
   first : (n : NodeLine) (ns : Row NodeLine) → IsWithin limit n → Nodes ns → Nodes (n ∷ ns)
   first n ns one rest = All-cons (IsWithin limit) n ns one rest
 
+  -- the nodes of comments fit where the comments do
   fits_comments : (cs : Row Span) → All CommentFits cs → Nodes (map comment_node cs)
   fits_comments cs so = All-map (IsWithin limit) comment_node cs
       (All-weaker CommentFits (λ c. IsWithin limit (comment_node c)) (λ c. fits_node NodeKind.Comment c) cs so)
@@ -70,9 +76,11 @@ module _ (limit : ℕ) where
 
   -- ---- rows of parts
 
+  -- the nodes of two rows fit where those of each do
   pub both : (ms ns : Row NodeLine) → Nodes ms → Nodes ns → Nodes (ms ++ ns)
   both ms ns one two = All-append (IsWithin limit) ms ns one two
 
+  -- for each kind of part: the nodes of a row fit where each part of it does
   pub fits_substs : (ss : Row ASubst) → All SubstFits ss → Nodes (substs_nodes (substs_of ss))
   fits_substs [] so = All-nil (IsWithin limit)
   fits_substs (s ∷ ss) so = both (subst_nodes s) (substs_nodes (substs_of ss)) (All-head SubstFits s ss so)
@@ -111,6 +119,7 @@ module _ (limit : ℕ) where
 
   -- ---- where the last of a row stands
 
+  -- for each kind of part: the last of a row fits, or what stands before it
   last_item_fits : (before : Span) (is : Row AnItem) → IsSpanWithin limit before → All ItemFits is →
       IsSpanWithin limit (last_item before (items_of is))
   last_item_fits before [] so all = so
@@ -129,6 +138,7 @@ module _ (limit : ℕ) where
   last_pipeline_fits before (p ∷ ps) so all =
       last_pipeline_fits (pipeline_span p.pipeline) ps (All-head PartFits p ps all).1.0 (All-tail PartFits p ps all)
 
+  -- so where the items of a simple command stand fits
   items_span_fits : (is : Row AnItem) → All ItemFits is → IsSpanWithin limit (items_span (items_of is))
   items_span_fits [] all = (omega arith, omega arith)
   items_span_fits (i ∷ is) all =
@@ -137,6 +147,7 @@ module _ (limit : ℕ) where
 
   -- ---- each kind of part
 
+  -- each kind of part fits where what it is made of does
   pub fits_assign : (broken : Bool) (w : AWord) → WordFits w → ItemFits (item broken (assign w))
   fits_assign broken (word s ss) so =
       (so.0, first (node NodeKind.Assign s) (substs_nodes ss) (fits_node NodeKind.Assign s so.0) so.1)
@@ -159,12 +170,13 @@ module _ (limit : ℕ) where
             (fits_items is all),
       )
 
+  -- what may begin at a span before its own fits where both do
   begin_fits : (begin : Option Span) (s : Span) → MatchOption begin (Unit {0}) (IsSpanWithin limit) →
       IsSpanWithin limit s → IsSpanWithin limit (unwrap_or begin s)
   begin_fits None s none so = so
   begin_fits (Some b) s one so = one
 
-  -- a redirection without a here-document
+  -- so does a redirection
   pub fits_redirect : (broken : Bool) (number : Option Span) (o : RedirectOperator) (s : Span) (w : AWord)
       (h : Option AHere) → MatchOption number (Unit {0}) (IsSpanWithin limit) → IsSpanWithin limit s → WordFits w
       → ItemFits (item broken (redirect number o s w h))
@@ -242,9 +254,11 @@ module _ (limit : ℕ) where
 
   -- ---- items of a case
 
+  -- no node of an item names an offset above the limit
   abbrev pub CaseFits : ACaseItem → Type 0
   CaseFits c = Nodes (case_nodes c)
 
+  -- patterns, an item, items and a `case` fit where what they are made of does
   fits_patterns : (ws : Row AWord) → All WordFits ws → Nodes (patterns_nodes (patterns_of ws))
   fits_patterns [] so = All-nil (IsWithin limit)
   fits_patterns (w ∷ ws) so = both (word_nodes w) (patterns_nodes (patterns_of ws))
@@ -271,9 +285,11 @@ module _ (limit : ℕ) where
 
   -- ---- where the last command of a list ends
 
+  -- the first of nodes that fit ends within the limit
   head_of : (n : NodeLine) (ns : Row NodeLine) → Nodes (n ∷ ns) → n.«end» ≤ limit
   head_of n ns so = (All-head (IsWithin limit) n ns so).«end»
 
+  -- so ends what the first of them stands for: a compound command, a command, a pipeline or an and-or list
   form_end : (f : AForm) (s : Span) (ns : Row NodeLine) → Nodes (form_node f s ∷ ns) → s.«end» ≤ limit
   form_end (brace es) s ns so = head_of _ ns so
   form_end (subshell es) s ns so = head_of _ ns so
@@ -301,6 +317,7 @@ module _ (limit : ℕ) where
       (sym (ap (λ z. z ++ ns) (append-nil (pipeline_nodes p)))) so)
   and_or_end_fits (and_or p (more_and_or o j q ps)) ns so = head_of _ _ so
 
+  -- and so does the last and-or list of entries that fit
   pub fits_end : (before : ℕ) (es : Row AnEntry) → before ≤ limit → All EntryFits es →
       commands_end before (entries_of es) ≤ limit
   fits_end before [] low so = low
@@ -311,6 +328,7 @@ module _ (limit : ℕ) where
 
   -- ---- two rows of entries, one after the other
 
+  -- two rows fit where each does
   pub within_append : (es ls : Row AnEntry) → NodesWithin limit (entries_of es) → NodesWithin limit (entries_of ls) →
       NodesWithin limit (entries_of (es ++ ls))
   within_append es ls one two =
@@ -318,6 +336,7 @@ module _ (limit : ℕ) where
 
 -- ---- a greater limit
 
+-- what fits a limit fits a greater one: a span, a name, a node and nodes
 pub span_fits_more : (limit more : ℕ) → limit ≤ more → (s : Span) → IsSpanWithin limit s → IsSpanWithin more s
 span_fits_more limit more le s so = (omega (arith, le, so.0), omega (arith, le, so.1))
 

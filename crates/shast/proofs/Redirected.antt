@@ -8,6 +8,7 @@ use Rattle.shast.specs.Tree.{items_of, compound_with}
 use Rattle.shast.specs.View.{view_compound, view_item}
 use Rattle.shast.proofs.Seen.{compound_seen}
 
+-- its view is the view of that command, with these redirections in the place of its own
 pub compound_redirected : (c : Compound) (is : Vec Item Global)
     → view_compound (roll-Compound
     record { form = (out-Compound c).form; span = (out-Compound c).span; redirects = is })

@@ -8,6 +8,7 @@ use Rattle.shast.specs.Shape.{shape_of, shape_of_comments, shape_of_join, shape_
 module _ (B : List ℕ) where
   -- ---- what stands first in a row, and whether a list holds a command
 
+  -- each of these is the same for a tree and its shape
   same_first : (es : Entries) → first_not_blank (shape_of B es) ≡ first_not_blank es
   same_first no_entry = refl
   same_first (more_entries (entry what background blank comment) es) = refl
@@ -37,6 +38,7 @@ module _ (B : List ℕ) where
   -- ---- each part
 
   mutual
+    -- each kind of part is in normal form where its shape is
     same_all : (es : Entries) → are_normal (shape_of B es) ≡ are_normal es
     same_all no_entry = refl
     same_all (more_entries e es) = rw (same_entry e, same_all es) refl

@@ -26,6 +26,7 @@ use Rattle.shast.specs.declared.tree.Command.TheFolds.{fold-roll-Command, fold-r
 use Rattle.shast.specs.Tree.{and_or, and_or_parts_of, assign, branch, branches_of, case_in, case_item, cases_of, entries_of, entry, for_in, formed, function, if_then, in_words, item, items_of, no_else, no_in, otherwise, patterns_of, pipeline, pipeline_parts_of, redirect, simple, subst, substs_of, word}
 use Rattle.shast.specs.View.{view_and_or, view_and_or_part, view_branch, view_case_item, view_command, view_comment, view_compound, view_content, view_entry, view_form, view_function, view_here, view_item, view_item_content, view_join, view_list, view_otherwise, view_pipeline, view_pipeline_part, view_redirection, view_subst, view_word}
 
+-- for each type: the view of a value is made of the views of its fields
 pub list_seen : (l : List) → view_list l ≡ entries_of (map view_entry (out-List l).entries.items)
 list_seen l = search (rules, fold_out-List)
 
@@ -99,6 +100,7 @@ item_seen i = search (rules, fold_out-Item)
 
 -- ---- by the kind of a node
 
+-- for each of these kinds: the view of a node is made of the views of what it holds
 pub simple_seen : (items : Vec Item Global) →
     view_command (the_command.TheVariants.Simple items) ≡ simple (items_of (map view_item items.items))
 simple_seen items = rw (← rolls-Simple items) (search (rules, fold-roll-Command))

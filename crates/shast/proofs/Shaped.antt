@@ -10,9 +10,11 @@ use Rattle.shast.specs.Shape.{Shape, bare, shape_of}
 
 -- ---- parts of trees and of shapes
 
+-- the span from p up to q
 abbrev at : ℕ → ℕ → Span
 at p q = record { start = p; «end» = q }
 
+-- a list of one command; and of one text a word, an item, a command, a list and a pipeline
 abbrev one : {T M : Type 0} → ACommandOf T M → EntriesOf T M
 one c = alone (of_command c)
 
@@ -35,6 +37,7 @@ a_pipeline t = pipeline None (a_command t) no_pipe
 abbrev over : AFormOf Span Span → ℕ → ℕ → ACommand
 over form p q = compound (formed form (at p q) no_item)
 
+-- and their shapes
 abbrev formed_as : Shape AFormOf → Shape ACommandOf
 formed_as form = compound (formed form tt no_item)
 
@@ -47,6 +50,7 @@ continued :
     ≡ one (simple (items_of (a_name (codes "a\\\nb") ∷ item true (argument (a_word (codes "c"))) ∷ [])))
 continued = refl
 
+-- an assignment by its whole text
 assigned :
     shape_of (codes "a=1 b") (one (simple (items_of (item false (assign (a_word (at 0 3))) ∷ a_name (at 4 5) ∷ []))))
     ≡ one (simple (items_of (item false (assign (a_word (codes "a=1"))) ∷ a_name (codes "b") ∷ [])))
@@ -132,11 +136,13 @@ named :
     (items_of (item false (redirect None Output tt (a_word (codes "c")) None) ∷ []))))
 named = refl
 
+-- the list of a subshell
 grouped :
     shape_of (codes "(a)") (one (over (subshell (a_list (at 1 2))) 0 3))
     ≡ one (formed_as (subshell (a_list (codes "a"))))
 grouped = refl
 
+-- the lists of an `if`: conditions, what they run, and what `else` runs
 chosen :
     shape_of (codes "if a; then b; elif c; then d; else e; fi")
     (one (over (if_then (branch (a_list (at 3 4)) (a_list (at 11 12)))
@@ -145,12 +151,14 @@ chosen :
     (branches_of (branch (a_list (codes "c")) (a_list (codes "d")) ∷ [])) (otherwise (a_list (codes "e")))))
 chosen = refl
 
+-- an `if` without `elif` and `else`
 chosen_alone :
     shape_of (codes "if a; then b; fi")
     (one (over (if_then (branch (a_list (at 3 4)) (a_list (at 11 12))) (branches_of []) no_else) 0 16))
     ≡ one (formed_as (if_then (branch (a_list (codes "a")) (a_list (codes "b"))) (branches_of []) no_else))
 chosen_alone = refl
 
+-- the condition and the body of a `while` and of an `until`
 repeated :
     shape_of (codes "while a; do b; done; until c; do d; done")
     (more_entries (of_command (over (while_do (branch (a_list (at 6 7)) (a_list (at 12 13)))) 0 19))

@@ -11,6 +11,7 @@ use Rattle.shast.specs.Spelling.{spelling}
 
 -- ---- parts of trees
 
+-- the span from p up to q
 abbrev at : ℕ → ℕ → Span
 at p q = record { start = p; «end» = q }
 
@@ -18,9 +19,11 @@ at p q = record { start = p; «end» = q }
 abbrev nowhere : Span
 nowhere = at 0 0
 
+-- a join that nothing breaks, without comments
 abbrev join : AJoin
 join = record { broken = false; comments = [] }
 
+-- a word, an item and a command, by the places of one word
 abbrev a_word : ℕ → ℕ → AWord
 a_word p q = word (at p q) no_subst
 
@@ -30,12 +33,15 @@ a_name p q = item false (argument (a_word p q))
 abbrev a_command : ℕ → ℕ → ACommand
 a_command p q = simple (items_of (a_name p q ∷ []))
 
+-- a redirection without a number, by its operator and the places of its word
 abbrev to : RedirectOperator → ℕ → ℕ → AnItem
 to operator p q = item false (redirect None operator nowhere (a_word p q) None)
 
+-- a compound command without redirections
 abbrev a_compound : AForm → ACommand
 a_compound form = compound (formed form nowhere no_item)
 
+-- one command as a pipeline, as an entry and as a list
 abbrev alone : ACommand → APipeline
 alone c = pipeline None c no_pipe
 
@@ -45,6 +51,7 @@ an_entry c = entry (command (and_or (alone c) no_and_or)) false false None
 abbrev list_of : ACommand → Entries
 list_of c = more_entries (an_entry c) no_entry
 
+-- a list of one word
 abbrev a_list : ℕ → ℕ → Entries
 a_list p q = list_of (a_command p q)
 
@@ -88,6 +95,7 @@ repeated :
     ∷ codes "d" ∷ codes "done" ∷ []
 repeated = refl
 
+-- a `for` with words, and one without `in`
 for_each :
     spelling (shape_of (codes "for a in b c; do d; done; for e do f; done")
     (more_entries (an_entry (a_compound

@@ -11,6 +11,7 @@ use Rattle.shast.specs.Nodes.{and_or_node, and_or_nodes, and_or_parts_nodes, and
 use Rattle.shast.specs.Everywhere.{IsSome, OfEach, OfSome, InEntry, InContent, InAndOr, InAndOrParts, InPipeline, InPipes, InCommand, InCompound, InForm, InBranch, InBranches, InElse, InForWords, InCases, InCase, InPatterns, InItems, InItem, InWord, InSubsts, InSubst, Throughout}
 
 module _ (S : ℕ → Type 0) where
+  -- what is said of the start of a span, of a node, and of each node of a row
   abbrev P : Span → Type 0
   P s = S s.start
 
@@ -20,6 +21,7 @@ module _ (S : ℕ → Type 0) where
   abbrev N : Row NodeLine → Type 0
   N ns = All OfNode ns
 
+  -- it is so of no nodes, of one more, and of two or three rows together
   none : N []
   none = All-nil OfNode
 
@@ -34,10 +36,12 @@ module _ (S : ℕ → Type 0) where
 
   -- ---- where a part begins
 
+  -- what may begin at a span before its own begins so where both do
   begins : (begin : Option Span) (s : Span) → OfSome P begin → P s → P (unwrap_or begin s)
   begins None s so one = one
   begins (Some b) s so one = so
 
+  -- each kind of part begins so where its spans do
   word_begins : (w : AWord) → InWord P IsSome w → P (word_span w)
   word_begins (word span substs) so = so.0
 
@@ -66,6 +70,7 @@ module _ (S : ℕ → Type 0) where
 
   -- ---- nodes
 
+  -- so do the nodes of comments, and the nodes that parts themselves are
   comments_begin : (cs : Row Span) → OfEach P cs → N (map comment_node cs)
   comments_begin [] so = none
   comments_begin (c ∷ cs) so = first (comment_node c) (map comment_node cs) so.0 (comments_begin cs so.1)
@@ -96,6 +101,7 @@ module _ (S : ℕ → Type 0) where
       first _ [] (pipeline_begins (pipeline (Some bang) one rest) so) none
 
   mutual
+    -- for each kind of part: so do all of its nodes
     pub nodes_begin : (es : Entries) → Throughout P IsSome es → N (entries_nodes es)
     nodes_begin no_entry so = none
     nodes_begin (more_entries e es) so =

@@ -12,6 +12,7 @@ use Rattle.shast.specs.Opened.{opened, open_items, open_item, open_item_content,
 abbrev Numbered : (Type 0 → Type 0 → Type 0) → Type 0
 Numbered Part = Part ℕ ℕ
 
+-- a word, a join, an item with a document, a command and a list of it, and a branch of two of those
 abbrev a_word : Numbered AWordOf
 a_word = word 0 no_subst
 
@@ -55,6 +56,7 @@ whole a b c d e f g h i j k l m n o p q =
     no_item)))
     no_entry)))))
 
+-- filled, each document has the body of its number, and the one in a word stays
 pub filled_whole :
     filled (1 ∷ 2 ∷ 3 ∷ 4 ∷ 5 ∷ 6 ∷ 7 ∷ 8 ∷ 9 ∷ 10 ∷ 11 ∷ 12 ∷ 13 ∷ 14 ∷ 15 ∷ 16 ∷ 17 ∷ [])
     (whole 0 0 0 0 0 0 0 0 0 0 0 0 0 0 0 0 0)
@@ -62,10 +64,12 @@ pub filled_whole :
 unfolding filled fill_entries fill_items fill_item fill_item_content
 filled_whole = refl
 
+-- opened, each document has 0 for its body, and the one in a word stays
 pub opened_whole : opened 0 (whole 1 2 3 4 5 6 7 8 9 10 11 12 13 14 15 16 17) ≡ whole 0 0 0 0 0 0 0 0 0 0 0 0 0 0 0 0 0
 unfolding opened open_items open_item open_item_content
 opened_whole = refl
 
+-- its bodies are in the order of their operators, without the one in a word
 pub bodies_of_whole :
     bodies_of (whole 1 2 3 4 5 6 7 8 9 10 11 12 13 14 15 16 17) ≡ 1 ∷ 2 ∷ 3 ∷ 4 ∷ 5 ∷ 6 ∷ 7 ∷ 8 ∷ 9 ∷ 10 ∷ 11 ∷ 12 ∷ 13
     ∷ 14 ∷ 15 ∷ 16 ∷ 17 ∷ []

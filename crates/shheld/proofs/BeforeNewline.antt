@@ -43,9 +43,11 @@ up_to_here Q o (Err f) so = tt
 abbrev BeginBefore : ℕ → Row AnEntry → Type 0
 BeginBefore p es = All (λ (n : NodeLine). n.start < p) (entries_nodes (entries_of es))
 
+-- where a newline token ended the line, its nodes begin before where the reading stands
 abbrev LineBegins : Given → Row AnEntry × Bool → State → Type 0
 LineBegins g x t = x.1 ≡ true → BeginBefore (g.offset + t.at) x.0
 
+-- entries none of whose spans goes past a limit have nodes that begin before what is past it
 begin_before : (limit p : ℕ) (es : Row AnEntry) → limit < p → All (EntryIn limit) es → BeginBefore p es
 begin_before limit p es lt all =
     nodes_begin (λ n. n < p) (entries_of es)
@@ -53,6 +55,7 @@ begin_before limit p es lt all =
     (λ items some. some) (entries_of es) (entries_in limit es all))
 
 module _ (g : Given) where
+  -- no span of the entries on one line goes past where the reading stands after them
   on_line_here : (blank : Bool) (n : Next) (s : State) →
       Tells Whole g (on_line (level most_open) (list_so_far (none_listed blank) n))
       (λ l t. ListIn (g.offset + t.at) l) s
@@ -64,6 +67,7 @@ module _ (g : Given) where
             (All-nil (EntryIn limit), tt)).told.told);
       }
 
+  -- so each node of a line begins before the reading's place after the newline and the bodies
   open_line_begins : (blank : Bool) (s : State) → Tells Whole g (an_open_line (level most_open) blank) (LineBegins g) s
   unfolding an_open_line
   open_line_begins blank s =
@@ -73,12 +77,14 @@ module _ (g : Given) where
       (λ newline w more. tells_give Whole g
       (λ e. begin_before (g.offset + u.at) (g.offset + w.at) l.list.entries (omega (arith, more e)) all.0))))
 
+  -- where bodies are filled in, the nodes begin where they did
   filled_begin : (p : ℕ) (bodies : Row Span) (es : Row AnEntry) → BeginBefore p es →
       BeginBefore p (filled_row bodies es)
   filled_begin p bodies es so =
       All-same (λ (n : NodeLine). n.start < p) _ _
       (ap entries_nodes (row_filled bodies es) ∙ filled_nodes bodies (entries_of es)) so
 
+  -- so it is of a line with the bodies of its here-documents
   line_begins : (blank : Bool) (s : State) → Tells Whole g (a_line (level most_open) blank) (LineBegins g) s
   unfolding a_line
   line_begins blank s =
@@ -86,12 +92,14 @@ module _ (g : Given) where
       (tells_level Whole g (open_line_begins blank (own_level s)) (λ x t so. so))
       (λ l t so. tells_give Whole g (λ e. filled_begin (g.offset + t.at) l.1 l.0.0 (so e)))
 
+-- and of what a line is by its entries, whether or not a newline ended it
 kind_begins : (p : ℕ) (es : Row AnEntry) (newline : Bool) → BeginBefore p es →
     All (λ (n : NodeLine). n.start < p) (kind_nodes (kind_of es newline))
 kind_begins p [] true so = so
 kind_begins p [] false so = so
 kind_begins p (e ∷ es) newline so = so
 
+-- each node of a line that ended begins before the line's end
 pub nodes_before_end : (edition : Edition) (T : List ℕ) (l : ALine) → IsLine edition T l → l.ended ≡ true →
     All (λ (n : NodeLine). n.start < l.next) (kind_nodes l.kind)
 nodes_before_end edition T l (line_read es newline t k part) ended =

@@ -18,6 +18,7 @@ use Rattle.shast.specs.Tree.{ACaseMark, AJoin, AHere, Entries, no_entry, more_en
 -- For each type `to_` gives a value's code, `from_` what a code says, and `back_` that it says the value.
 -- Where a code is none of a value `from_` gives some value, as `any_span`.
 
+-- a flag is 0 or 1
 abbrev pub to_bool : Bool → Gv
 to_bool false = gnum 0
 to_bool true = gnum 1
@@ -30,6 +31,7 @@ pub back_bool : (x : Bool) → from_bool (to_bool x) ≡ x
 back_bool false = refl
 back_bool true = refl
 
+-- a span, told by a pair of its offsets; this one where a code is of none
 abbrev pub any_span : Span
 any_span = record { start = 0; «end» = 0 }
 
@@ -82,6 +84,7 @@ pub back_operator : (x : AndOrOperator) → from_operator (to_operator x) ≡ x
 back_operator ops.And = refl
 back_operator ops.Or = refl
 
+-- and so is that of a redirection's operator
 abbrev pub to_redirect_operator : RedirectOperator → Gv
 to_redirect_operator reds.Input = gnum 0
 to_redirect_operator reds.Output = gnum 1
@@ -134,6 +137,7 @@ from_ospan = from_option to_span from_span back_span
 pub back_ospan : (x : Option Span) → from_ospan (to_ospan x) ≡ x
 back_ospan = back_option to_span from_span back_span
 
+-- a join is whether it is broken, and its comments
 abbrev pub to_join : AJoin → Gv
 to_join j = gcons (to_bool j.broken) (to_spans j.comments)
 
@@ -144,6 +148,7 @@ from_join _ = record { broken = false; comments = [] }
 pub back_join : (x : AJoin) → from_join (to_join x) ≡ x
 back_join x = λ i. record { broken = back_bool x.broken i; comments = back_spans x.comments i }
 
+-- a here-document is its two flags and its body
 abbrev pub to_here : AHere → Gv
 to_here h = gcons (to_bool h.literal) (gcons (to_bool h.strip) (to_span h.body))
 
@@ -154,6 +159,7 @@ from_here _ = record { literal = false; strip = false; body = any_span }
 pub back_here : (x : AHere) → from_here (to_here x) ≡ x
 back_here x = λ i. record { literal = back_bool x.literal i; strip = back_bool x.strip i; body = back_span x.body i }
 
+-- a redirection has one or none
 abbrev pub to_ohere : Option AHere → Gv
 to_ohere = to_option to_here from_here back_here
 
@@ -163,6 +169,7 @@ from_ohere = from_option to_here from_here back_here
 pub back_ohere : (x : Option AHere) → from_ohere (to_ohere x) ≡ x
 back_ohere = back_option to_here from_here back_here
 
+-- the mark of an item of a `case`, told by where it stands and whether it falls through; this one likewise
 abbrev pub any_mark : ACaseMark
 any_mark = record { mark = any_span; falls = false }
 
@@ -220,6 +227,7 @@ any_item = item false any_item_content
 abbrev pub any_subst : ASubst
 any_subst = subst no_entry any_span
 
+-- the code of each part of a tree
 abbrev mutual
   pub to_entries : Entries → Gv
   to_entries no_entry = gcons (gnum 0) gnil
@@ -314,6 +322,7 @@ abbrev mutual
   pub to_subst : ASubst → Gv
   to_subst (subst a b) = gcons (to_entries a) (to_span b)
 
+-- what a code says of each part of a tree
 abbrev mutual
   pub from_entries : Gv → Entries
   from_entries (gcons (gnum zero) gnil) = no_entry
@@ -434,6 +443,7 @@ abbrev mutual
   from_subst (gcons a b) = subst (from_entries a) (from_span b)
   from_subst _ = any_subst
 
+-- each part of a tree is what its code says
 mutual
   pub back_entries : (x : Entries) → from_entries (to_entries x) ≡ x
   back_entries no_entry = refl
@@ -542,6 +552,7 @@ entries_code = code_by Gv itself to_entries from_entries back_entries
 abbrev pub fault_code : Coded Fault
 fault_code = the_fault.the_row.coded
 
+-- which of the three a line is, and what it has of it
 abbrev pub to_sum : AKind → Entries ⊎ (Fault ⊎ Bool)
 to_sum blank_line = inr (inr false)
 to_sum (entries_line es) = inl es

@@ -52,6 +52,7 @@ closes_none closings.Brace = refl
 closes_none _ = refl
 
 module _ (g : Given) where
+  -- the text that is read
   abbrev T : List ℕ
   T = g.text
 
@@ -125,6 +126,7 @@ module _ (g : Given) where
   comment_high p le =
       cond_both (raw_stands T p number_sign) _ _ (λ q. q ≤ length T) (λ e. next_newline_high T p le) (λ e. le)
 
+  -- of a comment, which may not be there
   comment_in : (n : Next) (s : State) → Handed n s → N (a_comment n) HandsOn s
   unfolding a_comment
   comment_in n s so = sees (by_comment (comment_at T g.offset s.at))
@@ -146,9 +148,11 @@ module _ (g : Given) where
           subst (λ (u : State). u.at ≤ length T) same (bodies_go g s.waiting s.bodies s.at x read le).1
       by_read (Err f) read is = absurd cc
 
+  -- the same, of the change that reads them
   bodies_in : (s : State) → s.at ≤ length T → N (change bodies_here) InText s
   bodies_in s le = tells_change Whole g (λ t is. bodies_high s t le is)
 
+  -- of a newline with the bodies after it, of a `;` and of a separator; none of them has to be there
   newline_in : (n : Next) (s : State) → Handed n s → N (a_newline n) HandsOn s
   unfolding a_newline
   newline_in n s so =
@@ -179,6 +183,7 @@ module _ (g : Given) where
 
   -- Comments and newlines stay in the text, and hand on a token there.
 
+  -- a token is handed on after the comments and newlines so far
   abbrev JoinHanded : JoinSoFar → State → Type 0
   JoinHanded j t = Handed j.next t
 
@@ -188,23 +193,27 @@ module _ (g : Given) where
   kept_in cs (Some c) n s so = record { told = so }
   kept_in cs None n s so = gives so
 
+  -- and so it is whether or not this was the last turn
   join_step : (p : Bool) (j : JoinSoFar) (t : State) → Handed j.next t
       → Turned Whole g JoinHanded (step_if p j) t
   join_step true j t so = so
   join_step false j t so = so
 
+  -- of one comment and newline, or of none
   join_turn_in : (j : JoinSoFar) (s : State) → Handed j.next s → N (join_turn j) (Turned Whole g JoinHanded) s
   unfolding join_turn
   join_turn_in j s so =
       comment_in j.next s so ▹ λ c t one. kept_in j.join.comments c.0 c.1 t one ▹ λ cs u two.
       newline_in c.1 u two ▹ λ l v good. gives (join_step l.0 _ v good)
 
+  -- of all that stands from an operator to its operand
   join_in : (broken : Bool) (s : State) → s.at ≤ length T → N (a_join broken) HandsOn s
   unfolding a_join
   join_in broken s le =
       onward Command le ▹ λ n t so.
       tells_many Whole g join_turn JoinHanded join_turn_in _ t so ▹ λ j u good. gives good
 
+  -- of newlines that may stand where no operator does, and of comments before them
   linebreak_in : (cs : Row Span) (n : Next) (s : State) → Handed n s → N (a_linebreak cs n) JoinHanded s
   unfolding a_linebreak
   linebreak_in cs n s so = tells_many Whole g join_turn JoinHanded join_turn_in _ s so
@@ -218,6 +227,7 @@ module _ (g : Given) where
   unfolding past_digits
   digits_high p le = past_high is_digit T p le
 
+  -- of a number before an operator, which may not be there
   number_in : (n : Next) (s : State) → Handed n s → N (a_number n) HandsOn s
   unfolding a_number
   number_in n s so =
@@ -238,6 +248,7 @@ module _ (g : Given) where
       token_on (record { told = after_high T (past_byte T (past_byte T s.at)) (three refl) })
   operator_ends _ s one two three = token_on (record { told = after_high T (past_byte T s.at) (two refl) })
 
+  -- of the operator that the token is; where it is none, the row stops
   operator_in : (p : ℕ) (n : Next) (s : State) → Handed n s
       → N (operator_by p (redirect_operator_of n.token)) InText s
   operator_in p n s so = by_operator (redirect_operator_of n.token) refl
@@ -255,6 +266,7 @@ module _ (g : Given) where
       tells_change Whole g
       (λ t is. let same : with_waiting w s ≡ t = cc in subst (λ (u : State). u.at ≤ length T) same le)
 
+  -- of a here-document, where the operator has one
   document_in : (o : RedirectOperator) (b p : ℕ) (bytes : Spelled) (s : State) → s.at ≤ length T
       → N (a_document o b p bytes) InText s
   unfolding a_document
@@ -275,9 +287,11 @@ module _ (g : Given) where
     pub function : (name : Span) (s : State) → IsRead T s.at → N (inner.function name) HandsOn s
 
   module _ (inner : Inner) (stays : Stays inner) where
+    -- a token is handed on after the items so far
     abbrev ItemsHanded : ItemsSoFar → State → Type 0
     ItemsHanded i t = Handed i.next t
 
+    -- of the word that follows a redirection's operator
     target_in : (s : State) → s.at ≤ length T → N (a_target inner) InText s
     unfolding a_target
     target_in s le =
@@ -286,6 +300,7 @@ module _ (g : Given) where
         (λ e. tells_with_bytes Whole g (stays.words t so.within) (λ a u low. low))
         (stops inner n)
 
+    -- of a whole redirection, which is one more item
     redirect_in : (broken : Bool) (position : Position) (is : Row AnItem) (n : Next) (s : State)
         → Handed n s → N (one_redirect inner broken position is n) (Turned Whole g ItemsHanded) s
     unfolding one_redirect
@@ -294,12 +309,14 @@ module _ (g : Given) where
         target_in u two ▹ λ w v three. document_in o.0 _ _ w.1 v three ▹ λ h x four.
         pushed_on (onward position four ▹ λ m y good. gives good))
 
+    -- of a word or an assignment, which is one more item
     an_item_in : (i : ItemsSoFar) (position : Position) (s : State) → s.at ≤ length T
         → N (an_item inner i position) (Turned Whole g ItemsHanded) s
     unfolding an_item
     an_item_in i position s le =
         stays.words s le ▹ λ w t low. pushed_on (onward position low ▹ λ n v good. gives good)
 
+    -- of one more item by what the token begins, or of none
     item_by_in : (i : ItemsSoFar) (o : Option Position) (s : State) → Handed i.next s
         → N (item_by inner i o) (Turned Whole g ItemsHanded) s
     item_by_in i (Some position) s so = an_item_in i position s so.within
@@ -313,11 +330,13 @@ module _ (g : Given) where
     unfolding item_turn
     item_turn_in i s so = item_by_in i (after_word i.next.token) s so
 
+    -- of a simple command, after the items that it has so far
     simple_in : (i : ItemsSoFar) (s : State) → Handed i.next s → N (a_simple inner i) HandsOn s
     unfolding a_simple
     simple_in i s so =
         tells_many Whole g (item_turn inner) ItemsHanded item_turn_in i s so ▹ λ j t good. gives good
 
+    -- of one more redirection after a compound command, or of none, and then of all of them
     redirect_turn_in : (i : ItemsSoFar) (s : State) → Handed i.next s
         → N (redirect_turn inner i) (Turned Whole g ItemsHanded) s
     unfolding redirect_turn
@@ -333,6 +352,7 @@ module _ (g : Given) where
         tells_many Whole g (redirect_turn inner) ItemsHanded redirect_turn_in none s so ▹ λ r t good.
         gives good
 
+    -- of the compound command that the token opens, with its redirections
     compound_in : (n : Next) (s : State) → Handed n s → N (compound_by inner n (opener_of n.token)) HandsOn s
     compound_in n s so = by_opener (opener_of n.token) refl
       where
@@ -341,6 +361,7 @@ module _ (g : Given) where
             stays.compound o s (read n s so (λ t. is_some (opener_of t)) refl (ap is_some is)) ▹ with_redirect_list_in
         by_opener None is = stops inner n
 
+    -- of what begins with a word: a function where `(` follows a name, else a simple command
     word_command_in : (s : State) → s.at ≤ length T → N (a_word_command inner) HandsOn s
     unfolding a_word_command
     word_command_in s le =
@@ -350,12 +371,14 @@ module _ (g : Given) where
         picked_by (seen is_a_name g s) (λ f. stays.function (word_span w) v byte) (record { told = tt }))
         (pushed_on (simple_in (items_so_far _ Suffix n) v so)))
 
+    -- of a command, whatever begins it
     command_in : (n : Next) (s : State) → Handed n s → N (a_command inner n) HandsOn s
     unfolding a_command
     command_in n s so =
         picked_by (is_word n.token) (λ e. word_command_in s so.within)
         (picked_by (begins_simple n.token) (λ e. simple_in (items_so_far [] Command n) s so) (compound_in n s so))
 
+    -- of the `!` of a pipeline, which may not be there
     bang_in : (n : Next) (s : State) → Handed n s → N (a_bang n) HandsOn s
     unfolding a_bang
     bang_in n s so =
@@ -364,9 +387,11 @@ module _ (g : Given) where
         onward Command le ▹ λ m u good. gives good)
         (gives so)
 
+    -- a token is handed on after the commands of a pipeline so far
     abbrev PipesHanded : PipesSoFar → State → Type 0
     PipesHanded p t = Handed p.next t
 
+    -- of one more command after `|`, or of none
     pipe_turn_in : (p : PipesSoFar) (s : State) → Handed p.next s
         → N (pipe_turn inner p) (Turned Whole g PipesHanded) s
     unfolding pipe_turn one_command
@@ -376,6 +401,7 @@ module _ (g : Given) where
         join_in p.next.broken t le ▹ λ j u one. command_in j.1 u one ▹ λ c v good. pushed_on (gives good))
         (gives so)
 
+    -- of a pipeline, from its `!` to its last command
     pipeline_in : (n : Next) (s : State) → Handed n s → N (a_pipeline inner n) HandsOn s
     unfolding a_pipeline
     pipeline_in n s so =
@@ -383,9 +409,11 @@ module _ (g : Given) where
         tells_many Whole g (pipe_turn inner) PipesHanded pipe_turn_in (pipes_so_far [] c.1) u two ▹ λ p v good.
         gives good
 
+    -- a token is handed on after the pipelines of an and-or list so far
     abbrev AndOrHanded : AndOrSoFar → State → Type 0
     AndOrHanded a t = Handed a.next t
 
+    -- of one more pipeline after `&&` or `||`, or of none
     and_or_turn_in : (a : AndOrSoFar) (s : State) → Handed a.next s
         → N (and_or_turn inner a) (Turned Whole g AndOrHanded) s
     unfolding and_or_turn one_pipeline
@@ -399,6 +427,7 @@ module _ (g : Given) where
             pushed_on (gives good)
         by_operator None is = gives so
 
+    -- of an and-or list, from its first pipeline to its last
     and_or_in : (n : Next) (s : State) → Handed n s → N (an_and_or inner n) HandsOn s
     unfolding an_and_or
     and_or_in n s so =
@@ -406,6 +435,7 @@ module _ (g : Given) where
         tells_many Whole g (and_or_turn inner) AndOrHanded and_or_turn_in _ t one ▹ λ a u good.
         gives good
 
+    -- of an and-or list with the separator and the comment after it
     entry_in : (blank : Bool) (n : Next) (s : State) → Handed n s
         → N (an_entry inner blank n) (λ e t. Handed e.next t) s
     unfolding an_entry
@@ -417,14 +447,17 @@ module _ (g : Given) where
 
     -- Each row of a list stays in the text, and hands on a token there.
 
+    -- a token is handed on after the entries so far
     abbrev pub ListHanded : ListSoFar → State → Type 0
     ListHanded l t = Handed l.next t
 
+    -- and so it is whether or not this was the last turn
     list_step : (p : Bool) (l : ListSoFar) (t : State) → Handed l.next t
         → Turned Whole g ListHanded (step_if p l) t
     list_step true l t so = so
     list_step false l t so = so
 
+    -- of one more entry on the line, or of none
     entry_turn_in : (l : ListSoFar) (s : State) → Handed l.next s
         → N (entry_turn inner l) (Turned Whole g ListHanded) s
     unfolding entry_turn one_entry
@@ -434,23 +467,27 @@ module _ (g : Given) where
         pushed_on (gives (list_step (is_some e.parted) _ t good)))
         (gives so)
 
+    -- of the comment at the end of a line, or of none
     remark_in : (l : ListSoFar) (x : Option Span × Next) (s : State) → Handed x.1 s
         → N (remark_by l x) ListHanded s
     remark_in l (Some c, n) s so = pushed_on (gives so)
     remark_in l (None, n) s so = gives so
 
+    -- of all that stands on one line of a list
     pub on_line_in : (l : ListSoFar) (s : State) → Handed l.next s → N (on_line inner l) ListHanded s
     unfolding on_line a_remark
     on_line_in l s so =
         tells_many Whole g (entry_turn inner) ListHanded entry_turn_in l s so ▹ λ m t one.
         comment_in m.next t one ▹ λ x u good. remark_in m x u good
 
+    -- of one line with the newline after it, or of what stands before the list's end
     list_turn_in : (l : ListSoFar) (s : State) → Handed l.next s
         → N (list_turn inner l) (Turned Whole g ListHanded) s
     unfolding list_turn
     list_turn_in l s so =
         on_line_in l s so ▹ λ m t one. newline_in m.next t one ▹ λ x u good. gives (list_step x.0 _ u good)
 
+    -- of all lines of a list, which may hold no command, and of a list, which holds one
     lines_in : (n : Next) (s : State) → Handed n s
         → N (many (list_turn inner) (list_so_far (none_listed false) n)) ListHanded s
     lines_in n s so =
@@ -474,6 +511,7 @@ module _ (g : Given) where
     opener_high true p is = after_high T p is
     opener_high false p is = reserved_high p is
 
+    -- of a reserved word or a parenthesis, and the token after it
     reserved_or_paren_in : (text : Spelled) (paren : Bool) (position : Position) (s : State) → IsRead T s.at
         → N (reserved_or_paren text paren position) HandsOn s
     unfolding reserved_or_paren
@@ -485,6 +523,7 @@ module _ (g : Given) where
     closes : (c : Closing) (n : Next) (s : State) → Handed n s → is_closing c n.token ≡ true → IsRead T s.at
     closes c n s so e = read n s so (is_closing c) (closes_none c) e
 
+    -- of what has to close here; where the token is another, the row stops
     closing_in : (c : Closing) (n : Next) (s : State) → Handed n s → N (closing inner c n) HandsOn s
     unfolding closing
     closing_in c n s so =
@@ -492,15 +531,18 @@ module _ (g : Given) where
         (λ e. reserved_or_paren_in _ (is_close_paren c) _ s (closes c n s so e))
         (stops inner n)
 
+    -- of a condition, `then` and what it runs
     branch_in : (n : Next) (s : State) → Handed n s → N (a_branch inner n) HandsOn s
     unfolding a_branch
     branch_in n s so =
         list_in n s so ▹ λ c t one. closing_in closings.Then c.1 t one ▹ λ k u two.
         list_in k.1 u two ▹ λ b v good. gives good
 
+    -- a token is handed on after the branches of an `if` so far
     abbrev BranchesHanded : BranchesSoFar → State → Type 0
     BranchesHanded b t = Handed b.next t
 
+    -- of one more branch after `elif`, or of none
     elif_in : (b : BranchesSoFar) (s : State) → Handed b.next s
         → N (elif_turn inner b) (Turned Whole g BranchesHanded) s
     unfolding elif_turn
@@ -510,6 +552,7 @@ module _ (g : Given) where
         branch_in k.1 t one ▹ λ x u good. pushed_on (gives good))
         (gives so)
 
+    -- of the list after `else`, which may not be there
     else_in : (n : Next) (s : State) → Handed n s → N (an_else inner n) HandsOn s
     unfolding an_else
     else_in n s so =
@@ -518,9 +561,11 @@ module _ (g : Given) where
         list_in k.1 t one ▹ λ l u good. gives good)
         (gives so)
 
+    -- a token is handed on after the closer
     abbrev ClosedHanded : {X : Type 0} → Closed X → State → Type 0
     ClosedHanded x t = Handed x.next t
 
+    -- of an `if`, a loop and a group, from just after their openers to their closers
     if_in : (n : Next) (s : State) → Handed n s → N (an_if inner n) ClosedHanded s
     unfolding an_if
     if_in n s so =
@@ -538,6 +583,7 @@ module _ (g : Given) where
     unfolding a_group
     group_in c n s so = list_in n s so ▹ λ l t one. closing_in c l.1 t one ▹ λ k u good. gives good
 
+    -- of the word after `for`, which has to be a name
     for_name_in : (n : Next) (s : State) → Handed n s → N (a_for_name inner n) HandsOn s
     unfolding a_for_name
     for_name_in n s so =
@@ -548,6 +594,7 @@ module _ (g : Given) where
         (record { told = tt }))))
         (stops inner n)
 
+    -- of the `;` or the newline that ends the words of a `for`
     sequential_sep_in : (cs : Row Span) (n : Next) (s : State) → Handed n s
         → N (a_sequential_sep inner cs n) JoinHanded s
     unfolding a_sequential_sep
@@ -555,14 +602,17 @@ module _ (g : Given) where
         semicolon_in n s so ▹ λ x t one. linebreak_in cs x.1 t one ▹ λ l u good.
         picked_by (x.0 || l.join.broken) (λ e. gives good) (stops inner l.next)
 
+    -- a token is handed on after what stands between the name of a `for` and its `do`
     abbrev HeadHanded : Headed → State → Type 0
     HeadHanded h t = Handed h.next t
 
+    -- of one more word after `in`, or of none
     word_turn_in : (i : ItemsSoFar) (s : State) → Handed i.next s
         → N (word_turn inner i) (Turned Whole g ItemsHanded) s
     unfolding word_turn
     word_turn_in i s so = picked_by (is_word i.next.token) (λ e. an_item_in i Suffix s so.within) (gives so)
 
+    -- of `in` with its words and what ends them
     for_words_in : (cs : Row Span) (s : State) → IsRead T s.at → N (for_words inner cs) HeadHanded s
     unfolding for_words
     for_words_in cs s is =
@@ -570,6 +620,7 @@ module _ (g : Given) where
         tells_many Whole g (word_turn inner) ItemsHanded word_turn_in _ t one ▹ λ ws u two.
         sequential_sep_in cs ws.next u two ▹ λ l v good. gives good
 
+    -- of what stands between the name and `do`, with an `in` or without
     for_head_in : (n : Next) (s : State) → Handed n s → N (a_for_head inner n) HeadHanded s
     unfolding a_for_head
     for_head_in n s so =
@@ -578,6 +629,7 @@ module _ (g : Given) where
         (λ e. for_words_in l.join.comments u (closes closings.In l.next u two (and_parts _ _ e).1))
         (gives two)
 
+    -- of a `for`, from its name to its `done`
     for_in_text : (n : Next) (s : State) → Handed n s → N (a_for inner n) ClosedHanded s
     unfolding a_for
     for_in_text n s so =
@@ -585,6 +637,7 @@ module _ (g : Given) where
         closing_in closings.Do h.next u two ▹ λ d v three. group_in closings.Done d.1 v three ▹ λ b w good.
         gives good
 
+    -- of the word after `case`
     case_word_in : (n : Next) (s : State) → Handed n s → N (a_case_word inner n) HandsOn s
     unfolding a_case_word
     case_word_in n s so =
@@ -592,14 +645,17 @@ module _ (g : Given) where
         (λ e. stays.words s so.within ▹ λ w t le. onward Command le ▹ λ m u good. gives good)
         (stops inner n)
 
+    -- a token is handed on after the patterns of an item so far
     abbrev PatternsHanded : PatternsSoFar → State → Type 0
     PatternsHanded p t = Handed p.next t
 
+    -- of one pattern
     pattern_in : (ws : Row AWord) (s : State) → s.at ≤ length T → N (a_pattern inner ws) PatternsHanded s
     unfolding a_pattern
     pattern_in ws s le =
         stays.words s le ▹ λ w t low. pushed_on (onward Suffix low ▹ λ n u good. gives good)
 
+    -- of one more after `|`, or of none
     pattern_turn_in : (p : PatternsSoFar) (s : State) → Handed p.next s
         → N (pattern_turn inner p) (Turned Whole g PatternsHanded) s
     unfolding pattern_turn one_pattern
@@ -612,6 +668,7 @@ module _ (g : Given) where
         (stops inner n))
         (gives so)
 
+    -- of all patterns of an item, the first of which is not `esac`
     pattern_list_in : (n : Next) (s : State) → Handed n s → N (a_pattern_list inner n) PatternsHanded s
     unfolding a_pattern_list
     pattern_list_in n s so =
@@ -620,6 +677,7 @@ module _ (g : Given) where
         tells_many Whole g (pattern_turn inner) PatternsHanded pattern_turn_in p t one)
         (stops inner n)
 
+    -- of the `(` before patterns, which may not be there
     open_bracket_in : (n : Next) (s : State) → Handed n s → N (an_open_bracket n) Handed s
     unfolding an_open_bracket
     open_bracket_in n s so =
@@ -627,15 +685,18 @@ module _ (g : Given) where
         (λ e. moved_on one_byte (read_on n s so is_paren refl e) ▹ λ x t le. next_here Command t le)
         (gives so)
 
+    -- a token is handed on after the end of an item
     abbrev EndHanded : ItemEnd → State → Type 0
     EndHanded e t = Handed e.next t
 
+    -- of `;;` or `;&`, with newlines and comments after it
     ender_in : (b : Bool) (s : State) → IsRead T (past_byte T s.at) → N (an_ender b) EndHanded s
     unfolding an_ender
     ender_in b s is =
         two_on s is ▹ λ y u le.
         sees (onward Command le ▹ λ n w one. linebreak_in [] n w one ▹ λ l z good. gives good)
 
+    -- of the end of an item, which is an ender or stands before `esac`
     item_end_in : (there : ℕ) (n : Next) (s : State) → Handed n s
         → N (an_item_end inner there n) EndHanded s
     unfolding an_item_end
@@ -643,9 +704,11 @@ module _ (g : Given) where
         picked_by (ends_item n.token) (λ e. ender_in (falls_through n.token) s (so.shows.item_end e))
         (picked_by (is_closing closings.Esac n.token) (λ e. gives so) (stops inner n))
 
+    -- a token is handed on after the items of a `case` so far
     abbrev CasesHanded : CasesSoFar → State → Type 0
     CasesHanded c t = Handed c.next t
 
+    -- of an item of a `case`, from its patterns to its end
     one_case_in : (c : CasesSoFar) (s : State) → Handed c.next s
         → N (one_case inner c) (Turned Whole g CasesHanded) s
     unfolding one_case a_body
@@ -654,12 +717,14 @@ module _ (g : Given) where
         closing_in closings.Paren ps.next v one ▹ λ k w two. lines_in k.1 w two ▹ λ b x three.
         item_end_in _ b.next x three ▹ λ e y good. pushed_on (gives good))
 
+    -- of one more item, or of none before `esac`
     case_turn_in : (c : CasesSoFar) (s : State) → Handed c.next s
         → N (case_turn inner c) (Turned Whole g CasesHanded) s
     unfolding case_turn
     case_turn_in c s so =
         picked_by (is_closing closings.Esac c.next.token) (λ e. gives so) (one_case_in c s so)
 
+    -- of the word of a `case`, its `in`, and the newlines before and after that
     case_head_in : (n : Next) (s : State) → Handed n s → N (a_case_head inner n) (λ h t. Handed h.2 t) s
     unfolding a_case_head
     case_head_in n s so =
@@ -667,6 +732,7 @@ module _ (g : Given) where
         closing_in closings.In l.next u two ▹ λ i v three.
         linebreak_in l.join.comments i.1 v three ▹ λ h x good. gives good
 
+    -- of a `case`, from its word to its `esac`
     case_in_text : (n : Next) (s : State) → Handed n s → N (a_case inner n) ClosedHanded s
     unfolding a_case
     case_in_text n s so =
@@ -674,6 +740,7 @@ module _ (g : Given) where
         tells_many Whole g (case_turn inner) CasesHanded case_turn_in (cases_so_far [] h.1 h.2) t one ▹ λ c u two.
         closing_in closings.Esac c.next u two ▹ λ e v good. gives good
 
+    -- of a compound command of each kind, from just after its opener to its closer
     form_in : (o : Opener) (n : Next) (s : State) → Handed n s → N (a_form inner o n) ClosedHanded s
     form_in openers.Brace n s so = group_in closings.Brace n s so ▹ λ l t good. gives good
     form_in openers.Paren n s so = group_in closings.Paren n s so ▹ λ l t good. gives good
@@ -683,12 +750,14 @@ module _ (g : Given) where
     form_in openers.For n s so = for_in_text n s so
     form_in openers.Case n s so = case_in_text n s so
 
+    -- of a compound command with its opener
     a_compound_in : (o : Opener) (s : State) → IsRead T s.at → N (a_compound inner o) HandsOn s
     unfolding a_compound
     a_compound_in o s is =
         reserved_or_paren_in _ (is_open_paren o) _ s is ▹ λ x t one. form_in o x.1 t one ▹ λ f u good.
         pushed_on (gives good)
 
+    -- of a function, from the `(` after its name
     a_function_in : (name : Span) (s : State) → IsRead T s.at → N (a_function inner name) HandsOn s
     unfolding a_function
     a_function_in name s is =

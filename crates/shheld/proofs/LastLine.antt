@@ -35,6 +35,7 @@ use Rattle.shheld.proofs.TopLines.{held, top_lines}
 
 -- ---- where a line ends
 
+-- the token that passes for a newline is the newline, and the one that passes for the end is the end
 newline_is : (t : Token) → is_newline_token t ≡ true → t ≡ tokens.Newline
 newline_is tokens.Newline e = refl
 newline_is _ e = absurd cc
@@ -44,6 +45,7 @@ end_is tokens.End e = refl
 end_is _ e = absurd cc
 
 module _ (g : Given) where
+  -- the text that is read
   abbrev T : List ℕ
   T = g.text
 
@@ -58,6 +60,7 @@ module _ (g : Given) where
       ⊎_elim (λ last. absurd (both_ways (raw_stands T (t.at - 1) newline_char) not_ended last))
       (λ none. let high = end_high T t.at none in omega arith) ends
 
+  -- so it is once the bodies after the newline are read
   bodies_rest : (s : State) → s.at ≤ length T → raw_stands T (s.at - 1) newline_char ≡ true
       → Tells Whole g (change bodies_here) (λ x t. Rest true t) s
   bodies_rest s le newline =
@@ -74,6 +77,7 @@ module _ (g : Given) where
       by_waiting (Some b) = tt
       by_waiting None = at
 
+  -- so it is where a line ends, at a newline token or at the end of the text
   end_rest : (inner : Inner) (n : Next) (s : State) → Handed g n s
       → Tells Whole g (end_of_line inner n) Rest s
   unfolding end_of_line past_byte
@@ -92,9 +96,11 @@ module _ (g : Given) where
       tells_then Whole g (waits_rest s (omega arith)) (λ x t at. tells_give Whole g (λ not_ended. at)))
       (stops inner n))
 
+  -- the same of a line, by what was read of it
   abbrev LineRest : Row AnEntry × Bool → State → Type 0
   LineRest l t = Rest l.1 t
 
+  -- after a line that did not end nothing is left, whether or not its bodies are filled in
   open_rest : (inner : Inner) → Stays g inner → (blank : Bool) (s : State) → s.at ≤ length T
       → Tells Whole g (an_open_line inner blank) LineRest s
   unfolding an_open_line
@@ -126,6 +132,7 @@ whole edition T a (line_stops f k part) not_ended = refl
 -- ---- the row of a text
 
 module _ (edition : Edition) where
+  -- the top-level line with which a text begins, by this edition
   abbrev Is : List ℕ → HeldLine AKind → Type 0
   Is = IsTopLine edition
 
@@ -137,6 +144,7 @@ module _ (edition : Edition) where
   abbrev HasRow : List ℕ → Type 0
   HasRow T = (row : Row (HeldLine AKind)) × IsRow Is T row
 
+  -- a text has a row of lines if each shorter one has
   row_by : (T : List ℕ) (l : HeldLine AKind) (ended : Bool) → l.ended ≡ ended → Is T l
       → ((U : List ℕ) → length U < length T → HasRow U) → HasRow T
   row_by T l true ended is rest =
@@ -146,11 +154,13 @@ module _ (edition : Edition) where
       (l ∷ one.0, more_lines is ended one.1)
   row_by T l false not_ended is rest = (l ∷ [], last_line is not_ended (whole edition T _ is not_ended))
 
+  -- each text of fewer than n bytes has one
   row_below : (n : ℕ) (T : List ℕ) → length T < n → HasRow T
   row_below zero T low = absurd (omega arith)
   row_below (suc n) T low =
       let one = some_line T in
       row_by T one.0 one.0.ended refl one.1 (λ U less. row_below n U (omega (arith, less, low)))
 
+  -- so each text has one, however long it is
   pub some_row : (T : List ℕ) → (row : Row (HeldLine AKind)) × IsRow Is T row
   some_row T = row_below (suc (length T)) T (omega arith)

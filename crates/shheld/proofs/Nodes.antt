@@ -23,6 +23,7 @@ use Rattle.shheld.proofs.TopLines.{top_lines}
 
 -- ---- one list after another
 
+-- the nodes of one list after another are those of the one and then those of the other
 nodes_appended : (es ls : Entries) → entries_nodes (appended es ls) ≡ entries_nodes es ++ entries_nodes ls
 nodes_appended no_entry ls = refl
 nodes_appended (more_entries e es) ls = ap (λ ns. entry_nodes e ++ ns) (nodes_appended es ls)
@@ -35,6 +36,7 @@ nodes_blanked blank (more_entries (entry what background b comment) es) = refl
 
 -- ---- the nodes of lines
 
+-- the nodes of a line, as they stand in the line itself
 abbrev pub kind_nodes : AKind → Row NodeLine
 kind_nodes (entries_line xs) = entries_nodes xs
 kind_nodes _ = []
@@ -47,6 +49,7 @@ abbrev pub lines_nodes : ℕ → Row (HeldLine AKind) → Row NodeLine
 lines_nodes base [] = []
 lines_nodes base (l ∷ ls) = line_nodes base l ++ lines_nodes (base + l.len) ls
 
+-- with one line more, a walk has that line's nodes after those that it had
 nodes_with : (n : ℕ) (so : Walk) (k : AKind) → EntrySpansWithin n k →
     entries_nodes (entries_with so k) ≡ entries_nodes so.entries ++ map (placed so.at) (kind_nodes k)
 nodes_with n so blank_line all = sym (append-nil (entries_nodes so.entries))
@@ -57,6 +60,7 @@ nodes_with n so (entries_line xs) all =
 nodes_with n so end_line all = sym (append-nil (entries_nodes so.entries))
 nodes_with n so (faulty_line f) all = sym (append-nil (entries_nodes so.entries))
 
+-- and with a whole row of lines it has the nodes of them all
 walk_nodes : (edition : Edition) (T : List ℕ) (row : Row (HeldLine AKind)) → IsRow (IsTopLine edition) T row →
     (so : Walk) → entries_nodes (with_lines so row).entries ≡ entries_nodes so.entries ++ lines_nodes so.at row
 walk_nodes edition T _ (last_line {h = h} is not_ended whole) so =
@@ -68,10 +72,12 @@ walk_nodes edition T _ (more_lines {h = h} {hs = hs} is ended row) so =
     (nodes_with h.len so h.kind (line_everywhere edition T (as_read h) is))
     ∙ append_assoc (entries_nodes so.entries) (line_nodes so.at h) (lines_nodes (so.at + h.len) hs)
 
+-- the nodes of a script are those of its lines, each where its line stands
 pub row_nodes : (edition : Edition) (B : List ℕ) (row : Row (HeldLine AKind)) → IsRow (IsTopLine edition) B row →
     entries_nodes (script_of row).entries ≡ lines_nodes 0 row
 row_nodes edition B row is = ap entries_nodes (row_entries edition B row is) ∙ walk_nodes edition B row is no_line
 
+-- the nodes of two rows of lines, the second of which stands where the first ends
 pub lines_nodes_append : (base : ℕ) (xs ys : Row (HeldLine AKind)) →
     lines_nodes base (xs ++ ys) ≡ lines_nodes base xs ++ lines_nodes (base + extent xs) ys
 unfolding extent
@@ -85,6 +91,7 @@ lines_nodes_append base (x ∷ xs) ys =
 
 -- ---- their places
 
+-- nodes that name no offset above n name none above base + n when they stand at the base
 kind_places : (base n : ℕ) (k : AKind) → EntrySpansWithin n k → EntryNodesWithin n k →
     All (IsWithin (base + n)) (map (placed base) (kind_nodes k))
 kind_places base n blank_line all so = All-nil (IsWithin (base + n))

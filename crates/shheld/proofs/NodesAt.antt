@@ -22,6 +22,7 @@ use Rattle.shheld.proofs.TopLines.{top_lines}
 
 -- ---- nodes where a text begins
 
+-- at the base 0 nothing moves: no name, no node and no row of nodes
 name_here : (name : Option Span) → option_map (placed_span 0) name ≡ name
 name_here None = refl
 name_here (Some s) =
@@ -41,22 +42,27 @@ all_here (n ∷ ns) = rw (here n, all_here ns) refl
 
 -- ---- no node holds a byte before its line, or after it
 
+-- what ends at n or before that holds no byte from n on
 past : (at s e n : ℕ) → e ≤ n → n ≤ at → (nat_le s at && nat_lt at e) ≡ false
 past at s e n low high = grind (arith, nat_tests)
 
+-- and what begins at a base or after that holds no byte before it
 not_yet : (base at s e : ℕ) → at < base → (nat_le (base + s) at && nat_lt at (base + e)) ≡ false
 not_yet base at s e low = grind (arith, nat_tests)
 
+-- no node that ends at n or before that holds a byte from n on
 pub none_past : (at n : ℕ) (ns : Row NodeLine) → All (IsWithin n) ns → n ≤ at → filter (holds at) ns ≡ []
 none_past at n [] within high = refl
 none_past at n (m ∷ ms) within high =
     rw (past at m.start m.«end» n (All-head (IsWithin n) m ms within).«end» high)
     (none_past at n ms (All-tail (IsWithin n) m ms within) high)
 
+-- no node of a line holds a byte before the base where the line begins
 none_yet : (base at : ℕ) (ns : Row NodeLine) → at < base → filter (holds at) (map (placed base) ns) ≡ []
 none_yet base at [] low = refl
 none_yet base at (n ∷ ns) low = rw (not_yet base at n.start n.«end» low) (none_yet base at ns low)
 
+-- nor does a node of the lines from the base on
 none_after : (base at : ℕ) (ls : Row (HeldLine AKind)) → at < base → filter (holds at) (lines_nodes base ls) ≡ []
 none_after base at [] low = refl
 none_after base at (l ∷ ls) low =
@@ -64,8 +70,7 @@ none_after base at (l ∷ ls) low =
     ∙ ap (λ ns. ns ++ filter (holds at) (lines_nodes (base + l.len) ls)) (none_yet base at (kind_nodes l.kind) low)
     ∙ none_after (base + l.len) at ls (omega arith)
 
--- of the lines from the base on, none of which begins past the byte, those that stand before one that holds
--- it
+-- the nodes that hold a byte are those of the line in which it stands
 held_by : (edition : Edition) (T : List ℕ) (before : Row (HeldLine AKind)) (l : HeldLine AKind)
     (rest : Row (HeldLine AKind)) → IsRow (IsTopLine edition) T (before ++ l ∷ rest) → (base at : ℕ)
     → base + extent before ≤ at → at < base + extent before + l.len →
@@ -91,6 +96,7 @@ held_by edition T (x ∷ xs) l rest row base at low high =
 
 -- ---- the nodes that are asked for
 
+-- a line tells the same nodes, whether they are picked before they are put in order or after that
 asked : (base at : ℕ) (k : AKind) →
     in_order (filter (holds at) (map (placed base) (kind_nodes k))) ≡ line_nodes_at base at k
 asked base at blank_line = refl
@@ -98,6 +104,7 @@ asked base at (entries_line xs) = sym (filter-in_order (holds at) (map (placed b
 asked base at end_line = refl
 asked base at (faulty_line f) = refl
 
+-- the nodes of a script that hold a byte are those of its lines that do, in order
 script_asked : (edition : Edition) (B : List ℕ) (row : Row (HeldLine AKind)) → IsRow (IsTopLine edition) B row →
     (at : ℕ) → nodes_at 0 at (script_of row).entries ≡ in_order (filter (holds at) (lines_nodes 0 row))
 script_asked edition B row is at =
@@ -127,6 +134,7 @@ row_nodes_past edition B row is at high =
 
 -- ---- as an answer for the bytes
 
+-- the grammar gives a script for them whose nodes at the byte are those that the line tells
 pub row_has_nodes : (edition : Edition) (B : List ℕ) (before : Row (HeldLine AKind)) (l : HeldLine AKind)
     (rest : Row (HeldLine AKind)) → IsRow (IsTopLine edition) B (before ++ l ∷ rest) → (at : ℕ)
     → extent before ≤ at → at < extent before + l.len → (script : AScript) × Outcome edition B script
@@ -137,6 +145,7 @@ row_has_nodes edition B before l rest row at low high = (
   sym (row_nodes_at edition B before l rest row at low high),
 )
 
+-- and one with no node there, where the offset is at or past the end of the bytes
 pub row_has_none : (edition : Edition) (B : List ℕ) (row : Row (HeldLine AKind)) → IsRow (IsTopLine edition) B row →
     (at : ℕ) → length B ≤ at → (script : AScript) × Outcome edition B script × ([] ≡ nodes_at 0 at script.entries)
 row_has_none edition B row is at high =

@@ -21,6 +21,7 @@ module _ (edition : Edition) (B : List ℕ) (before : Row (HeldLine AKind)) (l :
       subst (λ p. IsTopLine edition (drop p B) l) same
       (row_head (IsTopLine edition) (drop (0 + extent before) B) l rest here.1)
 
+  -- it ends in the text
   pub row_line_within : extent before + l.len ≤ length B
   unfolding extent
   row_line_within = omega (

@@ -16,6 +16,7 @@ use Rattle.shheld.proofs.TopLines.{top_lines}
 
 -- ---- the script of a row
 
+-- a row of the text from p on is a row of lines as the grammar has them there
 lines_by : (edition : Edition) (B : List ℕ) (p : ℕ) (T : List ℕ) (row : Row (HeldLine AKind)) → T ≡ drop p B →
     IsRow (IsTopLine edition) T row → AreLines edition B p (map as_read row)
 lines_by edition B p T _ at (last_line {h = h} is not_ended whole) =
@@ -24,10 +25,12 @@ lines_by edition B p T _ at (more_lines {h = h} {hs = hs} is ended row) =
     more_of (as_read h) (map as_read hs) (subst (λ U. IsTopLine edition U h) at is) ended
     (lines_by edition B (p + h.len) (drop h.len T) hs (ap (drop h.len) at ∙ drop-drop h.len p B) row)
 
+-- and so is that of the whole text
 pub row_lines : (edition : Edition) (B : List ℕ) (row : Row (HeldLine AKind)) → IsRow (IsTopLine edition) B row →
     AreLines edition B 0 (map as_read row)
 row_lines edition B row is = lines_by edition B 0 B row refl is
 
+-- the script of a row is what the grammar gives for the text
 pub row_outcome : (edition : Edition) (B : List ℕ) (row : Row (HeldLine AKind)) → IsRow (IsTopLine edition) B row →
     Outcome edition B (script_of row)
 row_outcome edition B row is = script_joined edition B (map as_read row) (row_lines edition B row is)
@@ -41,6 +44,7 @@ GoesOn (entries_line xs) = Unit {0}
 GoesOn end_line = ⊥
 GoesOn (faulty_line f) = ⊥
 
+-- a line that ended has no fault and is not the end of the text; the same of a held line
 kind_on : (edition : Edition) (T : List ℕ) (a : ALine) → IsLine edition T a → a.ended ≡ true → GoesOn a.kind
 kind_on edition T a (line_read [] true t k part) ended = tt
 kind_on edition T a (line_read [] false t k part) ended = absurd cc
@@ -51,6 +55,7 @@ pub goes_on : (edition : Edition) (T : List ℕ) (l : HeldLine AKind) → IsTopL
     GoesOn l.kind
 goes_on edition T l is ended = kind_on edition T (as_read l) is ended
 
+-- after such a line the script goes on with what a walk has gathered with it
 on_by : (k : AKind) → GoesOn k → (rest : Entries → Bool → AScript) (so : Walk) →
     line_joined_by rest k so.entries so.gap so.at ≡ rest (entries_with so k) (has_none k)
 on_by blank_line so rest walk = refl
@@ -58,6 +63,7 @@ on_by (entries_line xs) so rest walk = refl
 on_by end_line so rest walk = absurd so
 on_by (faulty_line f) so rest walk = absurd so
 
+-- the script of what a walk has gathered, and of the lines after that
 abbrev from_walk : Walk → Row (HeldLine AKind) → AScript
 from_walk so row = lines_joined (map as_read row) so.entries so.gap so.at
 
@@ -79,6 +85,7 @@ line_last l so = by_kind l.kind
     by_kind end_line = refl
     by_kind (faulty_line f) = refl
 
+-- its entries are what the walk gathers over these lines
 entries_from : (edition : Edition) (T : List ℕ) (row : Row (HeldLine AKind)) → IsRow (IsTopLine edition) T row →
     (so : Walk) → (from_walk so row).entries ≡ (with_lines so row).entries
 entries_from edition T _ (last_line {h = h} is not_ended whole) so = ap (λ (s : AScript). s.entries) (line_last h so)
@@ -93,6 +100,7 @@ row_entries edition B row is = entries_from edition B row is no_line
 
 -- ---- its first fault
 
+-- its fault is that of the last line, where that stands
 fault_from : (edition : Edition) (T : List ℕ) (ended : Row (HeldLine AKind)) (last : HeldLine AKind) →
     IsRow (IsTopLine edition) T (ended ++ last ∷ []) → (so : Walk)
     → (from_walk so (ended ++ last ∷ [])).fault ≡ fault_at (so.at + extent ended) last.kind
@@ -115,6 +123,7 @@ pub last_at : (edition : Edition) (B : List ℕ) (ended : Row (HeldLine AKind)) 
 last_at edition B ended last row = sym (extent_push ended last)
     ∙ row_extent (IsTopLine edition) (top_lines edition) B (ended ++ last ∷ []) row
 
+-- the script of a row has the fault of its last line, or none if that has none
 pub row_wrong : (edition : Edition) (B : List ℕ) (ended : Row (HeldLine AKind)) (last : HeldLine AKind) →
     IsRow (IsTopLine edition) B (ended ++ last ∷ []) →
     (script_of (ended ++ last ∷ [])).fault ≡ fault_at (extent ended) last.kind

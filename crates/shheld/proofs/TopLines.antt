@@ -20,12 +20,15 @@ use Rattle.shwindow.specs.Lines.{Reads}
 use Rattle.shwindow.specs.declared.line.HeldLine.{HeldLine}
 use Rattle.shheld.specs.TopLines.{IsTopLine, as_read}
 
+-- a line as the grammar tells it, among held lines
 abbrev pub held : ALine → HeldLine AKind
 held l = record { kind = l.kind; len = l.next; ended = l.ended }
 
+-- a text begins with one top-level line
 only : (edition : Edition) (T : List ℕ) (l m : HeldLine AKind) → IsTopLine edition T l → IsTopLine edition T m → l ≡ m
 only edition T l m one two = ap held (line_only edition T (as_read l) one ∙ sym (line_only edition T (as_read m) two))
 
+-- a place where a newline stands is in the text
 byte_within : (T : List ℕ) (p : ℕ) (b : Option ℕ) → slice_get T p ≡ b → is_byte b newline_char ≡ true → p < length T
 byte_within T p None is e = absurd cc
 byte_within T p (Some b) is e = slice_get_within T p b is
@@ -47,6 +50,7 @@ ended_by edition T a (line_read es newline t k part) ended =
     (some, omega (arith, some, high))
 ended_by edition T a (line_stops f k part) ended = absurd cc
 
+-- top-level lines keep to each law of `Reads`
 pub top_lines : (edition : Edition) → Reads (IsTopLine edition)
 top_lines edition = record {
   only = only edition;

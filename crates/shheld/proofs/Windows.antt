@@ -10,19 +10,23 @@ use Rattle.shheld.proofs.LastLine.{some_line}
 use Rattle.shheld.proofs.TopLines.{top_lines}
 
 module _ (edition : Edition) (bytes : List ℕ) (ss : Row ASplice) where
+  -- the window of the edit is from w up to t
   abbrev Has : ℕ → ℕ → Type 0
   Has w t = HasWindow edition bytes ss w t
 
+  -- there is one
   pub some : (w t : ℕ) × Has w t
   some =
       some_window (IsTopLine edition) (top_lines edition) (some_line edition)
       bytes (edited bytes ss) (first_begin ss) (new_end ss) (last_end ss)
 
+  -- and no other
   pub only : (w v t u : ℕ) → Has w t → Has v u → (w ≡ v) × (t ≡ u)
   only w v t u x y =
       window_only (IsTopLine edition)
       bytes (edited bytes ss) (first_begin ss) (new_end ss) (last_end ss) w v t u x y
 
+  -- it begins where the first splice does or before that, and lies in the new text
   pub order : (w t : ℕ) → AreInRange (length bytes) ss → Rise ss → Has w t
       → (w ≤ first_begin ss) × (w ≤ t) × (t ≤ length (edited bytes ss))
   order w t range rising x =

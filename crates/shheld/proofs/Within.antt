@@ -13,6 +13,7 @@ use Rattle.shheld.specs.TopLines.{IsTopLine, as_read}
 
 module _ (edition : Edition) (T : List ℕ) (l : HeldLine AKind) (xs : Entries) (is : IsTopLine edition T l)
     (kind_is : l.kind ≡ entries_line xs) where
+  -- no span of the line goes past its end, and each simple command in it has an item
   everywhere : EntrySpansWithin l.len (entries_line xs)
   everywhere = subst (EntrySpansWithin l.len) kind_is (line_everywhere edition T (as_read l) is)
 

@@ -17,6 +17,7 @@ each_turn_on g one a s y k (more_on {b = b} {t = t} {k = k1} {l = l} p on next) 
     more (one a s _ k1 p) on (each_turn_on g one b t y l next)
 each_turn_on g one a s y k (halts_on p) = halts (one a s _ k p)
 
+-- the same of every form
 pub back : {X : Type 0} (g : Given) (r : Form X) → Each (may_onward r g) (may r g)
 back g (give x) s y k p = p
 back g (see f) s y k p = p
@@ -33,6 +34,7 @@ back g (with_bytes r) s y k p = each_bytes g (back g r) s y k p
 back g (a_level r) s y k p = each_level (back g r) s y k p
 back g (in_substitution r) s y k p = back g r s y k p
 
+-- the same of the line at p of a script, of the lines from p on, and of all of them
 line_back : (edition : Edition) (B : List ℕ) (so : LinesSoFar) (p : ℕ) (x : Read (Row AnEntry × Bool))
     (k : Row Spelled) → LineOnward edition B so p x k
     → may (the_line (is_blank_line so)) (given edition (drop p B) p) (standing 0) x k

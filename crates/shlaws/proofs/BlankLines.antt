@@ -8,12 +8,14 @@ use Rattle.shgrammar.specs.Lists.{Listed, is_blank_next, next_line, none_listed,
 use Rattle.shgrammar.specs.Scripts.{LinesSoFar, is_blank_line, nothing_yet, with_line}
 use Rattle.shlaws.specs.Blank.{past_empty_lines, past_newlines}
 
+-- a row with an element more is not empty
 pub not_empty : {A : Type 0} (es : Row A) (e : A) → is_empty (es ++ e ∷ []) ≡ false
 not_empty [] e = refl
 not_empty (x ∷ xs) e = refl
 
 -- ---- lists
 
+-- newline tokens add no entry to a list
 same_entries : (n : ℕ) (l : Listed) → (past_newlines n l).entries ≡ l.entries
 same_entries zero l = refl
 same_entries (suc n) l = same_entries n l
@@ -29,12 +31,14 @@ after_entry l (suc zero) begun some =
     (λ is. absurd (let both : true ≡ false = sym is ∙ no in cc), λ le. absurd (omega arith))
 after_entry l (suc (suc n)) begun some = (λ is. omega arith, λ le. rw (same_entries n l, some) refl)
 
+-- before the first entry of a list no newline tokens make it blank
 pub before_all : (n : ℕ) → is_blank_next (past_newlines n (none_listed false)) ≡ false
 before_all zero = refl
 before_all (suc n) =
     let begun = (past_newlines n (none_listed false)).begun in
     rw (same_entries n (none_listed false)) (and-true (not begun && false) ∙ and-false (not begun))
 
+-- after a command, and after a comment, the next entry is blank just where 2 newline tokens or more follow
 pub after_command : (l : Listed) (es : Row AnEntry) (e : AnEntry) (parted : Option ℕ) (n : ℕ)
     → (is_blank_next (past_newlines n (with_command l (es ++ e ∷ []) parted)) ≡ true) ↔ (2 ≤ n)
 after_command l es e parted n = after_entry (with_command l (es ++ e ∷ []) parted) n refl (not_empty es e)
@@ -45,6 +49,7 @@ after_remark l es e n = after_entry (with_remark l (es ++ e ∷ [])) n refl (not
 
 -- ---- scripts
 
+-- after lines without entries a script has entries just where it had some before
 same_so_far : (n : ℕ) (so : LinesSoFar) → is_empty (past_empty_lines n so).entries ≡ is_empty so.entries
 same_so_far zero so = refl
 same_so_far (suc n) so = nothing_more (past_empty_lines n so).entries ∙ same_so_far n so
@@ -53,10 +58,12 @@ same_so_far (suc n) so = nothing_more (past_empty_lines n so).entries ∙ same_s
     nothing_more [] = refl
     nothing_more (x ∷ xs) = refl
 
+-- a row is not empty that ends in one that is not empty
 some_then : (one more : Row AnEntry) → is_empty more ≡ false → is_empty (one ++ more) ≡ false
 some_then [] more some = some
 some_then (x ∷ xs) more some = refl
 
+-- after a line with entries, and n without, the next entry is blank just where n + 1 is 2 or more
 pub after_line : (so : LinesSoFar) (es : Row AnEntry) (e : AnEntry) (n : ℕ)
     → (is_blank_line (past_empty_lines n (with_line so (es ++ e ∷ []))) ≡ true) ↔ (2 ≤ n + 1)
 after_line so es e zero =
@@ -68,10 +75,12 @@ after_line so es e (suc n) =
     same_so_far (suc n) l ∙ some_then so.entries (es ++ e ∷ []) (not_empty es e) in
     (λ is. omega arith, λ le. ap not some)
 
+-- no lines without entries make the first entry of a script blank
 pub no_line_before : (n : ℕ) → is_blank_line (past_empty_lines n nothing_yet) ≡ false
 no_line_before zero = refl
 no_line_before (suc n) = ap not (same_so_far (suc n) nothing_yet)
 
+-- the first entry of a line is blank just where that is told before the line
 pub told : (blank : Bool) → is_blank_next (none_listed blank) ≡ blank
 told true = refl
 told false = refl

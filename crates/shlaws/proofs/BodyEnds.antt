@@ -37,11 +37,13 @@ none_at_start T p (suc q) start =
     (raw_stands T q backslash) (newline_other T q (rw one at later.1))) start in
     rw none refl
 
+-- a backslash more makes an odd number one that is not, or the other way; any other byte makes it 0
 odd_more : (is : Bool) (n : ℕ) (odd : Bool) → odd ≡ is_odd n → (is && not odd) ≡ is_odd (cond is (1 + n) 0)
 unfolding is_odd
 odd_more true n odd same = let next : 1 + n ≡ suc n = omega arith in rw (same, next) refl
 odd_more false n odd same = refl
 
+-- inside the text a backslash stands at q just where the byte there is one
 backslash_at : (T : List ℕ) (q : ℕ) → q < length T → raw_stands T q backslash ≡ (get_or T q 0 == backslash)
 unfolding raw_stands
 backslash_at T q lt = ap (λ b. is_byte b backslash) (slice_get-get_or T q 0 lt)
@@ -71,7 +73,7 @@ line_odd T p r (suc k) low start within =
 
 -- ---- from line to line
 
--- the line after a newline
+-- the next newline is one, where it stands in the text
 newline_at : (T : List ℕ) (r : ℕ) → next_newline T r < length T → slice_get T (next_newline T r) ≡ Some newline_char
 unfolding raw_in
 newline_at T r lt =
@@ -80,6 +82,7 @@ newline_at T r lt =
     ap (passes (λ b. not (b == newline_char))) (sym byte) ∙ raw_past_stops (λ b. not (b == newline_char)) T r in
     byte ∙ ap (λ (b : ℕ). Some b) (eqb-true (get_or T (next_newline T r) 0) newline_char (not-false _ stops))
 
+-- before the next newline none stands
 no_newline : (T : List ℕ) (r k : ℕ) → r ≤ k → k < next_newline T r → ¬ (slice_get T k ≡ Some newline_char)
 unfolding raw_in
 no_newline T r k le lt is =
@@ -87,9 +90,11 @@ no_newline T r k le lt is =
     (raw_past_all (λ b. not (b == newline_char)) T r k le lt)
 
 module _ (T : List ℕ) (w : Waiting) (p : ℕ) where
+  -- at q begins the line of the delimiter
   abbrev Line : ℕ → Type 0
   Line q = IsDelimiterLine T w p q
 
+  -- a line takes its newline just where the next line is taken in
   taken_on : (r : ℕ) → p ≤ r → BeginsLine T p r → r < length T → past_line T r < length T
       → takes_newline w (rest_of_line T r) ≡ is_taken_in T w p (past_line T r)
   taken_on r low start some more =
@@ -98,6 +103,7 @@ module _ (T : List ℕ) (w : Waiting) (p : ℕ) where
       let end : past_line T r - 1 ≡ r + k = omega arith in
       rw (end, line_odd T p r k low start (omega arith)) refl
 
+  -- where a line does not end the text, the next one begins after it
   start_on : (r : ℕ) → p ≤ r → past_line T r < length T → BeginsLine T p (past_line T r)
   start_on r low more =
       let far = next_newline_low T r in
@@ -111,13 +117,16 @@ module _ (T : List ℕ) (w : Waiting) (p : ℕ) where
       (λ (later : (p < m) × (slice_get T (m - 1) ≡ Some newline_char)). no_newline T r (m - 1) (omega arith)
       (omega arith) later.1) start
 
+  -- what a search finds: the first line of the delimiter, or that there is none
   abbrev Outcome : Option ℕ → Type 0
   Outcome None = (q : ℕ) → ¬ Line q
   Outcome (Some q) = IsFirstDelimiterLine T w p q
 
+  -- where no such line begins before r, and the text goes no further, there is none
   none_left : (r : ℕ) → length T ≤ r → ((m : ℕ) → m < r → ¬ Line m) → (q : ℕ) → ¬ Line q
   none_left r end before q line = before q (omega (arith, line.inside)) line
 
+  -- a line that is not taken in and is the delimiter is the first such line, where none begins before it
   found : (r : ℕ) (taken : Bool) → r < length T → BeginsLine T p r → taken ≡ is_taken_in T w p r
       → ((m : ℕ) → m < r → ¬ Line m)
       → (not taken && is_delimiter w (rest_of_line T r)) ≡ true → IsFirstDelimiterLine T w p r
@@ -133,6 +142,7 @@ module _ (T : List ℕ) (w : Waiting) (p : ℕ) where
         first = before;
       }
 
+  -- a line that is taken in, or is not the delimiter, is no such line
   other_here : (r : ℕ) (taken : Bool) → taken ≡ is_taken_in T w p r
       → (not taken && is_delimiter w (rest_of_line T r)) ≡ false → ¬ Line r
   other_here r taken same other line =
@@ -141,6 +151,7 @@ module _ (T : List ℕ) (w : Waiting) (p : ℕ) where
       let both : (not taken && is_delimiter w (rest_of_line T r)) ≡ true = rw (apart, here) refl in
       both_ways _ other both
 
+  -- where neither the line at r nor one before it is such a line, none before the next line is
   before_on : (r : ℕ) → p ≤ r → ((m : ℕ) → m < r → ¬ Line m) → ¬ Line r → (m : ℕ) → m < past_line T r
       → ¬ Line m
   before_on r low before here m near line =
@@ -165,15 +176,18 @@ module _ (T : List ℕ) (w : Waiting) (p : ℕ) where
       (λ lt. taken_on r low (start some) some lt)
       (before_on r low before (other_here r taken (same some) other))))
 
+  -- no such line begins before the body does
   none_before : (m : ℕ) → m < p → ¬ Line m
   none_before m lt line =
       ⊎_elim (λ (same : m ≡ p). absurd (omega arith))
       (λ (later : (p < m) × (slice_get T (m - 1) ≡ Some newline_char)). absurd (omega arith)) line.start
 
+  -- the line with which the body begins is not taken in
   first_apart : is_taken_in T w p p ≡ false
   unfolding is_odd
   first_apart = and_right (not w.literal) _ (ap is_odd (none_outside T p (p - 1) (omega arith)))
 
+  -- what is found from the start of the body on is the first such line, or that there is none
   outcome : Outcome (delimiter_from T w p)
   unfolding delimiter_on
   outcome =
@@ -182,12 +196,14 @@ module _ (T : List ℕ) (w : Waiting) (p : ℕ) where
 
   -- ---- both ways
 
+  -- no two lines are the first one
   one_first : (m q : ℕ) → IsFirstDelimiterLine T w p m → IsFirstDelimiterLine T w p q → m ≡ q
   one_first m q a b =
       ⊎_elim (λ (same : m ≡ q). same)
       (⊎_elim (λ (lt : m < q). absurd (b.first m lt a.line)) (λ (gt : q < m). absurd (a.first q gt b.line)))
       (cases_order m q)
 
+  -- where q is the first such line, the search has found it; where there is none, it has found none
   some_back : (q : ℕ) (o : Option ℕ) → Outcome o → IsFirstDelimiterLine T w p q → o ≡ Some q
   some_back q None never a = absurd (never q a.line)
   some_back q (Some m) here a = ap (λ (n : ℕ). Some n) (one_first m q here a)
@@ -196,8 +212,10 @@ module _ (T : List ℕ) (w : Waiting) (p : ℕ) where
   none_back None never none = refl
   none_back (Some m) here none = absurd (none m here.line)
 
+  -- the body ends before the line at q just where that is the first line of the delimiter
   pub first_line : (q : ℕ) → (delimiter_from T w p ≡ Some q) ↔ IsFirstDelimiterLine T w p q
   first_line q = (λ is. subst Outcome is outcome, λ a. some_back q (delimiter_from T w p) outcome a)
 
+  -- it ends nowhere just where there is none
   pub no_line : (delimiter_from T w p ≡ None) ↔ ((q : ℕ) → ¬ IsDelimiterLine T w p q)
   no_line = (λ is. subst Outcome is outcome, λ none. none_back (delimiter_from T w p) outcome none)

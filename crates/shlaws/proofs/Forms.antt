@@ -31,21 +31,26 @@ module _ (g : Given) where
 
   -- ---- what is given, seen and passed
 
+  -- where P holds of x, it holds of each outcome of a form that only gives x
   just_by : {X : Type 0} (P : X → State → Type 0) (x : X) (s : State) → P x s → (y : Read X) (k : Row Spelled)
       → Just x s y k → Just x s y k × Holds P y
   just_by P x s so y k just = (just, so)
 
+  -- x is given, of which P holds
   pub gives : {X : Type 0} {P : X → State → Type 0} {x : X} {s : State} → P x s → Goes (give x) P s
   gives {P = P} {x = x} {s = s} so = record { on = just_by P x s so }
 
+  -- a fault is the only outcome of a stop; of a fault nothing is said
   halts_by : {X : Type 0} (P : X → State → Type 0) (f : Fault) (y : Read X) (k : Row Spelled) → Halts f y k
       → Halts f y k × Holds P y
   halts_by P f y k halted = (halted, tt)
 
+  -- the reading stops: whatever P is, nothing is read of which it has to hold
   pub stops : {X : Type 0} {P : X → State → Type 0} {kind : FaultKind} {at : ℕ} {s : State}
       → Goes (stop {X = X} kind at) P s
   stops {P = P} {kind = kind} {at = at} = record { on = halts_by P (record { kind = kind; at = at }) }
 
+  -- each outcome of one form and then another is read where each turn leads on; of it Q holds
   then_by : {X Y : Type 0} {P : X → State → Type 0} {Q : Y → State → Type 0} {r : Form X} {q : X → Form Y}
       {s : State} → Goes r P s → ((x : X) (t : State) → P x t → Goes (q x) Q t)
       → (y : Read Y) (k : Row Spelled) → Then (may r g) (λ x. may (q x) g) s y k
@@ -90,6 +95,7 @@ module _ (g : Given) where
 
   -- ---- one form, or another
 
+  -- the same of each outcome of one form or another, by a test
   either_by : {X : Type 0} {P : X → State → Type 0} {r q : Form X} {s : State} (test : Bool)
       → (test ≡ true → Goes r P s) → (test ≡ false → Goes q P s)
       → (y : Read X) (k : Row Spelled) → Either test (may r g) (may q g) s y k
@@ -102,10 +108,12 @@ module _ (g : Given) where
       → (seen f g s ≡ true → Goes r P s) → (seen f g s ≡ false → Goes q P s) → Goes (when f r q) P s
   whens_by {f = f} {s = s} one two = record { on = either_by (seen f g s) one two }
 
+  -- and whatever is seen, where P holds after both forms
   pub whens : {X : Type 0} {P : X → State → Type 0} {f : Sight Bool} {r q : Form X} {s : State} → Goes r P s
       → Goes q P s → Goes (when f r q) P s
   whens one two = whens_by (λ e. one) (λ e. two)
 
+  -- by a flag that is known, and whatever it is
   pub picks_by : {X : Type 0} {P : X → State → Type 0} (b : Bool) {r q : Form X} {s : State}
       → (b ≡ true → Goes r P s) → (b ≡ false → Goes q P s) → Goes (pick b r q) P s
   picks_by true one two = one refl
@@ -117,6 +125,7 @@ module _ (g : Given) where
 
   -- ---- what is read as a whole
 
+  -- each outcome of one token is read where each turn leads on; P holds of what is read in it
   token_by : {X : Type 0} {P : X → State → Type 0} {how : Telling} {r : Form X} {s : State} → Goes r P s
       → (y : Read (X × Span)) (k : Row Spelled) → OneToken how g (may r g) s y k
       → OneToken how g (may_onward r g) s y k × Holds (λ (x : X × Span) (t : State). P x.0 t) y
@@ -128,6 +137,7 @@ module _ (g : Given) where
       → Goes (token how r) (λ x t. P x.0 t) s
   tokens one = record { on = token_by one }
 
+  -- the same of what is read with its bytes
   bytes_by : {X : Type 0} {P : X → State → Type 0} {r : Form X} {s : State} → Goes r P s
       → (y : Read (X × Spelled)) (k : Row Spelled) → WithBytes g (may r g) s y k
       → WithBytes g (may_onward r g) s y k × Holds (λ (x : X × Spelled) (t : State). P x.0 t) y
@@ -140,6 +150,7 @@ module _ (g : Given) where
       → Goes (with_bytes r) (λ x t. P x.0 t) s
   with_the_bytes one = record { on = bytes_by one }
 
+  -- each outcome of a level of its own is read where each turn leads on
   level_by : {X : Type 0} {P : X → State → Type 0} {r : Form X} {s : State} → Goes r P (own_level s)
       → (y : Read (X × Row Span)) (k : Row Spelled) → OwnLevel (may r g) s y k
       → OwnLevel (may_onward r g) s y k × Holds (λ (x : X × Row Span) (t : State). Unit {0}) y
@@ -151,6 +162,7 @@ module _ (g : Given) where
       → Goes (a_level r) (λ x t. Unit {0}) s
   in_level one = record { on = level_by one }
 
+  -- the same of a form in which the end of the text is another fault; P holds after it
   ending_by : {X : Type 0} {P : X → State → Type 0} {kind : FaultKind} {at : ℕ} {r : Form X} {s : State}
       → Goes r P s → (y : Read X) (k : Row Spelled)
       → Ending kind at (may r g) s y k → Ending kind at (may_onward r g) s y k × Holds P y
@@ -163,10 +175,12 @@ module _ (g : Given) where
       → Goes r P s → Goes (ends_as kind at r) P s
   ending one = record { on = ending_by one }
 
+  -- what stands in a command substitution is read as it is outside of one
   pub in_subst : {X : Type 0} {P : X → State → Type 0} {r : Form X} {s : State} → Goes r P s
       → Goes (in_substitution r) P s
   in_subst one = record { on = one.on }
 
+  -- a change has the same outcomes; nothing is said of what it gives
   change_by : (x : Result State Fault) (y : Read (Unit {0})) (k : Row Spelled) → Changed x y k
       → Changed x y k × Holds (λ (z : Unit {0}) (t : State). Unit {0}) y
   change_by x y k (changes so) = (changes so, tt)
@@ -178,11 +192,13 @@ module _ (g : Given) where
 
   -- ---- what follows
 
+  -- where P holds of what is read, Q does that follows from it
   so_by : {X : Type 0} {P Q : X → State → Type 0} → ((x : X) (t : State) → P x t → Q x t) → (y : Read X)
       → Holds P y → Holds Q y
   so_by so (Ok (x, t)) one = so x t one
   so_by so (Err f) one = tt
 
+  -- the same of what a form reads
   pub follows : {X : Type 0} {P Q : X → State → Type 0} {r : Form X} {s : State} → Goes r P s
       → ((x : X) (t : State) → P x t → Q x t) → Goes r Q s
   follows one so = record { on = λ y k part. let a = one.on y k part in (a.0, so_by so y a.1) }
@@ -205,6 +221,7 @@ module _ (g : Given) where
   Stepped P Q s (again a) t = (leads_on g s t ≡ true) × P a t
   Stepped P Q s (done a) t = Q a t
 
+  -- each outcome of turns is one of turns that lead on, where P holds before each; after the last Q does
   turns_by : {A : Type 0} {P Q : A → State → Type 0} {turn : A → Form (Step A)}
       → ((a : A) (s : State) → P a s → Goes (turn a) (Stepped P Q s) s)
       → (a : A) (s : State) → P a s → (y : Read A) (k : Row Spelled) → Turns g (λ b. may (turn b) g) a s y k
@@ -231,6 +248,7 @@ module _ (g : Given) where
   Turned P Q (again a) t = P a t
   Turned P Q (done a) t = Q a t
 
+  -- where less is left at t than at s, a turn that ends at t or after it leads on from s
   led_by : {A : Type 0} (P Q : A → State → Type 0) (s t : State) → leads_on g s t ≡ true
       → (c : Step A) (u : State) → Turned P Q c u × (t.at ≤ u.at) → Stepped P Q s c u
   led_by P Q s t on (again a) u so = (leads_far g s s t u (omega arith) so.1 on, so.0)
@@ -243,14 +261,17 @@ module _ (g : Given) where
 
   -- ---- repetitions where the same holds before and after each turn
 
+  -- what a turn gives that begins at s, where P holds after it whether it is the last or not
   abbrev pub Steps : {A : Type 0} → (A → State → Type 0) → State → Step A → State → Type 0
   Steps P s c t = Stepped P P s c t
 
+  -- P holds before each turn and after the last
   pub repeats : {A : Type 0} (P : A → State → Type 0) {turn : A → Form (Step A)}
       → ((a : A) (s : State) → P a s → Goes (turn a) (Steps P s) s)
       → (a : A) (s : State) → P a s → Goes (many turn a) P s
   repeats P each a s so = repeats_until {P = P} {Q = P} each a s so
 
+  -- a turn that has led on leads on where something of it is still to be read
   pub led : {A : Type 0} (P : A → State → Type 0) {r : Form (Step A)} (s : State) {t : State}
       → leads_on g s t ≡ true → Goes r (Turned P P) t → Goes r (Steps P s) t
   led P s on one = led_until P P s on one

@@ -9,10 +9,12 @@ use Rattle.shlaws.specs.Onward.{idle, last as last_on, more as more_on, halts as
 stays : (g : Given) (s : State) → leads_on g s s ≡ false
 stays g s = le-ltb _ _ (omega arith)
 
+-- it may rest where it begins, without a token passed
 pub idle_rests : (g : Given) (s : State) → may idle g s (Ok (tt, s)) []
 unfolding many
 idle_rests g s = rests just (stays g s)
 
+-- where each turn leads on, it comes to no end and to no fault
 pub idle_never : (g : Given) (s : State) (y : Read (Unit {0})) (k : Row Spelled) → may_onward idle g s y k → ⊥
 unfolding many
 idle_never g s y k (more_on just on then) = both_ways (leads_on g s s) (stays g s) on

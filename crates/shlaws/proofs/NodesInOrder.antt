@@ -12,27 +12,34 @@ use Rattle.shlaws.specs.Order.{AreInOrder, HaveTheSameAtEachPlace, MayPrecede, s
 
 -- ---- two places
 
+-- from s up to e goes before from t up to f: it starts before it, or there too and is longer
 abbrev is_before : ℕ → ℕ → ℕ → ℕ → Bool
 is_before s e t f = is_lt (ordering_then (nat_cmp s t) (nat_cmp f e))
 
+-- it goes before it, or both are at one place
 abbrev Precedes : ℕ → ℕ → ℕ → ℕ → Type 0
 Precedes s e t f = (s < t) ⊎ ((s ≡ t) × (f ≤ e))
 
+-- what goes before may stand before
 before_precedes : (s e t f : ℕ) → is_before s e t f ≡ true → Precedes s e t f
 before_precedes s e t f is = grind (arith, nat_tests)
 
+-- what does not go before may stand after
 other_precedes : (s e t f : ℕ) → is_before s e t f ≡ false → Precedes t f s e
 other_precedes s e t f is = grind (arith, nat_tests)
 
+-- of two at one place none goes before the other
 at_one_place : (s e t f : ℕ) → s ≡ t → e ≡ f → is_before s e t f ≡ false
 at_one_place s e t f one two = grind (arith, nat_tests)
 
+-- what may stand before the second, which may before the third, may before the third
 precedes_on : (s e t f u g : ℕ) → Precedes s e t f → Precedes t f u g → Precedes s e u g
 precedes_on s e t f u g (inl a) (inl b) = inl (omega arith)
 precedes_on s e t f u g (inl a) (inr b) = inl (omega (arith, b.0))
 precedes_on s e t f u g (inr a) (inl b) = inl (omega (arith, a.0))
 precedes_on s e t f u g (inr a) (inr b) = inr (omega (arith, a.0, b.0), omega (arith, a.1, b.1))
 
+-- where each of two may stand before the other, they are at one place
 both_precede : (s e t f : ℕ) → Precedes s e t f → Precedes t f s e → (s ≡ t) × (e ≡ f)
 both_precede s e t f (inl a) (inl b) = absurd (omega arith)
 both_precede s e t f (inl a) (inr b) = absurd (omega (arith, b.0))
@@ -41,6 +48,7 @@ both_precede s e t f (inr a) (inr b) = (a.0, omega (arith, a.1, b.1))
 
 -- ---- the same members
 
+-- a node is inserted into a row: what comes of it has that node and those of the row
 has_members : (n : NodeLine) (ms : Row NodeLine) → IsPermutation (n ∷ ms) (inserted n ms)
 has_members n [] = IsPermutation-refl (n ∷ [])
 has_members n (m ∷ ms) =
@@ -52,6 +60,7 @@ has_members n (m ∷ ms) =
       | false ↦ IsPermutation-refl (n ∷ m ∷ ms)
     ]
 
+-- nodes that are put in order are the same nodes
 pub members : (ns : Row NodeLine) → IsPermutation ns (in_order ns)
 members [] = IsPermutation-refl []
 members (n ∷ ns) =
@@ -60,24 +69,30 @@ members (n ∷ ns) =
 
 -- ---- in order
 
+-- in a row in order the first node may stand before all others
 after_first : (n : NodeLine) (ns : Row NodeLine) → AreInOrder (n ∷ ns) → All (MayPrecede n) ns
 after_first n ns sorted k d lt = sorted 0 (suc k) d (omega arith) (omega arith)
 
+-- the others are in order too
 without_first : (n : NodeLine) (ns : Row NodeLine) → AreInOrder (n ∷ ns) → AreInOrder ns
 without_first n ns sorted i j d lt within = sorted (suc i) (suc j) d (omega arith) (omega arith)
 
+-- a node may stand before all of a row without nodes
 none_after : (n : NodeLine) → All (MayPrecede n) []
 none_after n k d lt = absurd (omega arith)
 
+-- a row without nodes is in order
 pub none_sorted : AreInOrder []
 none_sorted i j d lt within = absurd (omega arith)
 
+-- what may stand before a node may before all that this one may stand before
 precedes_all : (n m : NodeLine) (ms : Row NodeLine) → MayPrecede n m → All (MayPrecede m) ms
     → All (MayPrecede n) ms
 precedes_all n m ms here later k d lt =
     precedes_on n.start n.«end» m.start m.«end» (get_or ms k d).start (get_or ms k d).«end» here
     (later k d lt)
 
+-- by whether n goes after the first node of a row: with n inserted the row is in order
 sorted_by : (n m : NodeLine) (ms : Row NodeLine) (b : Bool) → is_lt (by_place m n) ≡ b → AreInOrder (m ∷ ms)
     → AreInOrder (inserted n ms) → AreInOrder (cond b (m ∷ inserted n ms) (n ∷ m ∷ ms))
 sorted_by n m ms true is sorted rest =
@@ -91,25 +106,30 @@ sorted_by n m ms false is sorted rest =
     All-cons (MayPrecede n) m ms before (precedes_all n m ms before (after_first m ms sorted)) in
     AllPairs-cons MayPrecede n (m ∷ ms) all sorted
 
+-- a row in order is in order after a node is inserted
 inserted_sorted : (n : NodeLine) (ms : Row NodeLine) → AreInOrder ms → AreInOrder (inserted n ms)
 inserted_sorted n [] sorted = AllPairs-cons MayPrecede n [] (none_after n) none_sorted
 inserted_sorted n (m ∷ ms) sorted =
     sorted_by n m ms (is_lt (by_place m n)) refl sorted (inserted_sorted n ms (without_first m ms sorted))
 
+-- so nodes that are put in order are in order
 pub sorted : (ns : Row NodeLine) → AreInOrder (in_order ns)
 sorted [] = none_sorted
 sorted (n ∷ ns) = inserted_sorted n (in_order ns) (sorted ns)
 
 -- ---- the same at each place
 
+-- a node that is found at a place stands there
 place_is : (s e : ℕ) (n : NodeLine) → stands_from s e n ≡ true → (n.start ≡ s) × (n.«end» ≡ e)
 place_is s e n is =
     let both = and_parts _ _ is in
     (eqb-true n.start s both.0, eqb-true n.«end» e both.1)
 
+-- each node is found at its own place
 at_its_place : (n : NodeLine) → stands_from n.start n.«end» n ≡ true
 at_its_place n = rw (eq-eqb n.start n.start refl, eq-eqb n.«end» n.«end» refl) refl
 
+-- of two nodes of which at most one is found, which is looked at first does not matter
 two_tests : (p q : Bool) (m n : NodeLine) (ns : Row NodeLine) → (p ≡ true → q ≡ true → ⊥)
     → cond p (m ∷ cond q (n ∷ ns) ns) (cond q (n ∷ ns) ns) ≡ cond q (n ∷ cond p (m ∷ ns) ns)
     (cond p (m ∷ ns) ns)
@@ -118,6 +138,7 @@ two_tests true false m n ns apart = refl
 two_tests false true m n ns apart = refl
 two_tests false false m n ns apart = refl
 
+-- at each place a row with a node inserted is as with that node in front
 same_by : (s e : ℕ) (n m : NodeLine) (ms : Row NodeLine) (b : Bool) → is_lt (by_place m n) ≡ b
     → filter (stands_from s e) (inserted n ms) ≡ filter (stands_from s e) (n ∷ ms)
     → filter (stands_from s e) (cond b (m ∷ inserted n ms) (n ∷ m ∷ ms)) ≡ filter (stands_from s e)
@@ -137,6 +158,7 @@ inserted_same : (s e : ℕ) (n : NodeLine) (ms : Row NodeLine)
 inserted_same s e n [] = refl
 inserted_same s e n (m ∷ ms) = same_by s e n m ms (is_lt (by_place m n)) refl (inserted_same s e n ms)
 
+-- so nodes that are put in order are at each place as they were
 pub same_at_each : (ns : Row NodeLine) → HaveTheSameAtEachPlace (in_order ns) ns
 same_at_each [] s e = refl
 same_at_each (n ∷ ns) s e =
@@ -165,20 +187,25 @@ not_after m n ns rest true is sorted found = let same : n ≡ m = cc in rw same 
 not_after m n ns rest false is sorted found =
     found_first (MayPrecede n) (stands_from m.start m.«end») m ns rest (after_first n ns sorted) found
 
+-- at the place of the first node of a row that node is found first
 first_here : (m : NodeLine) (ms : Row NodeLine)
     → filter (stands_from m.start m.«end») (m ∷ ms) ≡ m ∷ filter (stands_from m.start m.«end») ms
 first_here m ms = rw (at_its_place m) refl
 
+-- where rows have the same at each place, the first of the one in order may stand before that of the
+-- other
 place_found : (m n : NodeLine) (ms ns : Row NodeLine) → AreInOrder (n ∷ ns)
     → HaveTheSameAtEachPlace (m ∷ ms) (n ∷ ns) → MayPrecede n m
 place_found m n ms ns sorted same =
     not_after m n ns (filter (stands_from m.start m.«end») ms) (stands_from m.start m.«end» n) refl sorted
     (sym (same m.start m.«end») ∙ first_here m ms)
 
+-- rows are equal that are so with or without a node in front of both
 without : (b : Bool) (m : NodeLine) (ms ns : Row NodeLine) → cond b (m ∷ ms) ms ≡ cond b (m ∷ ns) ns → ms ≡ ns
 without true m ms ns is = cc
 without false m ms ns is = is
 
+-- rows in order that have the same at each place are equal
 pub one_order : (ms ns : Row NodeLine) → AreInOrder ms → AreInOrder ns → HaveTheSameAtEachPlace ms ns
     → ms ≡ ns
 one_order [] [] up there same = refl
@@ -205,5 +232,6 @@ one_order (m ∷ ms) (n ∷ ns) up there same =
     (rw (← first) at (same s e))) in
     cc
 
+-- a row in order that has the same as another at each place is that other, put in order
 pub only : (ms ns : Row NodeLine) → AreInOrder ms → HaveTheSameAtEachPlace ms ns → ms ≡ in_order ns
 only ms ns up same = one_order ms (in_order ns) up (sorted ns) (λ s e. same s e ∙ sym (same_at_each ns s e))

@@ -21,6 +21,7 @@ abbrev pub quoting_in : Mode → Quoting
 quoting_in Double = in_double
 quoting_in mode = not_quoted
 
+-- the two modes in which quotes are removed
 abbrev pub is_unquoted : Mode → Bool
 is_unquoted Plain = true
 is_unquoted Double = true
@@ -48,10 +49,12 @@ pub data Begins (later last : Bool) (b : ℕ) (x : Option ℕ) : Mode → Piece 
       → is_quote (quoting_in mode) b ≡ false
       → Begins later last b x mode pieces.Ordinary
 
+-- bytes that compare equal are one
 same_byte : (b c : ℕ) → (b == c) ≡ true → b ≡ c
 same_byte b c is = eqb-true b c is
 
 module _ (edition : Edition) (T : List ℕ) (last : Bool) (b : ℕ) where
+  -- `$'` begins text in dollar-single quotes where the edition and the mode have it, else an ordinary `$`
   dollar_quoted : (mode : Mode) (y : ℕ) → is_unquoted mode ≡ true → b ≡ dollar_sign → (y == dollar_sign) ≡ false
       → (y == left_parenthesis) ≡ false → (y == left_brace) ≡ false → (y == apostrophe) ≡ true
       → Begins (is_later edition) last b (Some y) mode (piece_in edition mode pieces.DollarSingle)
@@ -70,6 +73,7 @@ module _ (edition : Edition) (T : List ℕ) (last : Bool) (b : ℕ) where
   dollar_quoted DoubleBrace y read is no_dollar no_open no_brace quoted = absurd cc
   dollar_quoted Arith y read is no_dollar no_open no_brace quoted = absurd cc
 
+  -- each piece that a `$` begins, by the byte after it, begins as it has to
   dollar_begins : (mode : Mode) (r : ℕ) (x : Option ℕ) → is_unquoted mode ≡ true → b ≡ dollar_sign
       → Begins (is_later edition) last b x mode (piece_in edition mode (dollar_by T r x))
   dollar_begins mode r None read is =
@@ -88,6 +92,7 @@ module _ (edition : Edition) (T : List ℕ) (last : Bool) (b : ℕ) where
       (λ no_quote. dollar is no_dollar no_open no_brace
       (λ later. and_right (is_quote (quoting_in mode) apostrophe) (y == apostrophe) no_quote)))))
 
+  -- so does each that begins with a byte other than a backslash, a backquote and a `$`
   byte_begins : (mode : Mode) (p : ℕ) (x : Option ℕ) → is_unquoted mode ≡ true → (b == backslash) ≡ false
       → (b == grave_accent) ≡ false → (b == dollar_sign) ≡ false
       → Begins (is_later edition) last b x mode (piece_in edition mode (byte_by T p mode 0 b))
@@ -120,6 +125,7 @@ piece_begins edition T b mode p read =
     (λ e. dollar_begins edition T last b mode (past_byte T p) x read (same_byte b dollar_sign e))
     (λ no_dollar. byte_begins edition T last b mode p x read no_backslash no_tick no_dollar)))
 
+-- so does the piece there that the edition has
 pub begins : (edition : Edition) (T : List ℕ) (mode : Mode) (p b : ℕ) (piece : Piece)
     → is_unquoted mode ≡ true → byte_at T p ≡ Some b → piece_by_edition edition T mode p ≡ piece
     → Begins (is_later edition) (at_end T (past_byte T p)) b (byte_at T (past_byte T p)) mode piece

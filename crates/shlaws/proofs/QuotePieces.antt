@@ -21,6 +21,7 @@ use Rattle.shlaws.proofs.PieceBytes.{Begins, another, begins, byte_there, closer
 use Rattle.shlaws.proofs.QuoteSteps.{Leads, another_leads, closer_leads, dollar_leads, double_leads, escape_leads, leads_nowhere, leads_on, pid_leads, single_leads}
 
 module _ (later : Bool) (W : List ℕ) where
+  -- an ordinary byte is left
   pub ordinary_leads : (mode : Mode) (p b : ℕ) (last : Bool) → byte_at W p ≡ Some b
       → Begins later last b (byte_at W (past_byte W p)) mode pieces.Ordinary
       → Leads later W (quoting_in mode) p (b ∷ []) (quoting_in mode) (past_byte W p)
@@ -30,6 +31,7 @@ module _ (later : Bool) (W : List ℕ) where
   ordinary_leads mode p b last byte (another no_backslash no_tick no_dollar no_quote) =
       another_leads later W mode p b byte no_backslash no_tick no_dollar no_quote
 
+-- with which bytes an escape, `$$` and text in quotes begin; such text begins outside quotes
 pub escape_of : (later last : Bool) (b : ℕ) (x : Option ℕ) (mode : Mode)
     → Begins later last b x mode pieces.Escape → (b ≡ backslash) × (last ≡ false)
 escape_of later last b x mode (escapes is more) = (is, more)
@@ -46,18 +48,22 @@ pub double_of : (later last : Bool) (b : ℕ) (x : Option ℕ) (mode : Mode)
     → Begins later last b x mode pieces.Double → (b ≡ quotation_mark) × (mode ≡ Plain)
 double_of later last b x mode (double_quote is) = (is, refl)
 
+-- a byte that is read and is c is the byte c
 some_is : (o : Option ℕ) (b c : ℕ) → o ≡ Some b → b ≡ c → o ≡ Some c
 some_is o b c is same = is ∙ ap (λ (n : ℕ). Some n) same
 
 module _ (edition : Edition) (W : List ℕ) where
+  -- whether the edition has text in dollar-single quotes
   later : Bool
   later = is_later edition
 
+  -- from p on in one mode this text is left, and then what is left from q on in another
   abbrev At : Mode → ℕ → List ℕ → Mode → ℕ → Type 0
   At mode p text m q = Leads (is_later edition) W (quoting_in mode) p text (quoting_in m) q
 
   -- ---- each piece leads on
 
+  -- an ordinary byte is left, and so are both of `$$`
   pub byte_leads : (mode : Mode) (p b : ℕ) → is_unquoted mode ≡ true
       → piece_by_edition edition W mode p ≡ pieces.Ordinary → byte_at W p ≡ Some b
       → At mode p (b ∷ []) mode (past_byte W p)
@@ -73,6 +79,7 @@ module _ (edition : Edition) (W : List ℕ) where
       let one = pid_of _ _ there.0 _ mode there.2 in
       pid_leads (is_later edition) W mode p (some_is (byte_at W p) there.0 dollar_sign there.1 one.0) one.1
 
+  -- the bytes that are read where an escape, text in single quotes and text in double quotes begin
   pub backslash_there : (mode : Mode) (p : ℕ) → is_unquoted mode ≡ true
       → piece_by_edition edition W mode p ≡ pieces.Escape
       → (byte_at W p ≡ Some backslash) × (at_end W (past_byte W p) ≡ false)
@@ -95,12 +102,14 @@ module _ (edition : Edition) (W : List ℕ) where
       let one = double_of _ _ there.0 _ mode there.2 in
       (some_is (byte_at W p) there.0 quotation_mark there.1 one.0, one.1)
 
+  -- of an escape is left what its mode leaves
   pub taken_leads : (mode : Mode) (p c : ℕ) → is_unquoted mode ≡ true
       → piece_by_edition edition W mode p ≡ pieces.Escape → slice_get W (past_continuations W p + 1) ≡ Some c
       → At mode p (escape_leaves mode c) mode (past_continuations W p + 2)
   taken_leads mode p c read is next =
       escape_leads (is_later edition) W mode p c read (backslash_there mode p read is).0 next
 
+  -- of text in single quotes all that stands between them is left
   pub quoted_leads : (mode : Mode) (p : ℕ) → is_unquoted mode ≡ true
       → piece_by_edition edition W mode p ≡ pieces.Single → at_end W (next_quote W (past_byte W p)) ≡ false
       → At mode p (raw W (past_byte W p) (next_quote W (past_byte W p))) mode (next_quote W (past_byte W p) + 1)
@@ -109,6 +118,7 @@ module _ (edition : Edition) (W : List ℕ) where
       subst (λ (m : Mode). At m p (raw W (past_byte W p) (next_quote W (past_byte W p))) m
       (next_quote W (past_byte W p) + 1)) (sym there.1) (single_leads (is_later edition) W p there.0 more)
 
+  -- of what opens double quotes no byte is left
   pub opened_leads : (mode : Mode) (p : ℕ) → is_unquoted mode ≡ true
       → piece_by_edition edition W mode p ≡ pieces.Double → At mode p [] Double (past_byte W p)
   opened_leads mode p read is =
@@ -116,6 +126,7 @@ module _ (edition : Edition) (W : List ℕ) where
       subst (λ (m : Mode). At m p [] Double (past_byte W p)) (sym there.1)
       (double_leads (is_later edition) W p there.0)
 
+  -- nor is one of what closes them, or of the end of a word
   ended_leads : (mode : Mode) (p : ℕ) → is_unquoted mode ≡ true
       → piece_by_edition edition W mode p ≡ pieces.Closer → At mode p [] Plain (past_closer W mode p)
   ended_leads Plain p read is = leads_nowhere (is_later edition) W not_quoted p
@@ -126,6 +137,7 @@ module _ (edition : Edition) (W : List ℕ) where
 
   -- ---- all of them
 
+  -- what pieces leave is left byte by byte, up to where what closes them ends
   pub walk : (mode : Mode) (p q : ℕ) (text : List ℕ) → is_unquoted mode ≡ true
       → Leaves edition W mode p q text → At mode p text Plain q
   walk mode p q text read (ended is) = ended_leads mode p read is
@@ -156,9 +168,11 @@ module _ (edition : Edition) (W : List ℕ) where
 
   -- ---- how far they go
 
+  -- the place after a byte that is read lies inside the text or at its end
   within_byte : (p b : ℕ) → byte_at W p ≡ Some b → past_byte W p ≤ length W
   within_byte p b is = after_high W p (slice_get_within W (past_continuations W p) b is)
 
+  -- so do the place after what closes pieces, which is not before it, and the one after `$$`
   closer_far : (mode : Mode) (p : ℕ) → is_unquoted mode ≡ true
       → piece_by_edition edition W mode p ≡ pieces.Closer → p ≤ length W
       → (p ≤ past_closer W mode p) × (past_closer W mode p ≤ length W)
@@ -175,6 +189,7 @@ module _ (edition : Edition) (W : List ℕ) where
       let there = byte_there edition W mode p pieces.Pid read is refl in
       within_byte (past_byte W p) dollar_sign (pid_of _ _ there.0 _ mode there.2).1
 
+  -- and the one where pieces end, which is not before where they begin
   pub far : (mode : Mode) (p q : ℕ) (text : List ℕ) → is_unquoted mode ≡ true → Leaves edition W mode p q text
       → p ≤ length W → (p ≤ q) × (q ≤ length W)
   far mode p q text read (ended is) within = closer_far mode p read is within
@@ -200,6 +215,7 @@ module _ (edition : Edition) (W : List ℕ) where
 
   -- ---- the whole word
 
+  -- where pieces make up all bytes of a word, quote removal leaves what they leave
   pub left_all : (q : ℕ) (left : List ℕ) → length W ≤ q → Leaves edition W Plain 0 q left
       → unquoted not_quoted false W ≡ Some left
   unfolding unquoted
@@ -210,6 +226,7 @@ module _ (edition : Edition) (W : List ℕ) where
       lead.left ∙ ap (Rattle.shgrammar.specs.Unquoting.left_of left) none
       ∙ ap (λ (l : List ℕ). Some l) (append-nil left)
 
+  -- and no text in dollar-single quotes is found in it, where the edition has such text
   none_found : (q : ℕ) (left : List ℕ) → length W ≤ q → Leaves edition W Plain 0 q left
       → is_later edition ≡ true → has_dollar_single not_quoted false W ≡ false
   unfolding has_dollar_single
@@ -217,6 +234,7 @@ module _ (edition : Edition) (W : List ℕ) where
       let lead = walk Plain 0 q left refl leaves in
       lead.found newer ∙ ap (has_dollar_single not_quoted false) (drop_all q W end)
 
+  -- so the word is a delimiter of the text that they leave
   pub word_is : (left : List ℕ) → Leaves edition W Plain 0 (length W) left
       → delimiter_in edition W ≡ Some (record { text = left; literal = is_quoted W })
   word_is left leaves =

@@ -44,11 +44,13 @@ record Clear (later : Bool) (W : List ℕ) (q : Quoting) (p : ℕ) : Type 0 wher
   some : is_some (unquoted q false (drop p W)) ≡ true
   none : later ≡ true → has_dollar_single q false (drop p W) ≡ false
 
+-- where something is left with a text before it, something is left without that
 some_after : (text : List ℕ) (left : Option (List ℕ)) → is_some (left_of text left) ≡ true
     → is_some left ≡ true
 some_after text None e = absurd cc
 some_after text (Some bs) e = refl
 
+-- what is so from p on is so from m on, where pieces lead there from p
 clear_on : (later : Bool) (W : List ℕ) (q r : Quoting) (p m : ℕ) (text : List ℕ) → Leads later W q p text r m
     → Clear later W q p → Clear later W r m
 clear_on later W q r p m text leads clear = record {
@@ -56,11 +58,13 @@ clear_on later W q r p m text leads clear = record {
   none = λ e. sym (leads.found e) ∙ clear.none e;
 }
 
+-- what is left is not nothing, where it is something
 not_clear : (left : Option (List ℕ)) → is_some left ≡ true → left ≡ None → ⊥
 not_clear left some none = both_ways _ (ap is_some none) some
 
 -- ---- what begins the pieces that leave nothing
 
+-- with which bytes text in backquotes, expansions and text in dollar-single quotes begin
 backquote_of : (later last : Bool) (b : ℕ) (x : Option ℕ) (mode : Mode)
     → Begins later last b x mode pieces.Backquote → b ≡ grave_accent
 backquote_of later last b x mode (backquote is) = is
@@ -89,6 +93,7 @@ is_bracket pieces.Close = true
 is_bracket pieces.BadClose = true
 is_bracket piece = false
 
+-- no piece that begins in the two modes in which quotes are removed is one
 no_bracket : (later last : Bool) (b : ℕ) (x : Option ℕ) (mode : Mode) (z : Piece)
     → Begins later last b x mode z → is_bracket z ≡ false
 no_bracket later last b x mode z lone = refl
@@ -109,18 +114,22 @@ no_bracket later last b x mode z (another one two three none) = refl
 -- ---- turns
 
 module _ (edition : Edition) (W : List ℕ) (o : ℕ) where
+  -- the bytes of a word, which stand at offset o, are all that is given
   abbrev g : Given
   g = given edition W o
 
+  -- what one turn over pieces computes, and what all of them do
   abbrev one : ℕ → Mode → ℕ → WordSoFar → State → Read (Step WordSoFar)
   one room mode b h s = does (a_piece (level room) mode b h) Whole g s
 
   abbrev all : ℕ → Mode → ℕ → WordSoFar → State → Read WordSoFar
   all room mode b h s = does (many (a_piece (level room) mode b) h) Whole g s
 
+  -- the state s at another place
   abbrev place : State → ℕ → State
   place s p = record s { at = p }
 
+  -- in the two modes open brackets do not matter to which piece begins at p
   nested_alike : (mode : Mode) (n p : ℕ) → is_unquoted mode ≡ true → piece_at W mode n p ≡ piece_at W mode 0 p
   unfolding piece_at
   nested_alike Plain n p read = refl
@@ -129,6 +138,7 @@ module _ (edition : Edition) (W : List ℕ) (o : ℕ) where
   nested_alike DoubleBrace n p read = absurd cc
   nested_alike Arith n p read = absurd cc
 
+  -- a turn is the row of the piece that begins there
   row_is : (room : ℕ) (mode : Mode) (b : ℕ) (h : WordSoFar) (s : State) (z : Piece) → is_unquoted mode ≡ true
       → piece_by_edition edition W mode s.at ≡ z
       → one room mode b h s ≡ does (piece_row (level room) mode b h z) Whole g s
@@ -137,6 +147,7 @@ module _ (edition : Edition) (W : List ℕ) (o : ℕ) where
       ap (λ y. does (piece_row (level room) mode b h y) Whole g s)
       (ap (piece_in edition mode) (nested_alike mode h.nested s.at read) ∙ is)
 
+  -- where the first turn has a fault, all of them do
   fails : (room : ℕ) (mode : Mode) (b : ℕ) (h h2 : WordSoFar) (s t : State) (f : Fault)
       → one room mode b h s ≡ Err f → all room mode b h s ≡ Ok (h2, t) → ⊥
   unfolding many
@@ -145,9 +156,11 @@ module _ (edition : Edition) (W : List ℕ) (o : ℕ) where
       sym (turns_fault g (λ a u. one room mode b a u) h s f one_is) ∙ whole in
       absurd cc
 
+  -- from p up to q stand pieces that leave something
   abbrev Goes : Mode → ℕ → ℕ → Type 0
   Goes mode p q = (text : List ℕ) × Leaves edition W mode p q text
 
+  -- where less than n bytes are left from a clear place on, a reading without a fault passes such pieces
   abbrev Finds : ℕ → Type 0
   Finds n =
       (room : ℕ) (mode : Mode) (b : ℕ) (h h2 : WordSoFar) (s t : State) → is_unquoted mode ≡ true
@@ -158,6 +171,7 @@ module _ (edition : Edition) (W : List ℕ) (o : ℕ) where
       (read : is_unquoted mode ≡ true) (few : length W - s.at < suc n) (within : s.at ≤ length W)
       (clear : Clear (is_later edition) W (quoting_in mode) s.at)
       (whole : all room mode b h s ≡ Ok (h2, t)) where
+    -- this is the piece at s
     abbrev Is : Piece → Type 0
     Is z = piece_by_edition edition W mode s.at ≡ z
 
@@ -170,13 +184,16 @@ module _ (edition : Edition) (W : List ℕ) (o : ℕ) where
         (clear_on (is_later edition) W (quoting_in mode) (quoting_in mode) s.at u.at text leads clear)
         (sym (many_again (a_piece (level room) mode b) Whole g h h1 s u turn onward inside) ∙ whole)
 
+    -- a turn that goes on from u
     abbrev turned : WordSoFar → State → Read (Step WordSoFar)
     turned h1 u = Ok (again h1, u)
 
+    -- the place after a byte that is read lies inside the text or at its end
     byte_within : (p c : ℕ) → byte_at W p ≡ Some c → past_byte W p ≤ length W
     unfolding past_byte
     byte_within p c is = let lt = slice_get_within W (past_continuations W p) c is in omega (arith, lt)
 
+    -- up to where the reading ends stand pieces that leave something, where a closer is the piece here
     closes_here : Is pieces.Closer → Goes mode s.at t.at
     closes_here is =
         let last =
@@ -188,6 +205,7 @@ module _ (edition : Edition) (W : List ℕ) (o : ℕ) where
         let at : past_closer W mode s.at ≡ t.at = ap (λ (z : WordSoFar × State). z.1.at) pair in
         subst (λ (q : ℕ). Goes mode s.at q) at ([], ended is)
 
+    -- the same of an ordinary byte, and of `$$`
     ordinary_here : Is pieces.Ordinary → Goes mode s.at t.at
     ordinary_here is =
         let there = byte_there edition W mode s.at pieces.Ordinary read is refl in
@@ -213,11 +231,13 @@ module _ (edition : Edition) (W : List ℕ) (o : ℕ) where
         slice_get-get_or W (past_continuations W s.at + 1) 0
         (not_end_low W (past_continuations W s.at + 1) more)
 
+    -- a backslash and the byte after it are passed at once
     taken_at : byte_at W s.at ≡ Some backslash
         → past_taken W (past_continuations W s.at) ≡ past_continuations W s.at + 2
     unfolding past_taken raw_stands
     taken_at is = rw is refl
 
+    -- up to there stand such pieces, where an escape is the piece here
     escape_here : Is pieces.Escape → Goes mode s.at t.at
     escape_here is =
         let p = past_continuations W s.at in
@@ -232,24 +252,29 @@ module _ (edition : Edition) (W : List ℕ) (o : ℕ) where
         (taken_leads edition W mode s.at (get_or W (p + 1) 0) read is next) in
         (_, escape (get_or W (p + 1) 0) is next rest.1)
 
+    -- the turn over text in single quotes goes on after them, where they are closed
     single_turn : at_end W (next_quote W (past_byte W s.at)) ≡ false
         → does (piece_row (level room) mode b h pieces.Single) Whole g s
         ≡ turned h (place s (past_taken W (next_quote W (past_byte W s.at))))
     unfolding single
     single_turn more = rw more refl
 
+    -- a fault of this kind at the byte that is read here
     abbrev fault_here : FaultKind → Fault
     fault_here kind = record { kind = kind; at = o + past_continuations W s.at }
 
+    -- where they are not closed, it is a fault here
     single_fails : at_end W (next_quote W (past_byte W s.at)) ≡ true
         → does (piece_row (level room) mode b h pieces.Single) Whole g s ≡ Err (fault_here UnclosedSingle)
     unfolding single
     single_fails end = rw end refl
 
+    -- what closes them is passed as one byte
     quote_at : past_taken W (next_quote W (past_byte W s.at)) ≡ next_quote W (past_byte W s.at) + 1
     unfolding past_taken
     quote_at = rw (quote_clear W (past_byte W s.at)) refl
 
+    -- up to where the reading ends stand such pieces, where text in single quotes is the piece here
     single_here : Is pieces.Single → Goes mode s.at t.at
     single_here is =
         let e = next_quote W (past_byte W s.at) in
@@ -269,12 +294,15 @@ module _ (edition : Edition) (W : List ℕ) (o : ℕ) where
 
     -- ---- double quotes
 
+    -- the state just after what opens double quotes
     abbrev inside_at : State
     inside_at = place s (past_byte W s.at)
 
+    -- the turn over text in double quotes, by what is read between them
     abbrev held_by : Read WordSoFar → Read (Step WordSoFar)
     held_by x = x ▸ (λ k u. Ok (k.substs, u)) ▸ (λ ss u. Ok (again (word_so_far h.nested ss), u))
 
+    -- where there is room, that text is read as pieces in double quotes
     double_turn : 0 < room
         → does (piece_row (level room) mode b h pieces.Double) Whole g s ≡ held_by
         (all (room - 1) Double (o + past_continuations W s.at) (word_so_far 0 h.substs) inside_at)
@@ -283,12 +311,14 @@ module _ (edition : Edition) (W : List ℕ) (o : ℕ) where
         ap (λ x. x ▸ λ ss u. Ok (again (word_so_far h.nested ss), u))
         (level_below Whole g inside_at room Double (o + past_continuations W s.at) h.substs some)
 
+    -- where there is none, it is a fault: too deep
     double_closed : room ≡ 0
         → does (piece_row (level room) mode b h pieces.Double) Whole g s ≡ Err (fault_here TooDeep)
     double_closed none =
         ap (λ x. x ▸ λ ss u. Ok (again (word_so_far h.nested ss), u))
         (level_closed Whole g inside_at room Double (o + past_continuations W s.at) h.substs none)
 
+    -- the same of text in double quotes: by what is read between them, and whatever that is
     double_by : Is pieces.Double → 0 < room → (x : Read WordSoFar)
         → all (room - 1) Double (o + past_continuations W s.at) (word_so_far 0 h.substs) inside_at ≡ x
         → Goes mode s.at t.at
@@ -325,6 +355,7 @@ module _ (edition : Edition) (W : List ℕ) (o : ℕ) where
 
     -- ---- pieces that no delimiter has
 
+    -- text in backquotes is not the piece here
     backquote_here : Is pieces.Backquote → ⊥
     backquote_here is =
         let there = byte_there edition W mode s.at pieces.Backquote read is refl in
@@ -332,6 +363,7 @@ module _ (edition : Edition) (W : List ℕ) (o : ℕ) where
         (backquote_none (is_later edition) W mode s.at
         (there.1 ∙ ap (λ (c : ℕ). Some c) (backquote_of _ _ there.0 _ mode there.2)))
 
+    -- no `$(` stands here, and no `${`
     opener_here : (c d : ℕ) → c ≡ dollar_sign → byte_at W s.at ≡ Some c → byte_at W (past_byte W s.at) ≡ Some d
         → (is_byte (Some d) left_parenthesis || is_byte (Some d) left_brace) ≡ true → ⊥
     opener_here c d same byte next opens =
@@ -339,6 +371,7 @@ module _ (edition : Edition) (W : List ℕ) (o : ℕ) where
         (opener_none (is_later edition) W mode s.at (byte ∙ ap (λ (x : ℕ). Some x) same)
         (ap (λ y. is_byte y left_parenthesis || is_byte y left_brace) next ∙ opens))
 
+    -- so no parameter expansion does, no command substitution and no arithmetic
     parameter_here : Is pieces.Param → ⊥
     parameter_here is =
         let there = byte_there edition W mode s.at pieces.Param read is refl in
@@ -357,6 +390,7 @@ module _ (edition : Edition) (W : List ℕ) (o : ℕ) where
         let begun = arithmetic_of _ _ there.0 _ mode there.2 in
         opener_here there.0 left_parenthesis begun.0 there.1 begun.1 refl
 
+    -- nor does text in dollar-single quotes
     dollar_quote_here : Is pieces.DollarSingle → ⊥
     dollar_quote_here is =
         let there = byte_there edition W mode s.at pieces.DollarSingle read is refl in
@@ -368,11 +402,13 @@ module _ (edition : Edition) (W : List ℕ) (o : ℕ) where
         (clear.none begun.2) in
         both_ways _ none found
 
+    -- nor does a bracket of arithmetic
     bracket_here : (z : Piece) → stands_alone z ≡ false → is_bracket z ≡ true → Is z → ⊥
     bracket_here z inner is_one is =
         let there = byte_there edition W mode s.at z read is inner in
         both_ways _ (no_bracket _ _ there.0 _ mode z there.2) is_one
 
+    -- whatever piece stands here, up to where the reading ends stand pieces that leave something
     by_piece : (z : Piece) → Is z → Goes mode s.at t.at
     by_piece pieces.Closer is = closes_here is
     by_piece pieces.Missing is =
@@ -395,6 +431,7 @@ module _ (edition : Edition) (W : List ℕ) (o : ℕ) where
     by_piece pieces.BadClose is = absurd (bracket_here pieces.BadClose refl refl is)
     by_piece pieces.Ordinary is = ordinary_here is
 
+  -- so it is however many bytes are left
   find : (n : ℕ) → Finds n
   find zero room mode b h h2 s t read few within clear whole = absurd (omega arith)
   find (suc n) room mode b h h2 s t read few within clear whole =
@@ -403,19 +440,24 @@ module _ (edition : Edition) (W : List ℕ) (o : ℕ) where
 
   -- ---- the word
 
+  -- a word's substitutions, and its span from the front up to where the reading stands
   abbrev with_span : Row ASubst → State → Read (Row ASubst × Span)
   with_span ss u = Ok ((ss, span o 0 u.at), u)
 
+  -- the word, by what its pieces compute
   abbrev word_by : Read WordSoFar → Read AWord
   word_by x = x ▸ (λ k u. Ok (k.substs, u)) ▸ with_span ▸ (λ y u. Ok (word y.1 (substs_of y.0), u))
 
+  -- what the pieces of the word compute from the front on
   abbrev pieces_by : ℕ → Read WordSoFar
   pieces_by room = all room Plain (o + 0) (word_so_far 0 []) (standing 0)
 
+  -- the row of a word computes just this
   word_is : (room : ℕ) → does (a_word (level room)) Whole g (standing 0) ≡ word_by (pieces_by room)
   unfolding a_word contents
   word_is room = refl
 
+  -- a word that is read up to n, and from whose front on something is left, has pieces that leave something
   word_goes : (room n : ℕ) (w : AWord) (told : Row Spelled)
       → may (a_word (level room)) g (standing 0) (Ok (w, standing n)) told
       → Clear (is_later edition) W not_quoted 0 → Goes Plain 0 n
@@ -439,6 +481,7 @@ module _ (edition : Edition) (W : List ℕ) (o : ℕ) where
 
 -- ---- by its own bytes
 
+-- a word that is read anywhere is read of its own bytes too
 word_alone : (room p n : ℕ) (g : Given) → ReadsWord room g p n
     → ReadsWord room (given g.edition (raw g.text p (p + n)) 0) 0 n
 unfolding ends_word stands
@@ -452,6 +495,7 @@ word_alone room p n g read =
     slice_get_past W (past_continuations W (0 + n)) (omega (arith, short, place_low W (0 + n))) in
     anywhere room g (given g.edition W 0) p 0 n read same (ap ends none) (ap (λ y. is_byte y left_parenthesis) none)
 
+-- where a word is a delimiter, its text is left; text in dollar-single quotes, if there is such, is not found
 clear_from : (later : Bool) (found : Bool) (text : Option (List ℕ)) (literal : Bool) (d : ADelimiter)
     → cond (later && found) None (option_map (λ l. record { text = l; literal = literal }) text) ≡ Some d
     → (text ≡ Some d.text) × (later ≡ true → found ≡ false)
@@ -465,6 +509,7 @@ clear_from false found (Some l) literal d is =
     let same : record { text = l; literal = literal } ≡ d = cc in
     (ap (λ (x : ADelimiter). Some x.text) same, λ e. absurd cc)
 
+-- a word that is read and is a delimiter has pieces that leave the delimiter's text
 pub word_leaves : (room p n : ℕ) (g : Given) (d : ADelimiter) → ReadsWord room g p n
     → delimiter_in g.edition (raw g.text p (p + n)) ≡ Some d
     → Leaves g.edition (raw g.text p (p + n)) Plain 0 n d.text

@@ -21,10 +21,12 @@ use Rattle.shlaws.proofs.PieceBytes.{is_unquoted, quoting_in}
 
 -- ---- text, and what is left after it
 
+-- no text before what is left is no change
 pub nothing_more : (left : Option (List ℕ)) → left_of [] left ≡ left
 nothing_more None = refl
 nothing_more (Some bs) = refl
 
+-- two texts before what is left are one text before it
 pub both_left : (one two : List ℕ) (left : Option (List ℕ))
     → left_of one (left_of two left) ≡ left_of (one ++ two) left
 both_left one two None = refl
@@ -32,6 +34,7 @@ both_left one two (Some bs) = ap (λ (l : List ℕ). Some l) (sym (append_assoc 
 
 -- ---- what is live
 
+-- outside quotes and in double quotes a byte is special just where it is the byte asked for
 live_in : (mode : Mode) (c b : ℕ) → is_live (quoting_in mode) c b ≡ (b == c)
 live_in Plain c b = refl
 live_in Double c b = refl
@@ -39,6 +42,7 @@ live_in Brace c b = refl
 live_in DoubleBrace c b = refl
 live_in Arith c b = refl
 
+-- there neither a `$` nor a backquote is a quote
 dollar_no_quote : (mode : Mode) → is_quote (quoting_in mode) dollar_sign ≡ false
 dollar_no_quote Plain = refl
 dollar_no_quote Double = refl
@@ -55,6 +59,7 @@ tick_no_quote Arith = refl
 
 -- ---- continuations are dropped
 
+-- after n bytes stands what stands after 2 + n, with two bytes more in front
 drop_two : {A : Type 0} (f : List ℕ → A) (b c : ℕ) (bs : List ℕ) (n : ℕ)
     → f (drop n bs) ≡ f (drop (2 + n) (b ∷ c ∷ bs))
 drop_two f b c bs n =
@@ -62,6 +67,7 @@ drop_two f b c bs n =
     ap (λ k. f (drop k (b ∷ c ∷ bs))) (sym next)
 
 module _ (q : Quoting) (second : Bool) (live : (c b : ℕ) → is_live q c b ≡ (b == c)) where
+  -- quote removal leaves the same without the continuations in front: of two bytes and more, and of any
   skip_by : (b c : ℕ) (bs : List ℕ) → unquoted q second bs ≡ unquoted q second (drop (count_joined bs) bs)
       → (x y : Bool) → (b == backslash) ≡ x → (c == newline_char) ≡ y
       → unquoted q second (b ∷ c ∷ bs) ≡ unquoted q second
@@ -79,6 +85,7 @@ module _ (q : Quoting) (second : Bool) (live : (c b : ℕ) → is_live q c b ≡
   skip (b ∷ []) = refl
   skip (b ∷ c ∷ bs) = skip_by b c bs (skip bs) (b == backslash) (c == newline_char) refl refl
 
+  -- text in dollar-single quotes is found the same without them
   has_skip_by : (b c : ℕ) (bs : List ℕ)
       → has_dollar_single q second bs ≡ has_dollar_single q second (drop (count_joined bs) bs) → (x y : Bool)
       → (b == backslash) ≡ x → (c == newline_char) ≡ y
@@ -101,6 +108,7 @@ module _ (q : Quoting) (second : Bool) (live : (c b : ℕ) → is_live q c b ≡
 
 -- ---- the byte that is read at a place
 
+-- from k on stand the byte at k, and those after it
 pub drop_here : (W : List ℕ) (k b : ℕ) → slice_get W k ≡ Some b → drop k W ≡ b ∷ drop (k + 1) W
 drop_here W k b is =
     let lt = slice_get_within W k b is in
@@ -108,6 +116,7 @@ drop_here W k b is =
     let byte : get_or W k 0 ≡ b = cc in
     drop_more W k 0 lt ∙ ap (λ c. c ∷ drop (k + 1) W) byte
 
+-- what continuations in front do not change is, from p on, that of the byte read there and of the rest
 read_on : {A : Type 0} (f : List ℕ → A) → ((xs : List ℕ) → f xs ≡ f (drop (count_joined xs) xs))
     → (W : List ℕ) (p b : ℕ) → byte_at W p ≡ Some b → f (drop p W) ≡ f (b ∷ drop (past_byte W p) W)
 unfolding past_continuations past_byte
@@ -123,12 +132,14 @@ turn q second b rest = cond (is_quote q b) (has_dollar_single (after_quote q b) 
     (not second && stands rest 0 dollar_sign) rest)
     (has_dollar_single q second rest))
 
+-- the last byte begins no text in dollar-single quotes, whichever byte it is
 none_there : (c d x : Bool) → false ≡ cond c false (cond d ((x && false) || false) false)
 none_there true d x = refl
 none_there false true true = refl
 none_there false true false = refl
 none_there false false x = refl
 
+-- what is found from a byte on is found by that byte, where no backslash escapes the next one
 has_byte : (q : Quoting) (second : Bool) (b : ℕ) (rest : List ℕ) → is_live q backslash b ≡ false
     → has_dollar_single q second (b ∷ rest) ≡ turn q second b rest
 unfolding has_dollar_single stands
@@ -137,23 +148,28 @@ has_byte q second b (c ∷ bs) none = rw none refl
 
 -- ---- text in single quotes
 
+-- this byte is no single quote
 abbrev no_quote : ℕ → Bool
 no_quote b = not (b == apostrophe)
 
+-- a byte before a text that is left makes it one longer
 one_left : (b : ℕ) (text : List ℕ) (left : Option (List ℕ))
     → left_before b (left_of text left) ≡ left_of (b ∷ text) left
 one_left b text None = refl
 one_left b text (Some bs) = refl
 
+-- in single quotes each byte is left by itself, a backslash too
 single_byte : (b : ℕ) (bs : List ℕ)
     → unquoted in_single false (b ∷ bs) ≡ byte_left in_single false b bs (λ r s. unquoted r s bs)
 single_byte b bs = unquoted_byte in_single false b bs (and_right _ _ refl)
 
+-- in single quotes k bytes are left as they stand; after one more, all is left and found as outside quotes
 abbrev SingleLeaves : List ℕ → ℕ → Type 0
 SingleLeaves xs k =
     (unquoted in_single false xs ≡ left_of (take k xs) (unquoted not_quoted false (drop (k + 1) xs)))
     × (has_dollar_single in_single false xs ≡ has_dollar_single not_quoted false (drop (k + 1) xs))
 
+-- so it is of a byte that closes them, and of any other before bytes of which it is so
 single_by : (b : ℕ) (bs : List ℕ) (t : Bool) → (b == apostrophe) ≡ t
     → (t ≡ false → SingleLeaves bs (count_front no_quote bs))
     → SingleLeaves (b ∷ bs) (cond (not t) (1 + count_front no_quote bs) 0)
@@ -179,6 +195,7 @@ single_by b bs false e rest =
       has_byte in_single false b bs refl ∙ found ∙ (rest refl).1,
     )
 
+-- so it is up to the next single quote, where one stands
 single_run : (xs : List ℕ) → count_front no_quote xs < length xs → SingleLeaves xs (count_front no_quote xs)
 unfolding count_front
 single_run [] lt = absurd (omega arith)
@@ -198,9 +215,11 @@ pub record Leads (later : Bool) (W : List ℕ) (q : Quoting) (p : ℕ) (text : L
   pub left : unquoted q false (drop p W) ≡ left_of text (unquoted r false (drop m W))
   pub found : later ≡ true → has_dollar_single q false (drop p W) ≡ has_dollar_single r false (drop m W)
 
+-- from p up to p no byte is left
 pub leads_nowhere : (later : Bool) (W : List ℕ) (q : Quoting) (p : ℕ) → Leads later W q p [] q p
 leads_nowhere later W q p = record { left = sym (nothing_more _); found = λ e. refl }
 
+-- what leads from p to m, and on to n, leads from p to n with both texts
 pub leads_on : (later : Bool) (W : List ℕ) (q r s : Quoting) (p m n : ℕ) (one two : List ℕ)
     → Leads later W q p one r m → Leads later W r m two s n → Leads later W q p (one ++ two) s n
 leads_on later W q r s p m n one two a b = record {
@@ -209,6 +228,7 @@ leads_on later W q r s p m n one two a b = record {
 }
 
 module _ (later : Bool) (W : List ℕ) where
+  -- what is left from p on, and what is found there, is by the byte that is read at p and those after it
   unquoted_on : (mode : Mode) (second : Bool) (p b : ℕ) → byte_at W p ≡ Some b
       → unquoted (quoting_in mode) second (drop p W) ≡ unquoted (quoting_in mode) second
       (b ∷ drop (past_byte W p) W)
@@ -238,6 +258,7 @@ module _ (later : Bool) (W : List ℕ) where
       has_on mode second p b is
       ∙ has_byte (quoting_in mode) second b (drop (past_byte W p) W) (live_in mode backslash b ∙ other)
 
+  -- a byte that is not special and no quote is left
   pub another_leads : (mode : Mode) (p b : ℕ) → byte_at W p ≡ Some b → (b == backslash) ≡ false →
       (b == grave_accent) ≡ false
       → (b == dollar_sign) ≡ false → is_quote (quoting_in mode) b ≡ false
@@ -256,6 +277,7 @@ module _ (later : Bool) (W : List ℕ) where
         found = λ e. has_byte_on mode false p b is no_backslash ∙ on;
       }
 
+  -- a `$` that begins no other piece is left
   pub dollar_leads : (mode : Mode) (p : ℕ) → byte_at W p ≡ Some dollar_sign
       → is_byte (byte_at W (past_byte W p)) dollar_sign ≡ false →
       is_byte (byte_at W (past_byte W p)) left_parenthesis ≡ false
@@ -283,6 +305,7 @@ module _ (later : Bool) (W : List ℕ) where
         found = λ e. has_byte_on mode false p dollar_sign is refl ∙ on e;
       }
 
+  -- of `$$` both are left
   pub pid_leads : (mode : Mode) (p : ℕ) → byte_at W p ≡ Some dollar_sign → byte_at W (past_byte W p) ≡ Some dollar_sign
       → Leads later W (quoting_in mode) p (dollar_sign ∷ dollar_sign ∷ []) (quoting_in mode)
       (past_byte W (past_byte W p))
@@ -320,6 +343,7 @@ module _ (later : Bool) (W : List ℕ) where
             ∙ second_on;
       }
 
+  -- a byte before what is left, or a backslash and that byte, is one text before it
   escape_two : (c : ℕ) (left : Option (List ℕ)) (t : Bool)
       → cond (not t) (left_before backslash (left_before c left)) (left_before c left) ≡ left_of
       (cond t (c ∷ []) (backslash ∷ c ∷ [])) left
@@ -327,6 +351,7 @@ module _ (later : Bool) (W : List ℕ) where
   escape_two c None false = refl
   escape_two c (Some bs) false = refl
 
+  -- a backslash and a byte that is no newline leave what an escape leaves by its mode
   escape_is : (mode : Mode) (c : ℕ) (left : Option (List ℕ)) → is_unquoted mode ≡ true → (c == newline_char) ≡ false
       → escape_left (quoting_in mode) c left ≡ left_of (escape_leaves mode c) left
   escape_is Plain c left read other = rw other refl
@@ -347,6 +372,7 @@ module _ (later : Bool) (W : List ℕ) where
       let on = joined_more W P both in
       omega (arith, on, place_same W p, place_low W (P + 2)))
 
+  -- so they do where they are read at p
   pub escape_leads : (mode : Mode) (p c : ℕ) → is_unquoted mode ≡ true → byte_at W p ≡ Some backslash
       → slice_get W (past_continuations W p + 1) ≡ Some c
       → Leads later W (quoting_in mode) p (escape_leaves mode c) (quoting_in mode)
@@ -370,6 +396,7 @@ module _ (later : Bool) (W : List ℕ) where
         found = λ e. has_on mode false p backslash is ∙ ap (λ bs. has_dollar_single q false (backslash ∷ bs)) rest ∙ on;
       }
 
+  -- of text in single quotes what stands between them is left
   pub single_leads : (p : ℕ) → byte_at W p ≡ Some apostrophe → at_end W (next_quote W (past_byte W p)) ≡ false
       → Leads later W not_quoted p (raw W (past_byte W p) (next_quote W (past_byte W p))) not_quoted
       (next_quote W (past_byte W p) + 1)
@@ -398,6 +425,7 @@ module _ (later : Bool) (W : List ℕ) where
             ∙ ap (has_dollar_single not_quoted false) far;
       }
 
+  -- of what opens double quotes no byte is left
   pub double_leads : (p : ℕ) → byte_at W p ≡ Some quotation_mark →
       Leads later W not_quoted p [] in_double (past_byte W p)
   double_leads p is = record {
@@ -405,6 +433,7 @@ module _ (later : Bool) (W : List ℕ) where
     found = λ e. has_byte_on Plain false p quotation_mark is refl;
   }
 
+  -- nor is one of what closes them
   pub closer_leads : (p : ℕ) → byte_at W p ≡ Some quotation_mark →
       Leads later W in_double p [] not_quoted (past_byte W p)
   closer_leads p is = record {
@@ -414,6 +443,7 @@ module _ (later : Bool) (W : List ℕ) where
 
   -- ---- pieces that leave nothing
 
+  -- from a backquote on, quote removal leaves nothing
   pub backquote_none : (mode : Mode) (p : ℕ) → byte_at W p ≡ Some grave_accent
       → unquoted (quoting_in mode) false (drop p W) ≡ None
   backquote_none mode p is =
@@ -424,6 +454,7 @@ module _ (later : Bool) (W : List ℕ) where
       rw (tick_no_quote mode, live) refl in
       byte_on mode false p grave_accent is refl ∙ none
 
+  -- nor from `$(` or `${` on
   pub opener_none : (mode : Mode) (p : ℕ) → byte_at W p ≡ Some dollar_sign
       → (is_byte (byte_at W (past_byte W p)) left_parenthesis || is_byte (byte_at W (past_byte W p)) left_brace) ≡ true
       → unquoted (quoting_in mode) false (drop p W) ≡ None
@@ -438,6 +469,7 @@ module _ (later : Bool) (W : List ℕ) where
       rw (dollar_no_quote mode, tick, live, one) refl in
       byte_on mode false p dollar_sign is refl ∙ none
 
+  -- from `$'` on, outside quotes, text in dollar-single quotes is found
   pub dollar_quote_found : (p : ℕ) → byte_at W p ≡ Some dollar_sign → byte_at W (past_byte W p) ≡ Some apostrophe
       → has_dollar_single not_quoted false (drop p W) ≡ true
   dollar_quote_found p is next =

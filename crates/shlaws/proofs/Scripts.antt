@@ -20,6 +20,7 @@ use Rattle.shlaws.proofs.Commands.{next_on, nothing_on, stopped}
 use Rattle.shlaws.proofs.Compounds.{compound_on, function_on, line_on, substitution_on}
 
 module _ (g : Given) where
+  -- whatever room is left, what may be opened is read so
   fine : (room : ℕ) → Fine g (level room)
   unfolding level
   fine zero =
@@ -41,6 +42,7 @@ module _ (g : Given) where
   -- ---- lines
 
   module _ (inner : Inner) (good : Fine g inner) where
+    -- what ends a line is read so: a newline with the bodies after it, or the end
     end_on_by : (newline end : Bool) (n : Next) (s : State) → Goes g (line_end_by inner newline end n) (All g) s
     end_on_by newline end n s =
         picks g newline (moves g (first g (changing g) (λ x t so. gives g tt)))
@@ -50,6 +52,7 @@ module _ (g : Given) where
     unfolding end_of_line
     end_on n s = end_on_by (is_newline_token n.token) (is_end n.token) n s
 
+    -- a line is read so, without the bodies of its here-documents and with them
     open_line_on : (blank : Bool) (s : State) → Goes g (an_open_line inner blank) (All g) s
     unfolding an_open_line
     open_line_on blank s =
@@ -65,12 +68,14 @@ module _ (g : Given) where
   line_onward : (blank : Bool) (s : State) → Goes g (the_line blank) (All g) s
   line_onward blank s = a_line_on (level most_open) (fine most_open) blank s
 
+-- what may be read of a word is read where each turn leads on
 pub word_onward : (room : ℕ) (g : Given) (s : State) (w : Read AWord) (k : Row Spelled)
     → may (a_word (level room)) g s w k → may_onward (a_word (level room)) g s w k
 word_onward room g s w k read = ((word_on g (level room) (fine g room) s).on w k read).0
 
 -- ---- scripts
 
+-- the same of the line at p of a script, of the lines from p on, and of all of them
 line_at : (edition : Edition) (B : List ℕ) (so : LinesSoFar) (p : ℕ) (x : Read (Row AnEntry × Bool))
     (k : Row Spelled) → may (the_line (is_blank_line so)) (given edition (drop p B) p) (standing 0) x k
     → LineOnward edition B so p x k

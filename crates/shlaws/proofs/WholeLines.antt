@@ -18,10 +18,13 @@ module _ (e : Edition) (B : List ℕ) (p : ℕ) where
   abbrev pub Reads : Read (Row AnEntry × Bool) → Row Spelled → Type 0
   Reads x told = may (the_line false) (given e (drop p B) 0) (standing 0) x told
 
+  -- what is computed of the line by itself is what the grammar has for it
   reads : (x : Read (Row AnEntry × Bool)) → line_told e B Whole false p 0 ≡ x → (told : Row Spelled) × Reads x told
   reads x is = subst (λ y. (told : Row Spelled) × Reads y told) is
       ((computed_is_only (the_line false) (given e (drop p B) 0) (standing 0)).some)
 
+  -- the line at p, without the trees in its substitutions, is the line by itself, moved there, without
+  -- them; its first entry is blank where that was asked for
   pub outer_line : (blank newline : Bool) (es : Row AnEntry) (t : State) →
       line_from e B Outer blank p ≡ Ok ((es, newline), t)
       → (whole : Row AnEntry) × (u : State) × (told : Row Spelled) × Reads (Ok ((whole, newline), u)) told
@@ -31,6 +34,7 @@ module _ (e : Edition) (B : List ℕ) (p : ℕ) where
       let told = reads (Ok ((a.0, newline), a.1)) a.2 in
       (a.0, a.1, told.0, told.1, a.3, a.4)
 
+  -- the fault of the line at p is that of the line by itself, moved there
   fault_by : (blank : Bool) (f : Fault) (x : Read (Row AnEntry × Bool)) → line_told e B Whole false p 0 ≡ x →
       SameBy false p blank (Err f) x
       → (there : Fault) × (told : Row Spelled) × Reads (Err there) told × (f ≡ moved_fault p there)

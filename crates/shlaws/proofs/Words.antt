@@ -25,19 +25,23 @@ use Rattle.shgrammar.proofs.Places.{after_low, next_escaped_low, next_of_low, no
 use Rattle.shgrammar.proofs.Stretches.{place_low}
 use Rattle.shlaws.proofs.Forms.{Goes, Stepped, Steps, ahead, beyond, first, follows, gives, leads_byte, led_until, moves, moves_to, repeats, repeats_until, sees, step_by, stops, tokens, whens, whens_by}
 
+-- what is taken at q ends after q: a byte, or a backslash and the one after it
 taken_low : (T : List ℕ) (q : ℕ) → q < past_taken T q
 unfolding past_taken
 taken_low T q = cond_both (raw_stands T q backslash) _ _ (λ n. q < q + n) (λ e. omega arith) (λ e. omega arith)
 
 module _ (g : Given) where
+  -- the text that is given
   abbrev T : List ℕ
   T = g.text
 
+  -- nothing is said of what is read
   abbrev pub All : {X : Type 0} → X → State → Type 0
   All x t = Unit {0}
 
   -- ---- text that is not read
 
+  -- text in single quotes is read where each turn leads on, and has moved
   single_on : (s : State) → Goes g single (λ u t. s.at < t.at) s
   unfolding single
   single_on s =
@@ -45,6 +49,7 @@ module _ (g : Given) where
       sees g (moves g (moves g (whens g (stops g)
       (moves_to g (omega (arith, after_low T s.at, next_of_low apostrophe T q, taken_low T (next_quote T q)))))))
 
+  -- each turn over text in backquotes or in dollar-single quotes leads on
   escaped_on : (how : Escaping) (b : ℕ) (u : Unit {0}) (s : State)
       → Goes g (escaped_turn how b u) (Steps g All s) s
   unfolding escaped_turn
@@ -60,6 +65,7 @@ module _ (g : Given) where
       leads_past : (t : State) {q : ℕ} → q < length T → s.at ≤ q → q < t.at → leads_on g s t ≡ true
       leads_past t within before on = lt-ltb _ _ (omega (arith, within, before, on))
 
+  -- all of such text is read so, and has moved
   backquoted_text_on : (s : State) → Goes g backquoted_text (λ u t. s.at < t.at) s
   unfolding backquoted_text
   backquoted_text_on s =
@@ -98,6 +104,7 @@ module _ (g : Given) where
   Needs mode p _ = IsRead T p
 
   module _ (mode : Mode) (n p : ℕ) where
+    -- this is there at the end of the text
     end_needs : (mode : Mode) → byte_at T p ≡ None → Needs mode p (end_by mode)
     unfolding ends_word
     end_needs Plain none = λ e. rw none refl
@@ -106,6 +113,7 @@ module _ (g : Given) where
     end_needs DoubleBrace none = tt
     end_needs Arith none = tt
 
+    -- and at a `$`, by the byte after it
     dollar_needs : (x : Option ℕ) → IsRead T p → Needs mode p (dollar_by T (past_byte T p) x)
     dollar_needs None read = read
     dollar_needs (Some v) read =
@@ -116,11 +124,13 @@ module _ (g : Given) where
         (λ f. cond_both (v == left_brace) _ _ P (λ d. read)
         (λ d. cond_both (v == apostrophe) _ _ P (λ z. read) (λ z. read))))
 
+    -- at a `)` in arithmetic, by the brackets that are open
     bracket_needs : (m : ℕ) (two : Bool) → IsRead T p → Needs Arith p (bracket_by m two)
     bracket_needs zero true read = λ e. absurd cc
     bracket_needs zero false read = read
     bracket_needs (suc m) two read = read
 
+    -- at a byte other than a backslash, a backquote and a `$`
     byte_needs : (mode : Mode) (v : ℕ) → byte_at T p ≡ Some v → IsRead T p
         → Needs mode p (byte_by T p mode n v)
     unfolding ends_word
@@ -145,6 +155,7 @@ module _ (g : Given) where
         (λ e. bracket_needs n (stands T (past_byte T p) right_parenthesis) read)
         (λ e. cond_both (v == left_parenthesis) _ _ P (λ f. read) (λ f. read))
 
+    -- at p, by the byte that is read there, or that none is
     needs_by : (x : Option ℕ) → byte_at T p ≡ x → Needs mode p (piece_by T p mode n x)
     unfolding dollar_at
     needs_by None none = end_needs mode none
@@ -176,18 +187,22 @@ module _ (g : Given) where
     needs_known pieces.BadClose so = so
     needs_known pieces.Ordinary so = so
 
+    -- so it is there of the piece at p that the edition has
     needs : Needs mode p (piece_in g.edition mode (piece_at T mode n p))
     unfolding piece_at
     needs = needs_known (piece_at T mode n p) (needs_by (byte_at T p) refl)
 
   module _ (inner : Inner) (fine : Fine inner) where
     module _ (mode : Mode) (b : ℕ) (h : WordSoFar) (s : State) where
+      -- where the piece begins
       abbrev p : ℕ
       p = s.at
 
+      -- a turn over a piece leads on, but for the last one: a word ends after that
       abbrev Turn : Step WordSoFar → State → Type 0
       Turn x t = Stepped g All (Last mode) s x t
 
+      -- the places after one byte, two and three bytes lie after p
       one : p < past_byte T p
       one = after_low T p
 
@@ -214,6 +229,7 @@ module _ (g : Given) where
           led_until g All (Last mode) s (leads_byte g s t read on)
           (first g (fine.substitution q h.substs t) (λ ss u so. gives g tt))
 
+      -- what closes a word is nothing: after that the word ends still
       closes : (mode : Mode) → (mode ≡ Plain → ends_word T p ≡ true) → mode ≡ Plain
           → ends_word T (past_closer T mode p) ≡ true
       closes Plain so e = so e
@@ -222,6 +238,7 @@ module _ (g : Given) where
       closes DoubleBrace so e = absurd cc
       closes Arith so e = absurd cc
 
+      -- each turn leads on that reads the row of a piece, where there is what that piece needs
       row : (x : Piece) → Needs mode p x → Goes g (piece_row inner mode b h x) Turn s
       row pieces.Closer so = moves g (gives g (closes mode so))
       row pieces.Missing so = stops g
@@ -243,10 +260,12 @@ module _ (g : Given) where
       row pieces.BadClose so = sees g (stops g)
       row pieces.Ordinary so = moves g (at_once so one)
 
+      -- so does each turn over pieces
       piece_on : Goes g (a_piece inner mode b h) Turn s
       unfolding a_piece
       piece_on = sees g (row (piece_in g.edition mode (piece_at T mode h.nested p)) (needs mode h.nested p))
 
+    -- what a construct or a word holds is read so; the word ends after it
     pub contents_on : (mode : Mode) (b : ℕ) (ss : Row ASubst) (s : State)
         → Goes g (contents inner mode b ss) (λ x t. Last mode x t) s
     unfolding contents
@@ -256,6 +275,7 @@ module _ (g : Given) where
 
     -- ---- words
 
+    -- a word is read so, up to a place where it ends
     word_ends : (s : State) → Goes g (a_word inner) (λ w t. ends_word T t.at ≡ true) s
     unfolding a_word
     word_ends s = sees g (first g (tokens g (contents_on Plain _ [] s)) (λ w t so. gives g (so refl)))

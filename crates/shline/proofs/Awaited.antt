@@ -27,26 +27,31 @@ use Rattle.shgrammar.proofs.Stretches.{get_drop}
 
 -- ---- bytes from one place up to another
 
+-- the first n + 1 bytes are the first n and the one at n
 take_some : (n : ℕ) (X : List ℕ) (b : ℕ) → slice_get X n ≡ Some b → take (suc n) X ≡ take n X ++ b ∷ []
 take_some n [] b is = absurd cc
 take_some zero (c ∷ X) b is = let same : c ≡ b = cc in ap (λ (x : ℕ). x ∷ []) same
 take_some (suc n) (c ∷ X) b is = ap (λ (l : List ℕ). c ∷ l) (take_some n X b is)
 
+-- up to just past q stand the bytes up to q, and the one at q
 pub raw_some : (T : List ℕ) (p q b : ℕ) → p ≤ q → slice_get T q ≡ Some b → raw T p (q + 1) ≡ raw T p q ++ b ∷ []
 raw_some T p q b le is =
     let many : q + 1 - p ≡ suc (q - p) = omega (arith, le) in
     let at : p + (q - p) ≡ q = omega (arith, le) in
     ap (λ n. take n (drop p T)) many ∙ take_some (q - p) (drop p T) b (get_drop p T (q - p) ∙ ap (slice_get T) at ∙ is)
 
+-- from a place up to itself no byte stands
 pub raw_nothing : (T : List ℕ) (p : ℕ) → raw T p p ≡ []
 raw_nothing T p = let none : p - p ≡ 0 = omega arith in ap (λ n. take n (drop p T)) none
 
 -- ---- a word in one stretch
 
 module _ (B : List ℕ) (at : ℕ) (run : List ℕ) (is : IsRun B at run) where
+  -- a stretch is no longer than what is left of the source
   run_within : length run ≤ length (drop at B)
   run_within = grind (arith, is.short, is.none, length-drop)
 
+  -- what is left begins with it, and with each front of it
   run_front : take (length run) (drop at B) ≡ run
   run_front = same_number_lists _ _ (grind (arith, run_within, places))
       (λ k lt. grind (arith, run_within, is.same, places))
@@ -61,9 +66,11 @@ run_word B run base p q is le = ap (take (q - p)) (drop-drop p base B) ∙ run_p
 
 -- ---- tabs
 
+-- a tab is no newline
 tab_is_text : (b : ℕ) → (b == tab) ≡ true → (b == newline_char) ≡ false
 tab_is_text b is = grind (arith, nat_tests, is)
 
+-- with a byte in front tabs stand in their line still
 tabs_low_by : (b m n : ℕ) → m ≤ n → (t : Bool) → (b == tab) ≡ t →
     cond (b == tab) (1 + m) 0 ≤ cond (not (b == newline_char)) (1 + n) 0
 tabs_low_by b m n le true is = rw (is, tab_is_text b is) (omega (arith, le))
@@ -75,9 +82,11 @@ unfolding count_front
 tabs_low [] = omega arith
 tabs_low (b ∷ X) = tabs_low_by b _ _ (tabs_low X) (b == tab) refl
 
+-- a newline is no tab
 newline_is_no_tab : (b : ℕ) → (b == newline_char) ≡ true → (b == tab) ≡ false
 newline_is_no_tab b is = grind (arith, nat_tests, is)
 
+-- a line has as many tabs in front as the bytes from there on: with one byte before such bytes
 tabs_same_by : (b : ℕ) (X : List ℕ) →
     count_front (λ c. c == tab) (take (count_front (λ c. not (c == newline_char)) X) X) ≡ count_front (λ c. c == tab) X
     → (t : Bool) →
@@ -92,16 +101,19 @@ tabs_same_by b X rest false is =
     omega arith in
     rw (is, more) (ap (λ n. cond (b == tab) (1 + n) 0) rest)
 
+-- and of any bytes
 tabs_same : (X : List ℕ) → count_front (λ b. b == tab) (take (count_front (λ b. not (b == newline_char)) X) X)
     ≡ count_front (λ b. b == tab) X
 unfolding count_front
 tabs_same [] = refl
 tabs_same (b ∷ X) = tabs_same_by b X (tabs_same X) (b == newline_char) refl
 
+-- a front of no bytes is none
 take_nothing : (n : ℕ) → ◌≡◌ {A = List ℕ} [] (take n [])
 take_nothing zero = refl
 take_nothing (suc n) = refl
 
+-- from t on, the first n bytes are the first n - t that stand from t on
 drop_take : (t n : ℕ) (X : List ℕ) → drop t (take n X) ≡ take (n - t) (drop t X)
 drop_take zero n X = let same : n ≡ n - 0 = omega arith in ap (λ m. take m X) same
 drop_take (suc t) zero X = let same : 0 ≡ 0 - suc t = omega arith in ap (λ m. take m (drop (suc t) X)) same
@@ -109,6 +121,7 @@ drop_take (suc t) (suc n) [] = take_nothing (suc n - suc t)
 drop_take (suc t) (suc n) (b ∷ X) = let same : n - t ≡ suc n - suc t = omega arith in
     drop_take t n X ∙ ap (λ m. take m (drop t X)) same
 
+-- leading tabs end where the line does, or before
 pub tabs_before : (T : List ℕ) (p : ℕ) → raw_past (λ b. b == tab) T p ≤ next_newline T p
 unfolding raw_past
 tabs_before T p = omega (arith, tabs_low (drop p T))
@@ -132,23 +145,29 @@ stripped_line T p =
 
 -- ---- backslashes at the end of a line
 
+-- a line ends in an odd number of backslashes
 abbrev pub odd : List ℕ → Bool
 odd line = fold (λ o b. b == 92 && not o) false line
 
+-- the flag x, turned where the first one is set
 abbrev pub flipped : Bool → Bool → Bool
 flipped true x = not x
 flipped false x = x
 
+-- a line with one backslash more ends in an odd number just where it did not before
 flip_last : (line : List ℕ) → odd (line ++ 92 ∷ []) ≡ not (odd line)
 flip_last line = fold-append (λ o b. b == 92 && not o) false line (92 ∷ [])
 
+-- a line that ends in another byte does not end so
 other_last : (line : List ℕ) (b : ℕ) → (b == 92) ≡ false → odd (line ++ b ∷ []) ≡ false
 other_last line b other = fold-append (λ o c. c == 92 && not o) false line (b ∷ []) ∙ rw other refl
 
+-- a byte that is c by its test is c
 byte_is : (x : Option ℕ) (c : ℕ) → is_byte x c ≡ true → x ≡ Some c
 byte_is None c e = absurd cc
 byte_is (Some b) c e = let is : b ≡ c = grind (arith, nat_tests, e) in ap (λ (n : ℕ). Some n) is
 
+-- it is the same which of two flags is turned
 flipped_not : (b x : Bool) → flipped (not b) x ≡ flipped b (not x)
 flipped_not true true = refl
 flipped_not true false = refl
@@ -164,10 +183,12 @@ odd_more T p q so all lt is before =
     ∙ raw_some T p (q - 1) 92 (omega (arith, lt)) (byte_is (slice_get T (q - 1)) 92 is) in
     flipped_not so (odd (raw T p (q - 1))) ∙ ap (flipped so) (sym (ap odd here ∙ flip_last (raw T p (q - 1)))) ∙ before
 
+-- a flag that is not set, turned where b is, is b
 flipped_false : (b : Bool) → flipped b false ≡ b
 flipped_false true = refl
 flipped_false false = refl
 
+-- bytes that end in another byte do not end in an odd number of backslashes
 none_or : (T : List ℕ) (p q : ℕ) → p < q → q ≤ length T → raw_stands T (q - 1) 92 ≡ false → odd (raw T p q) ≡ false
 unfolding raw_stands
 none_or T p q lt within other =
@@ -199,6 +220,7 @@ odd_stops T p q so all within stops before = sym (ap (flipped so) none ∙ flipp
         ⊎_elim (λ lt. none_or T p q lt within (second (nat_lt p q) (raw_stands T (q - 1) 92) stops (lt-ltb p q lt)))
         (λ ge. let empty : q - p ≡ 0 = omega (arith, ge) in ap (λ n. odd (take n (drop p T))) empty) (cases_lt p q)
 
+-- the same of places that count from b
 pub odd_stops_on : (T : List ℕ) (b p q : ℕ) (so all : Bool) → b + q ≤ length T →
     (nat_lt p q && raw_stands T (b + (q - 1)) 92) ≡ false → flipped so (odd (raw T (b + p) (b + q))) ≡ all → so ≡ all
 odd_stops_on T b p q so all within stops before =
@@ -218,10 +240,12 @@ odd_stops_on T b p q so all within stops before =
 
 -- ---- the bytes of a delimiter
 
+-- not both of two flags are set where the second is not
 both_false : (a b : Bool) → b ≡ false → (a && b) ≡ false
 both_false true b e = e
 both_false false b e = refl
 
+-- up to q stand the byte at p, and those from p + 1 on
 raw_first : (T : List ℕ) (p q b : ℕ) → p < q → slice_get T p ≡ Some b → raw T p q ≡ b ∷ raw T (p + 1) q
 raw_first T p q b lt is =
     let many : q - p ≡ suc (q - (p + 1)) = omega (arith, lt) in
@@ -231,12 +255,15 @@ raw_first T p q b lt is =
     ap (λ n. take n (drop p T)) many ∙ ap (take (suc (q - (p + 1)))) (drop_more T p 0 long)
     ∙ ap (λ (c : ℕ). c ∷ raw T (p + 1) q) same
 
+-- bytes that begin with the same byte are equal just where the others are
 eq_both : (b : ℕ) (xs ys : List ℕ) → bytes_eq (b ∷ xs) (b ∷ ys) ≡ bytes_eq xs ys
 eq_both b xs ys = let same : (b == b) ≡ true = grind (arith, nat_tests) in rw same refl
 
+-- bytes that begin with two bytes that differ are not equal
 eq_first : (b c : ℕ) (xs ys : List ℕ) → (b == c) ≡ false → bytes_eq (b ∷ xs) (c ∷ ys) ≡ false
 eq_first b c xs ys other = rw other refl
 
+-- after i bytes: where the next byte is that of the others, they are equal just where what follows is
 bytes_more : (T : List ℕ) (p q i : ℕ) (bytes : List ℕ) → p + i < q → i < length bytes →
     raw_stands T (p + i) (get_or bytes i 0) ≡ true
     → bytes_eq (raw T (p + i) q) (drop i bytes) ≡ bytes_eq (raw T (p + i + 1) q) (drop (i + 1) bytes)
@@ -246,6 +273,7 @@ bytes_more T p q i bytes lt low is =
     rw (raw_first T (p + i) q c lt (byte_is (slice_get T (p + i)) c is), drop_more bytes i 0 low)
     (eq_both c (raw T (p + i + 1) q) (drop (i + 1) bytes))
 
+-- where it is not, they are not equal
 bytes_other : (T : List ℕ) (p q i : ℕ) (bytes : List ℕ) → p + i < q → q ≤ length T → i < length bytes →
     raw_stands T (p + i) (get_or bytes i 0) ≡ false
     → bytes_eq (raw T (p + i) q) (drop i bytes) ≡ false
@@ -269,6 +297,7 @@ pub bytes_other_on : (T : List ℕ) (p q i r : ℕ) (bytes : List ℕ) → r ≡
     → bytes_eq (raw T (p + i) q) (drop i bytes) ≡ false
 bytes_other_on T p q i r bytes is lt within low other = bytes_other T p q i bytes lt within low (rw is at other)
 
+-- where both end after i bytes, what is left of them is equal
 pub bytes_end : (T : List ℕ) (p q i : ℕ) (bytes : List ℕ) → p + i ≡ q → i ≡ length bytes →
     bytes_eq (raw T (p + i) q) (drop i bytes) ≡ true
 bytes_end T p q i bytes end whole =
@@ -310,11 +339,13 @@ bytes_long T p q bytes long = none_short (q - p) (drop p T) bytes long
 -- ---- one document after another
 
 module _ (g : Given) (w : Waiting) (rest : Row Waiting) (bodies : Row Span) (p : ℕ) where
+  -- where the delimiter's line of the first is found, the others are read from after it on
   pub body_more : (q : ℕ) → delimiter_from g.text w p ≡ Some q →
       bodies_from g (w ∷ rest) bodies p ≡ bodies_from g rest (bodies ++ span g.offset p q ∷ []) (past_line g.text q)
   unfolding bodies_from
   body_more q found = rw found refl
 
+  -- where it is not found, the document is not closed: a fault at its operator
   pub body_missing : delimiter_from g.text w p ≡ None →
       bodies_from g (w ∷ rest) bodies p ≡ Err (record { kind = UnclosedHere; at = w.operator })
   unfolding bodies_from
@@ -330,6 +361,7 @@ waiting_from (w ∷ ws) (suc i) d lt =
     waiting_from ws i d (omega (arith, lt))
     ∙ ap (λ n. view_waiting (get_or ws i d) ∷ drop n (map view_waiting (w ∷ ws))) (sym one)
 
+-- after the last one no more is read
 documents_end : (g : Given) (ws : Row the_waiting.Waiting) (i : ℕ) (bodies : Row Span) (p : ℕ) → length ws ≤ i →
     bodies_from g (drop i (map view_waiting ws)) bodies p ≡ Ok (bodies, p)
 unfolding bodies_from
@@ -346,6 +378,7 @@ pub bodies_read : (keep : Keep) (g : Given) (ws : Row the_waiting.Waiting) (star
 bodies_read keep g ws start bodies i p q le is =
     ap (λ x. nothing_read (state_by x)) (sym is ∙ documents_end g ws i bodies q le)
 
+-- what stops the body of one stops the reading of all
 pub bodies_stop : (keep : Keep) (g : Given) (ws : Row the_waiting.Waiting) (start bodies : Row Span) (i p q : ℕ)
     (bound : Limits) (e : Stop) (rest : Result (Row Span × ℕ) Fault)
     → bodies_from g (drop i (map view_waiting ws)) bodies q ≡ bodies_from g (map view_waiting ws) start p →
@@ -356,6 +389,7 @@ bodies_stop keep g ws start bodies i p q bound Memory rest is stop = stop
 bodies_stop keep g ws start bodies i p q bound (Wrong f) rest is stop =
     (ap (λ x. nothing_read (state_by x)) (sym is ∙ stop.0), stop.1)
 
+-- where no document waits, no body is read and the state stays
 none_by : (keep : Keep) (g : Given) (bs : Row Span) (p : ℕ) (ws : Row the_waiting.Waiting) → length ws ≡ 0
     → does (change bodies_here) keep g (record { at = p; waiting = map view_waiting ws; bodies = bs })
     ≡ Ok (tt, record { at = p; waiting = map view_waiting ws; bodies = bs })

@@ -9,11 +9,13 @@ use Rattle.shline.specs.Sought.{ArePlain}
 use Rattle.shgrammar.specs.Plain.{is_plain}
 use Rattle.shgrammar.specs.declared.mode.Mode.TheVariants.{Plain, Double, Brace, DoubleBrace}
 
+-- two flags are equal
 unfoldable pub same : Bool → Bool → Bool
 same true b = b
 same false true = false
 same false false = true
 
+-- so they are where this holds
 same_is : (a b : Bool) → same a b ≡ true → a ≡ b
 unfolding same
 same_is true b e = sym e
@@ -25,6 +27,7 @@ unfoldable pub agree : (ℕ → Bool) → (ℕ → Bool) → ℕ → Bool
 agree f g zero = true
 agree f g (suc n) = same (f n) (g n) && agree f g n
 
+-- tests that agree below n are equal at each number below it
 pub agree_at : (f g : ℕ → Bool) (n k : ℕ) → agree f g n ≡ true → k < n → f k ≡ g k
 unfolding agree
 agree_at f g zero k all low = absurd (omega (arith, low))
@@ -65,6 +68,7 @@ passed low high test all run bytes n is = (
       ∙ prefix_len_passes (is_outside low high) run k 0 (omega (arith, is, below)),
 )
 
+-- the bytes before the first special one of each mode are ordinary in that mode
 pub plain_passed : (run : List ℕ) → ((k : ℕ) → Fits w8 (get_or run k 0)) → (n : ℕ) →
     n ≡ prefix_len (is_outside PLAIN SPECIAL) run → ArePlain Plain run n
 plain_passed = passed PLAIN SPECIAL (is_plain Plain) plain_set

@@ -9,12 +9,14 @@ use Rattle.shline.proofs.Searches.{byte_passed}
 
 -- ---- blanks before a place that counts from b
 
+-- a blank more leaves the last byte that is none where it is
 pub blanks_before_on : (T : List ℕ) (b q : ℕ) → 0 < q → raw_in is_blank T (b + (q - 1)) ≡ true →
     before_blanks T (b + q) ≡ before_blanks T (b + (q - 1))
 blanks_before_on T b q lt one =
     let back : b + (q - 1) ≡ b + q - 1 = omega (arith, lt) in
     rw back (blanks_before T (b + q) (omega (arith, lt)) (rw back at one))
 
+-- a byte that is no blank is the last one itself
 pub no_blanks_before_on : (T : List ℕ) (b q : ℕ) → 0 < q → raw_in is_blank T (b + (q - 1)) ≡ false →
     before_blanks T (b + q) ≡ b + q
 no_blanks_before_on T b q lt none =
@@ -23,6 +25,7 @@ no_blanks_before_on T b q lt none =
 
 -- ---- the `#` of a comment
 
+-- a `#` is a byte, and is no newline and no blank
 byte_of_comment : (x : Option ℕ) → is_byte x number_sign ≡ true → (is_none x ≡ false) × (is_byte x newline_char ≡ false)
     × (passes is_blank x ≡ false)
 byte_of_comment None is = absurd cc

@@ -21,9 +21,11 @@ use Rattle.shgrammar.specs.Tokens.{token_at}
 use Rattle.shast.specs.Bodies.{filled_row}
 use Rattle.shgrammar.specs.declared.edition.Edition.{Edition}
 
+-- a newline token, before which no continuation stands
 newline_first : Next
 newline_first = record { token = Newline; broken = false }
 
+-- before a newline at the front no blank stands, and no continuation
 place : (U : List ℕ) → past_blanks (10 ∷ U) 0 ≡ 0
 unfolding raw_past count_front continues raw_stands
 place U = blanks_whole (10 ∷ U) 0 refl
@@ -32,10 +34,12 @@ joins : (U : List ℕ) → past_continuations (10 ∷ U) 0 ≡ 0
 unfolding continues raw_stands
 joins U = joined_none (10 ∷ U) 0 refl
 
+-- the newline is read as one byte
 next : (U : List ℕ) → past_byte (10 ∷ U) 0 ≡ 1
 unfolding past_byte
 next U = ap (λ n. n + 1) (joins U)
 
+-- a text that begins with a newline has no entry on its first line, which ends after that
 pub told : (edition : Edition) (U : List ℕ) (keep : Keep) (blank : Bool) (o : ℕ) →
     line_told edition (10 ∷ U) keep blank 0 o ≡ Ok (([], true), standing 1)
 unfolding a_line an_open_line nothing_waits filled_row next_token on_line a_remark a_comment end_of_line token_at
@@ -46,10 +50,12 @@ told edition U keep blank o =
     (standing 0) refl in
     rw (place U, joins U, none, next U) refl
 
+-- the byte, or 0 where there is none
 value : Option ℕ → ℕ
 value None = 0
 value (Some b) = b
 
+-- the same of a text whose first byte is told to be a newline
 begun : (edition : Edition) (T : List ℕ) (keep : Keep) (blank : Bool) (o : ℕ) → slice_get T 0 ≡ Some 10 →
     line_told edition T keep blank 0 o ≡ Ok (([], true), standing 1)
 unfolding value

@@ -6,6 +6,7 @@ use Rattle.shgrammar.specs.Shows.{Shows}
 use Rattle.shgrammar.specs.Standing.{at_end, continues, raw_stands}
 use Rattle.shgrammar.proofs.Stretches.{joined_none}
 
+-- at the end of the text the token shown is the end
 pub end_shown : (T : List ℕ) (p : ℕ) → p ≡ length T → Shows tokens.End T p
 unfolding at_end continues raw_stands
 end_shown T p is =

@@ -53,6 +53,7 @@ unfolding past_blanks
 blanks_over T p joined =
     sym (blanks_on T (p + 2)) ∙ sym (same_place T p (p + 2) (stands_in is_blank T p) (joined_more T p joined) refl)
 
+-- the same, where the places are told one by one
 pub blanks_over_on : (T : List ℕ) (p q r : ℕ) → q ≡ p + 2 → r ≡ raw_past is_blank T q → continues T p ≡ true
     → past_blanks T r ≡ past_blanks T p
 blanks_over_on T p q r next end joined = ap (past_blanks T) (end ∙ ap (raw_past is_blank T) next)

@@ -12,6 +12,7 @@ no_pass : (x : Bool) → (x ≡ true → ⊥) → not x ≡ true
 no_pass true never = absurd (never refl)
 no_pass false never = refl
 
+-- and one that holds
 one_pass : (x : Bool) → x ≡ true → not x ≡ false
 one_pass x e = rw e refl
 
@@ -76,6 +77,7 @@ such_on test B base begin p r is low =
 
 -- ---- byte by byte
 
+-- a byte other than c is passed; c is not, nor is the end
 other_byte : (c : ℕ) (b : Option ℕ) → is_none b ≡ false → is_byte b c ≡ false → passes (λ x. not (x == c)) b ≡ true
 other_byte c None some other = absurd cc
 other_byte c (Some x) some other = rw other refl
@@ -88,6 +90,7 @@ no_byte : (c : ℕ) (b : Option ℕ) → is_none b ≡ true → passes (λ x. no
 no_byte c None none = refl
 no_byte c (Some x) none = absurd cc
 
+-- where another byte stands, the next c is that from the next place on; at c and at the end it is here
 pub byte_passed : (c : ℕ) (T : List ℕ) (p : ℕ) → at_end T p ≡ false → raw_stands T p c ≡ false →
     next_of c T p ≡ next_of c T (p + 1)
 unfolding raw_in at_end raw_stands

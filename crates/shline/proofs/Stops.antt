@@ -18,6 +18,7 @@ use Rattle.shgrammar.proofs.Turns.{turns_fault}
 use Rattle.shgrammar.specs.declared.edition.Edition.{Edition}
 
 module _ {A : Type 0} (turn : A → Form (Step A)) (keep : Keep) (g : Given) where
+  -- a turn that stops, stops the repetition
   pub many_stop : (a : A) (s : State) (bound : Limits) (e : Stop) → Fails bound e (does (turn a) keep g s) →
       Fails bound e (does (many turn a) keep g s)
   unfolding many
@@ -26,6 +27,7 @@ module _ {A : Type 0} (turn : A → Form (Step A)) (keep : Keep) (g : Given) whe
 
 -- ---- in a word
 
+-- what stops the pieces of a construct stops what it holds
 stops : (bound : Limits) (e : Stop) (x : Read WordSoFar) → Fails bound e x → Fails bound e (given_by x)
 stops bound Memory x stop = stop
 stops bound (Wrong f) x stop = (rw (stop.0) refl, stop.1)
@@ -45,6 +47,7 @@ module _ (inner : Inner) (keep : Keep) (g : Given) (mode : Mode) (b : ℕ) (ws :
       stops bound e _ (subst (Fails bound e) so
       (many_stop (a_piece inner mode b) keep g h (placed ws ds p) bound e stop))
 
+-- what stops after plain bytes of a word stops the word
 pub word_stops : (edition : Edition) (inner : Inner) (keep : Keep) (ws : Row Waiting) (ds : Row Span) (T : List ℕ)
     (o p q : ℕ) (bound : Limits) (e : Stop) → ArePlain Plain T p q → p ≤ q → q ≤ length T
     → Fails bound e (does (contents inner Plain (o + p) []) keep (given edition T o) (placed ws ds q)) →

@@ -32,6 +32,7 @@ module _ (T : List ℕ) (p a b : ℕ) (still : past_continuations T p ≡ p)
   other_word (c ∷ []) bad = rw (still, first, bad) refl
   other_word (c ∷ d ∷ ds) bad = other_two c d ds (a == c) (b == 92) refl refl bad
 
+  -- nor does one of several words, none of which may
   pub none_begins : (ws : Row Spelling) → may_begin ws a b ≡ false → first_of_words T p ws ≡ None
   unfolding may_begin first_of_words
   none_begins [] bad = refl
@@ -45,6 +46,7 @@ module _ (T : List ℕ) (p a b : ℕ) (still : past_continuations T p ≡ p)
 none : ℕ → ℕ → Bool
 none a b = bit_and (get_or FIRST a 0) (get_or SECOND b 0) == 0
 
+-- a flag turned twice is as it was
 not_not : (x : Bool) → x ≡ not (not x)
 not_not true = refl
 not_not false = refl
@@ -59,9 +61,11 @@ unfolding agree same alone none
 none_alone = refl
 
 module _ (a b : ℕ) (bad : none a b ≡ true) where
+  -- a and b have no kind in common, so they are not two bytes that have
   contrary : (c d : ℕ) → (a == c) ≡ true → (b == d) ≡ true → none c d ≡ false → true ≡ false
   contrary c d e f some = sym bad ∙ ap (λ x. none x b) (eqb-true a c e) ∙ ap (none c) (eqb-true b d f) ∙ some
 
+  -- a word of one byte may not begin with them, where that byte has a kind in common with b
   spells_one : (c : ℕ) (x : Bool) → (a == c) ≡ x → none c b ≡ false → may_spell (c ∷ []) a b ≡ false
   unfolding may_spell
   spells_one c false e some = e
@@ -80,6 +84,7 @@ module _ (a b : ℕ) (bad : none a b ≡ true) where
       → may_spell (c ∷ d ∷ ds) a b ≡ false
   spells_two c d ds = two c d ds (a == c) (b == 92) (b == d) refl refl refl
 
+  -- so no reserved word may, if b is below 256
   begins_none : b < 256 → may_begin reserved_words a b ≡ false
   unfolding may_begin reserved_words none alone
   begins_none low =
@@ -102,6 +107,7 @@ module _ (a b : ℕ) (bad : none a b ≡ true) where
       (or_from _ _ (spells_two 117 110 _ refl refl)
       (or_from _ _ (spells_two 119 104 _ refl refl) refl)))))))))))))))
 
+-- no reserved word may begin with two bytes that have no kind in common by the tables
 pub no_kind : (a b : ℕ) → b < 256 → not (bit_and (get_or FIRST a 0) (get_or SECOND b 0) == 0) ≡ false
     → may_begin reserved_words a b ≡ false
 unfolding none

@@ -20,6 +20,7 @@ use Rattle.shline.specs.Clauses.{is_compound}
 use Rattle.shline.specs.declared.documents.Waiting as the_waiting
 use Rattle.shline.specs.Limits.{Waits, limits, wants_memory}
 
+-- a `<` at p is one in the text
 byte_some : (T : List ℕ) (p : ℕ) (b : Option ℕ) → slice_get T p ≡ b → is_byte b less_than_sign ≡ true →
     list_any (λ b. b == less_than_sign) T ≡ true
 byte_some T p None is e = absurd cc
@@ -32,6 +33,7 @@ pub here_wants : (k : ℕ) (T : List ℕ) (token : Token) (p : ℕ) (o : Redirec
 unfolding raw_stands
 here_wants k T token p o shows is takes = or_right _ _ (byte_some T p _ refl (shows.here o is takes))
 
+-- the token of a redirection's operator is not the end
 is_operator : (token : Token) (o : RedirectOperator) → redirect_operator_of token ≡ Some o → is_end token ≡ false
 is_operator (tokens.Redirect p) o is = refl
 is_operator _ o is = absurd cc
@@ -47,6 +49,7 @@ pub waits_memory : (k origin : ℕ) (T : List ℕ) (ws : List the_waiting.Waitin
 waits_memory k origin T [] i all lt = absurd (omega (arith, lt))
 waits_memory k origin T (w ∷ ws) i all lt = (All-head (Waits (limits k origin T)) w ws all).1
 
+-- where comments are kept, and are none without a tree, there is a tree, whatever x is
 kept_by : (tree x : Bool) (cs : List Comment) → (tree ≡ false → map view_comment cs ≡ []) → 0 < length cs →
     (tree || x) ≡ true
 kept_by true x cs none some = refl

@@ -19,10 +19,12 @@ use Rattle.shlive.proofs.OneAnswer.{one_fault, one_outline, one_row_of_nodes, on
 -- ---- one edit
 
 module _ (before : Held) (ss : Row ASplice) (after : Held) where
+  -- an edit that was made has the edited bytes, and one that was refused has those before it
   bytes_one : (r : Result (Unit {0}) LiveError) → IsAfterBy r before ss after → after.bytes ≡ bytes_by r before.bytes ss
   bytes_one (Ok made) is = is.bytes
   bytes_one (Err error) is = is.bytes
 
+  -- neither changes how the session reads and prints
   how_one : (r : Result (Unit {0}) LiveError) → IsAfterBy r before ss after → after.how ≡ before.how
   how_one (Ok made) is = is.how
   how_one (Err error) is = is.how
@@ -31,10 +33,12 @@ module _ (before : Held) (ss : Row ASplice) (after : Held) where
   abbrev Rose : ℕ → ℕ → Type 0
   Rose least most = (raised before.meter least ≤ after.meter) × (after.meter ≤ raised before.meter most)
 
+  -- where the meter stays, it rises by no byte at least and at most
   none_read : (least most : ℕ) → before.meter < 2 ^ 64 → after.meter ≡ before.meter → (least ≡ 0) × (most ≡ 0) →
       Rose least most
   none_read least most low same (none, nor) = (omega (arith, low, same, none), omega (arith, low, same, nor))
 
+  -- for an edit it rises by as many bytes as are read for it at least and at most
   rose_one : (r : Result (Unit {0}) LiveError) (least most : ℕ) → before.meter < 2 ^ 64 → IsAfterBy r before ss after
       → AreReadBy r before.how.edition before.bytes ss least most → Rose least most
   rose_one (Ok made) least most low is (w, t, window, l, m) =
@@ -51,20 +55,24 @@ module _ (before : Held) (ss : Row ASplice) (after : Held) where
 
 -- ---- all of them
 
+-- the bytes after edits are what those that were made make of them, one after the other
 pub all_bytes : (before after : Held) (es : Row Tried) → IsAfter before es after →
     after.bytes ≡ bytes_after before.bytes es
 all_bytes before after [] is = ap (λ (h : Held). h.bytes) is
 all_bytes before after (e ∷ es) (mid, one, rest) =
     all_bytes mid after es rest ∙ ap (λ B. bytes_after B es) (bytes_one before e.splices mid e.result one)
 
+-- no edit changes how the session reads and prints
 pub all_how : (before after : Held) (es : Row Tried) → IsAfter before es after → after.how ≡ before.how
 all_how before after [] is = ap (λ (h : Held). h.how) is
 all_how before after (e ∷ es) (mid, one, rest) = all_how mid after es rest ∙ how_one before e.splices mid e.result one
 
+-- a meter that rises twice rises by both sums, at least and at most
 both_rose : (x y z l n m k : ℕ) → x < 2 ^ 64 → raised x l ≤ y → y ≤ raised x m → raised y n ≤ z → z ≤ raised y k
     → (raised x (l + n) ≤ z) × (z ≤ raised x (m + k))
 both_rose x y z l n m k low p q r s = (omega (arith, low, p, q, r), omega (arith, low, p, q, s))
 
+-- for all edits the meter rises by the sums of what is read for each
 pub all_rose : (before after : Held) (es : Row Tried) (least most : ℕ) → before.meter < 2 ^ 64 → IsAfter before es after
     → AreRead before.how.edition before.bytes es least most → (raised before.meter least ≤ after.meter)
     × (after.meter ≤ raised before.meter most)
@@ -90,6 +98,7 @@ sums_one (Err Range) edition bytes ss = (0, 0, (refl, refl))
 sums_one (Err TooLarge) edition bytes ss = (0, 0, (refl, refl))
 sums_one (Err Order) edition bytes ss = (0, 0, (refl, refl))
 
+-- and so are those of any list of edits
 pub all_sums : (edition : Edition) (bytes : List ℕ) (es : Row Tried) → (least most : ℕ)
     × AreRead edition bytes es least most
 all_sums edition bytes [] = (0, 0, none_tried)
@@ -106,6 +115,7 @@ module _ (before after : Held) (es : Row Tried) (is : IsAfter before es after) w
   here P p = subst (λ (h : SessionOptions). P h after.bytes) (sym (all_how before after es is))
       (subst (P before.how) (sym (all_bytes before after es is)) p)
 
+  -- to each question there is the same answer after the edits as for the edited bytes from scratch
   pub same_fault : (x y : Option Fault) → FirstFault after.how.edition after.bytes x →
       FirstFault before.how.edition (bytes_after before.bytes es) y → x ≡ y
   same_fault x y p q = one_fault after.how.edition after.bytes x y p (here (λ h B. FirstFault h.edition B y) q)

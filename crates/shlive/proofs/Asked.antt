@@ -23,11 +23,13 @@ use Rattle.shlive.proofs.Taken.{takes_both}
 
 -- ---- the line of a request
 
+-- up to its newline a line is what it asks for, and what follows the newline goes on with that
 pub line_first : (text rest : List ℕ) → IsInLine text →
     next_request_of ((text ++ 10 ∷ []) ++ rest) ≡ next_by_kind (kind_of_line text) rest
 line_first [] rest p = refl
 line_first (c ∷ text) rest p = ap next_by_line (line_ends (c ∷ text) rest p)
 
+-- bytes that no newline ends are a request that is cut off
 pub line_cut : (text : List ℕ) → IsInLine text → 0 < length text → next_request_of text ≡ unfinished
 line_cut [] p some = absurd (omega (arith, some))
 line_cut (c ∷ text) p some = ap next_by_line (line_open (c ∷ text) p)
@@ -35,6 +37,7 @@ line_cut (c ∷ text) p some = ap next_by_line (line_open (c ∷ text) p)
 -- ---- the bytes of a splice
 
 module _ (part : Part) (next : ASplice → Parser) (bytes : List ℕ) where
+  -- after all bytes of a splice comes the rest of their line
   seam : (more : List ℕ) → length bytes ≡ part.count →
       with_bytes part next (bytes ++ more) ≡ after_payload (next (splice_by part bytes)) (first_line more)
   seam more all =
@@ -44,6 +47,7 @@ module _ (part : Part) (next : ASplice → Parser) (bytes : List ℕ) where
       (take-append_seam bytes more)
       ∙ ap (λ l. after_payload (next (splice_by part bytes)) (first_line l)) (drop-append_seam bytes more)
 
+  -- a splice with all its bytes goes on by what stands between them and the next newline
   pub bytes_whole : (text rest : List ℕ) → length bytes ≡ part.count → IsInLine text
       → with_bytes part next ((bytes ++ (text ++ 10 ∷ [])) ++ rest)
       ≡ after_payload (next (splice_by part bytes)) (Some (text, rest))
@@ -56,6 +60,7 @@ module _ (part : Part) (next : ASplice → Parser) (bytes : List ℕ) where
       with_bytes part next (bytes ++ text) ≡ unfinished
   bytes_cut_line text all p = seam text all ∙ ap (after_payload (next (splice_by part bytes))) (line_open text p)
 
+-- where nothing stands before that newline the request goes on, and where bytes do it has a flaw
 pub after_none : (next : Parser) (text rest : List ℕ) → text ≡ [] → after_payload next (Some (text, rest)) ≡ next rest
 after_none next text rest none = ap (λ l. after_payload next (Some (l, rest))) none
 
@@ -73,6 +78,7 @@ parts_on zero ss rest none = absurd (omega (arith, none))
 parts_on (suc n) ss rest more = let less : n ≡ suc n - 1 = omega arith in
     ap (λ m. part_by_line (λ s. more_parts m (ss ++ s ∷ [])) (first_line rest)) less
 
+-- an edit whose line came is never taken for no request: a batch, one alone, and either form
 parts_begin : (count : ℕ) (ss : Row ASplice) → more_parts count ss [] ≡ nothing → ⊥
 parts_begin zero ss e = let wrong : asks (edit ss) [] ≡ nothing = e in absurd cc
 parts_begin (suc n) ss e = let wrong : unfinished ≡ nothing = e in absurd cc
@@ -102,6 +108,7 @@ some_taken old new taken t some none =
 
 module _ (parser : Parser) (old new : TurnState) (same : new.session ≡ old.session)
     (silent : new.written ≡ old.written) (sound : new.broken ≡ false) where
+  -- where no more bytes come in a request, the run ends inside it
   pub stops_inside : (stop : InputEnd) (taken : List ℕ) → TakesBytes old.ahead new.ahead taken →
       (new.ahead.waiting.bytes ≡ [] → parser taken ≡ unfinished) → StopsBy new.ahead stop
       → EndsAs parser old new (end_inside stop)
@@ -119,6 +126,7 @@ module _ (parser : Parser) (old new : TurnState) (same : new.session ≡ old.ses
   stops_inside stops.TooLong taken takes whole s =
       record { taken = taken; takes = takes; none = s; same = same; silent = silent; sound = sound }
 
+  -- where none come of a request, the run ends between two
   pub stops_between : (stop : InputEnd) → TakesBytes old.ahead new.ahead [] → parser [] ≡ nothing
       → StopsBy new.ahead stop → EndsAs parser old new (end_between stop)
   stops_between stops.Met takes none s =
@@ -141,15 +149,18 @@ module _ (text : List ℕ) (parser : Parser)
     (front : (rest : List ℕ) → next_request_of ((text ++ 10 ∷ []) ++ rest) ≡ parser rest)
     (begun : parser [] ≡ nothing → ⊥)
     (old new : TurnState) (mid : Ahead) (first : TakesBytes old.ahead mid (text ++ 10 ∷ [])) where
+  -- where the run stands once the line was taken
   abbrev after_line : TurnState
   after_line = record { session = old.session; ahead = mid; written = old.written; broken = old.broken }
 
+  -- the line with what follows is understood as the parser understands what follows
   through : (taken rest : List ℕ) → next_request_of (((text ++ 10 ∷ []) ++ taken) ++ rest) ≡ parser (taken ++ rest)
   through taken rest = ap next_request_of (append_assoc (text ++ 10 ∷ []) taken rest) ∙ front (taken ++ rest)
 
   through_all : (taken : List ℕ) → next_request_of ((text ++ 10 ∷ []) ++ taken) ≡ parser taken
   through_all taken = front taken
 
+  -- a reply to what follows the line is one to the request with its line
   replied_through : (failed : Bool) → Replied parser after_line new failed → Replied next_request_of old new failed
   replied_through failed r = record {
     taken = (text ++ 10 ∷ []) ++ r.taken;
@@ -159,6 +170,7 @@ module _ (text : List ℕ) (parser : Parser)
     tells = r.tells;
   }
 
+  -- and so it is of why no request follows, of what changes nothing, and of an end of the run
   none_through : («end» : End) (taken : List ℕ) → NoFurther parser «end» taken new.ahead →
       NoFurther next_request_of «end» ((text ++ 10 ∷ []) ++ taken) new.ahead
   none_through Clean taken n = absurd (begun n.1)
@@ -187,6 +199,7 @@ module _ (text : List ℕ) (parser : Parser)
   ends_through TooLong s = stays_through TooLong s
   ends_through Unwritable s = (replied_through true s.0, s.1, s.2)
 
+  -- so a turn from after the line on is a turn from the line on
   pub turn_through : (r : Result (Unit {0}) End) → IsTurn parser after_line new r → IsTurn next_request_of old new r
   turn_through (Ok replied) turn = replied_through false turn
   turn_through (Err why) turn = ends_through why turn
@@ -194,9 +207,11 @@ module _ (text : List ℕ) (parser : Parser)
 -- ---- a request that is a line alone
 
 module _ (text : List ℕ) (inline : IsInLine text) (kind : Option RequestKind) (is : kind ≡ kind_of_line text) where
+  -- with its newline the line is what its kind asks for
   pub line_is : (rest : List ℕ) → next_request_of ((text ++ 10 ∷ []) ++ rest) ≡ next_by_kind kind rest
   line_is rest = line_first text rest inline ∙ ap (λ o. next_by_kind o rest) (sym is)
 
+  -- a reply to what it asks for is one to the request that is this line
   pub plain_replied : (old new : TurnState) (failed : Bool) (request : Request)
       → TakesBytes old.ahead new.ahead (text ++ 10 ∷ [])
       → ((rest : List ℕ) → next_by_kind kind rest ≡ asks request rest)
@@ -216,6 +231,7 @@ pub some_spelled : (taken : List ℕ) (request : Request) → Spells next_reques
 some_spelled [] request spelled = let wrong : nothing ≡ asks request [] = spelled [] in absurd cc
 some_spelled (b ∷ taken) request spelled = omega arith
 
+-- of m bytes that may come in all, fewer are still to be taken once some were
 pub smaller : (m : ℕ) (a b : Ahead) (taken : List ℕ) → TakesBytes a b taken → 0 < length taken → a.waiting.count < m
     → m + length b.waiting.bytes - b.waiting.count < m + length a.waiting.bytes - a.waiting.count
 smaller m a b taken t some few =
@@ -225,6 +241,7 @@ smaller m a b taken t some few =
     let count = t.counted in
     omega (arith, before, after, same, count, some, few)
 
+-- to append nothing leaves what a writer holds
 pub appends_none : (a : Option (List ℕ)) → Appends a a []
 appends_none None = tt
 appends_none (Some x) = sym (append-nil x)

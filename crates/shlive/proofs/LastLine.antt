@@ -19,6 +19,7 @@ use Rattle.shheld.proofs.Rows.{last_at, row_fault, row_outcome}
 use Rattle.shlive.specs.HeldLines.{IsHeldLine, fault_in}
 use Rattle.shlive.proofs.TopLines.{last_within, row_top}
 
+-- the fault of a line is moved to where that begins; where it has none there is none
 fault_there : (k : AKind) (base : ℕ) (f : Fault) → fault_in k ≡ Some f → fault_at base k ≡ Some (moved_fault base f)
 fault_there (faulty_line g) base f e = ap (λ (o : Option Fault). moved o) e
   where
@@ -35,6 +36,7 @@ none_there blank_line base e = refl
 none_there (entries_line es) base e = refl
 none_there end_line base e = refl
 
+-- a fault that stands within n bytes has an offset of n at most
 low_by : (k : AKind) (n : ℕ) (f : Fault) → FaultWithin n k → fault_in k ≡ Some f → f.at ≤ n
 low_by (faulty_line g) n f low e = subst (λ (o : Option Fault). low_of o) e low
   where
@@ -47,18 +49,22 @@ low_by end_line n f low e = absurd cc
 
 module _ (edition : Edition) (B : List ℕ) (row : Row (HeldLine AKind)) (is : IsRow (IsHeldLine edition) B row)
     (before : Row (HeldLine AKind)) (l : HeldLine AKind) (split : row ≡ before ++ l ∷ []) where
+  -- the row with its last line apart
   last_row : IsRow (IsHeldLine edition) B (before ++ l ∷ [])
   last_row = subst (IsRow (IsHeldLine edition) B) split is
 
+  -- the last line ends where the text does, so it is no longer than that
   last_end : extent before + l.len ≡ length B
   last_end = last_at edition B before l (row_top edition B (before ++ l ∷ []) last_row)
 
   pub last_low : l.len ≤ length B
   last_low = omega (arith, last_end)
 
+  -- its fault stands in it, or at its end
   pub fault_low : (f : Fault) → fault_in l.kind ≡ Some f → f.at ≤ l.len
   fault_low f e = low_by l.kind l.len f (last_within edition B before l last_row) e
 
+  -- that is the first fault of the script; where the line has none, the script has none
   pub is_fault : (f : Fault) → fault_in l.kind ≡ Some f →
       FirstFault edition B (Some (record { kind = f.kind; at = length B - l.len + f.at }))
   is_fault f e =
@@ -72,11 +78,13 @@ module _ (edition : Edition) (B : List ℕ) (row : Row (HeldLine AKind)) (is : I
 
 -- ---- the script of the lines
 
+-- a script has one first fault, or none
 pub one_fault : (edition : Edition) (B : List ℕ) (f g : Option Fault) → FirstFault edition B f → FirstFault edition B g
     → f ≡ g
 one_fault edition B f g one two =
     ap (λ (s : AScript). s.fault) (script_only edition B _ one.1 ∙ sym (script_only edition B _ two.1))
 
+-- an option that is not some is none, and none is not some
 pub none_is : (f : Option Fault) → is_some f ≡ false → f ≡ None
 none_is None e = refl
 none_is (Some f) e = absurd cc
@@ -84,6 +92,7 @@ none_is (Some f) e = absurd cc
 none_some : (f : Fault) → None ≡ Some f → ⊥
 none_some f e = cc
 
+-- a script whose first fault is none has no first fault besides
 pub no_fault : (edition : Edition) (B : List ℕ) (f : Option Fault) → FirstFault edition B f → is_some f ≡ false →
     (g : Fault) → FirstFault edition B (Some g) → ⊥
 no_fault edition B f first none g other =

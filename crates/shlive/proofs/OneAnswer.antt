@@ -12,6 +12,7 @@ use Rattle.shlive.specs.Answers.{HasNodesAt, HasOutline, HasStatus, HasText, sta
 use Rattle.shlive.specs.Held.{SessionOptions}
 
 module _ (edition : Edition) (B : List ℕ) where
+  -- there is one script of the bytes, one first fault, status and outline, and one row of nodes at an offset
   one_script : (s t : AScript) → Outcome edition B s → Outcome edition B t → s ≡ t
   one_script s t p q = script_only edition B s p ∙ sym (script_only edition B t q)
 
@@ -28,11 +29,13 @@ module _ (edition : Edition) (B : List ℕ) where
   one_row_of_nodes at x y p q = p.2 ∙ ap (λ (s : AScript). nodes_at 0 at s.entries) (one_script p.0 q.0 p.1 q.1)
       ∙ sym q.2
 
+  -- a script without a fault is not that of bytes that have one
   no_text : (s : AScript) (f : Fault) → Outcome edition B s → s.fault ≡ None → FirstFault edition B (Some f) → ⊥
   no_text s f p none first =
       let wrong : Some f ≡ None = ap (λ (t : AScript). t.fault) (one_script _ _ first.1 p) ∙ none in absurd cc
 
 module _ (how : SessionOptions) (B : List ℕ) where
+  -- there is one printed text, or none
   pub one_text : (x y : Option (List ℕ)) → HasText how B x → HasText how B y → x ≡ y
   one_text None None p q = refl
   one_text None (Some y) p q = absurd (no_text how.edition B q.script p.0 q.outcome q.faultless p.1)

@@ -10,11 +10,12 @@ use Rattle.shlive.specs.declared.request_kind.RequestKind.TheVariants as kinds
 
 -- ---- what follows a request is shorter
 
--- how long a line is, its newline, and what follows it
+-- what follows the first line, if there is one, is shorter than the text
 abbrev Shorter : List ℕ → Lined → Type 0
 Shorter text None = Unit {0}
 Shorter text (Some (line, rest)) = length rest < length text
 
+-- what follows the first line is shorter than the text, with one byte more before it and then of any text
 shorter_after : (b : ℕ) (text : List ℕ) (l : Lined) → Shorter text l → Shorter (b ∷ text) (with_text_before (b ∷ []) l)
 shorter_after b text None p = tt
 shorter_after b text (Some (line, rest)) p = omega (arith, p)
@@ -39,6 +40,7 @@ Leaves n (asks request rest) = length rest < n
 abbrev GoesOn : ℕ → Parser → Type 0
 GoesOn n next = (rest : List ℕ) → length rest < n → Leaves n (next rest)
 
+-- less is left after a splice, a part and its line, all parts of a batch, and what any line asks for
 leaves_after : (next : Parser) (text : List ℕ) (l : Lined) (n : ℕ) → Shorter text l → length text < n → GoesOn n next →
     Leaves n (after_payload next l)
 leaves_after next text None n p low on = tt
@@ -83,20 +85,24 @@ leaves_line : (text : List ℕ) (l : Lined) → Shorter text l → Leaves (lengt
 leaves_line text None p = tt
 leaves_line text (Some (line, rest)) p = leaves_kind (kind_of_line line) rest (length text) p
 
+-- the first request of an input leaves less than the input
 next_shorter : (input : List ℕ) → Leaves (length input) (next_request_of input)
 next_shorter [] = tt
 next_shorter (b ∷ text) = leaves_line (b ∷ text) (first_line (b ∷ text)) (line_shorter (b ∷ text))
 
 -- ---- there is a list
 
+-- an input spells requests, and ends in one of three ways after them
 abbrev Ended : List ℕ → Type 0
 Ended input = (requests : List Request) × ((ending : Ending) × Requests input requests ending)
 
 module _ (input : List ℕ) where
+  -- where no request follows those that were asked, the input ended
   ends : (asked : List Request) (mid : List ℕ) (next : NextRequest) (e : Ending) → Begins input asked mid →
       next_request_of mid ≡ next → EndsBy next e → Ended input
   ends asked mid next e b is end = (asked, (e, (mid, b, subst (λ n. EndsBy n e) (sym is) end)))
 
+  -- where no more than n bytes follow the requests so far, the input has an end
   by_next : (n : ℕ) (asked : List Request) (mid : List ℕ) (next : NextRequest) → length mid ≤ n →
       Begins input asked mid → next_request_of mid ≡ next → Leaves (length mid) (next_request_of mid) → Ended input
   by_next n asked mid nothing low b is less = ends asked mid nothing clean b is tt
@@ -109,6 +115,7 @@ module _ (input : List ℕ) where
       by_next n (asked ++ request ∷ []) rest (next_request_of rest) (omega (arith, few, low))
       (one_more request rest b is) refl (next_shorter rest)
 
+-- each input has requests and an end
 pub some_list : (input : List ℕ) → Ended input
 some_list input = by_next input (length input) [] input (next_request_of input) (omega arith) none_yet refl
     (next_shorter input)
@@ -120,6 +127,7 @@ abbrev Goes : List ℕ → List Request → Ending → Type 0
 Goes input [] e = EndsBy (next_request_of input) e
 Goes input (r ∷ rs) e = (rest : List ℕ) × (next_request_of input ≡ asks r rest) × Goes rest rs e
 
+-- requests that an input begins with go before those of what follows them
 goes_before : (input : List ℕ) (asked : List Request) (mid : List ℕ) (e : Ending) (more : List Request) →
     Begins input asked mid → Goes mid more e → Goes input (asked ++ more) e
 goes_before input _ _ e more none_yet g = g
@@ -127,6 +135,7 @@ goes_before input _ _ e more (one_more {requests} {mid} request rest b is) g =
     subst (λ l. Goes input l e) (sym (append_assoc requests (request ∷ []) more))
     (goes_before input requests mid e (request ∷ more) b (rest, is, g))
 
+-- what is no request is an end of one kind, and a request is no end
 one_end : (n : NextRequest) (d e : Ending) → EndsBy n d → EndsBy n e → d ≡ e
 one_end nothing clean clean p q = refl
 one_end nothing clean cut p q = absurd q
@@ -148,6 +157,7 @@ one_end (asks r rest) d e p q = absurd p
 no_end : (n : NextRequest) (e : Ending) (r : Request) (rest : List ℕ) → n ≡ asks r rest → EndsBy n e → ⊥
 no_end n e r rest is p = let q : EndsBy (asks r rest) e = subst (λ m. EndsBy m e) is p in q
 
+-- the request that is asked for, and what follows it; where there is none, one given and no bytes
 abbrev request_in : Request → NextRequest → Request
 request_in d nothing = d
 request_in d unfinished = d
@@ -160,6 +170,7 @@ rest_in unfinished = []
 rest_in quits = []
 rest_in (asks r rest) = rest
 
+-- from its first request on, an input goes one way
 goes_one : (input : List ℕ) (rs ss : List Request) (d e : Ending) → Goes input rs d → Goes input ss e → (rs ≡ ss)
     × (d ≡ e)
 goes_one input [] [] d e p q = (refl, one_end (next_request_of input) d e p q)
@@ -172,9 +183,11 @@ goes_one input (r ∷ rs) (s ∷ ss) d e (m, is, p) (n, also, q) =
     let rest = goes_one m rs ss d e p (subst (λ l. Goes l ss e) on q) in
     (ap (λ x. x ∷ rs) one ∙ ap (λ l. s ∷ l) rest.0, rest.1)
 
+-- the requests of an input are those from its first one on
 to_goes : (input : List ℕ) (rs : List Request) (e : Ending) → Requests input rs e → Goes input rs e
 to_goes input rs e (rest, b, ends) = subst (λ l. Goes input l e) (append-nil rs) (goes_before input rs rest e [] b ends)
 
+-- an input has one list of requests, and one end
 pub only_list : (input : List ℕ) (a b : List Request) (d e : Ending) → Requests input a d → Requests input b e → (a ≡ b)
     × (d ≡ e)
 only_list input a b d e p q = goes_one input a b d e (to_goes input a d p) (to_goes input b e q)

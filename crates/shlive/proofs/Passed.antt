@@ -2,6 +2,7 @@
 use Rattle.std.proofs.Common.{◌≡◌, ℕ, ◌+◌, ◌-◌, ◌≤◌, List, length, take, drop, sym, ap, ◌∙◌, arith}
 use Rattle.std.proofs.lemmas.List.{drop-drop, drop-take, length-take}
 
+-- past so many of the bytes that wait, the rest of them wait
 pub passed : (xs : List ℕ) (at last count : ℕ) → count ≤ length (take (last - at) (drop at xs))
     → take (last - (at + count)) (drop (at + count) xs) ≡ drop count (take (last - at) (drop at xs))
 passed xs at last count low =

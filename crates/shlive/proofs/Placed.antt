@@ -24,6 +24,7 @@ use Rattle.shgrammar.proofs.ShapeMoved.{SameText, shape_same}
 -- ---- the shape of a list at a base
 
 module _ (base : ℕ) (B : List ℕ) where
+  -- a span that stands at the base has the text that it has in the bytes from there on
   text_placed : (s : Span) → text_at B (placed_span base s) ≡ text_at (drop base B) s
   text_placed s =
       let size : base + s.«end» - (base + s.start) ≡ s.«end» - s.start = omega arith in
@@ -37,6 +38,7 @@ module _ (base : ℕ) (B : List ℕ) where
       ap (λ (k : ℕ). take k (drop s.start B)) none ∙ sym (ap (λ (k : ℕ). take k (drop s.start (drop base B))) none)
   body_placed s (suc n) ends = text_placed s
 
+  -- so a list that is moved to the base has the shape that it has over those bytes
   pub shape_placed : (limit : ℕ) (xs : Entries) → SpansWithin limit xs →
       shape_of B (moved base xs) ≡ shape_of (drop base B) xs
   shape_placed limit xs within =
@@ -61,14 +63,17 @@ plain_moved base no_entry is = absurd (no_first is.some)
 plain_moved base (more_entries (entry what background blank comment) es) is =
     record { some = refl; plain = ap (moved base) is.plain }
 
+-- whether an empty line stands before the first entry
 abbrev first_blank : Row AnEntry → Bool
 first_blank [] = false
 first_blank (entry what background blank comment ∷ es) = blank
 
+-- the entries of a line; where it has none, no entry
 abbrev entries_or : AKind → Entries
 entries_or (entries_line xs) = xs
 entries_or _ = no_entry
 
+-- where none stands there, the line begins with an entry that is not blank
 kind_plain : (es : Row AnEntry) (newline : Bool) (xs : Entries) → kind_of es newline ≡ entries_line xs →
     es ≡ blanked_row false (map (moved_entry 0) es) → BeginsPlain xs
 kind_plain [] true xs kind_is same = absurd cc
@@ -88,6 +93,7 @@ row_plain edition T es newline t read =
     subst (λ (r : Read (Row AnEntry × Bool)). Same 0 false r r) (sym read) (line_moved edition T 0 false) in
     same.0
 
+-- and so does each line that is read alone, if it has entries
 pub line_plain : (edition : Edition) (T : List ℕ) (a : ALine) → IsLine edition T a → (xs : Entries) →
     a.kind ≡ entries_line xs → BeginsPlain xs
 line_plain edition T _ (line_read es newline t k part) xs kind_is =

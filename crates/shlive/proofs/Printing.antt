@@ -26,15 +26,18 @@ use Rattle.shlive.proofs.Placed.{BeginsPlain, line_plain, plain_moved, shape_pla
 -- ---- what is printed for the entries of one more line
 
 module _ (y : Layout) (B : List ℕ) where
+  -- what is printed for entries of these bytes, without a margin
   abbrev marks : Entries → Marks
   marks es = print_entries y [] (shape_of B es)
 
+  -- for one list after another it is that for the one and then that for the other
   marks_appended : (es xs : Entries) → marks (appended es xs) ≡ marks es ++ marks xs
   marks_appended no_entry xs = refl
   marks_appended (more_entries e es) xs =
       ap (λ ms. print_entry y [] (shape_of_entry B e) ++ ms) (marks_appended es xs)
       ∙ sym (append_assoc (print_entry y [] (shape_of_entry B e)) (marks es) (marks xs))
 
+  -- for a list before which an empty line may stand, it is that line and then that for the list
   marks_blanked : (blank : Bool) (xs : Entries) → BeginsPlain xs →
       marks (blanked blank xs) ≡ print_blank blank ++ marks xs
   marks_blanked blank no_entry is = absurd (no_first is.some)
@@ -46,6 +49,7 @@ module _ (y : Layout) (B : List ℕ) where
       (marks es)
       ∙ ap (λ xs. print_blank blank ++ marks xs) is.plain
 
+  -- for the entries so far with those of one more line, it is all of this together
   marks_more : (before : Entries) (gap : Bool) (base limit : ℕ) (xs : Entries) → BeginsPlain xs → SpansWithin limit xs
       → marks (more_entries_at before gap base xs) ≡ marks before
       ++ (print_blank (gap && has_entry before) ++ print_entries y [] (shape_of (drop base B) xs))
@@ -74,6 +78,7 @@ held_none y (more_entries e es) =
     (ap (held_after []) ends.1 ∙ held_append [] ends.0 (line_end ∷ []))
     ∙ held_none y es
 
+-- a text with a byte is not empty, and one with a newline in it has a byte
 some_length : (n : ℕ) → nat_lt 0 (suc n) ≡ true
 some_length n = grind (arith, nat_tests)
 
@@ -101,6 +106,7 @@ some_laid y B (more_entries e es) =
 
 -- ---- an empty line, or none
 
+-- an empty line is a newline where nothing waits, and without one the page stays
 pub one_blank : (s : Sheet) (blank : Bool) → blank ≡ true → s.held ≡ [] →
     sheet_of (s.so_far ++ 10 ∷ []) s.held ≡ written s (print_blank blank)
 one_blank s blank some none = written_line_alone s none ∙ ap (λ b. written s (print_blank b)) (sym some)
@@ -118,21 +124,26 @@ none_with so end_line none = refl
 none_with so (faulty_line f) none = refl
 
 module _ (y : Layout) (B : List ℕ) (so : Walk) (before : Page) (is : IsOnPage y B so before) where
+  -- the page holds the text of the entries so far, and what waits after them
   first_laid : sheet before ≡ sheet_of (laid (marks y B so.entries)) (held_after [] (marks y B so.entries))
   first_laid = is.is ∙ written_first (marks y B so.entries)
 
+  -- nothing does
   pub nothing_waits : before.held.items ≡ []
   nothing_waits = ap (λ (s : Sheet). s.held) first_laid ∙ held_none y (shape_of B so.entries)
 
+  -- it holds a byte exactly where there is an entry
   text_some : nat_lt 0 (length before.text.items) ≡ has_entry so.entries
   text_some = ap (λ (s : Sheet). nat_lt 0 (length s.so_far)) first_laid ∙ some_laid y B so.entries
 
+  -- a line without entries leaves the page as it is, which is the page with that line
   pub none_printed : (l : HeldLine AKind) → entries_in l.kind ≡ None → IsOnPage y B (with_line so l) before
   none_printed l none = record {
     margin = is.margin;
     is = is.is ∙ ap (λ es. written (sheet_of [] []) (marks y B es)) (sym (none_with so l.kind none));
   }
 
+  -- a line with entries is on the page after an empty line, where one is due, and its entries
   pub line_printed : (edition : Edition) (l : HeldLine AKind) (xs : Entries) → l.kind ≡ entries_line xs →
       IsTopLine edition (drop so.at B) l
       → (mid after : Page) → Prints before mid (print_blank (so.gap && nat_lt 0 (length before.text.items)))
@@ -162,10 +173,12 @@ module _ (y : Layout) (B : List ℕ) (so : Walk) (before : Page) (is : IsOnPage 
 
 -- ---- the first line and the last
 
+-- before the first line nothing is on the page
 pub none_yet : (y : Layout) (B : List ℕ) (page : Page) → page.margin.items ≡ [] → sheet page ≡ sheet_of [] [] →
     IsOnPage y B no_line page
 none_yet y B page margin is = record { margin = margin; is = is ∙ sym (written_none (sheet_of [] [])) }
 
+-- after the last line the page has the printed text of all entries
 pub all_printed : (y : Layout) (B : List ℕ) (so : Walk) (page : Page) → IsOnPage y B so page →
     page.text.items ≡ printed y (shape_of B so.entries)
 all_printed y B so page is = ap (λ (s : Sheet). s.so_far) (is.is ∙ written_first (marks y B so.entries))

@@ -50,6 +50,7 @@ seen_of state = record {
 }
 
 module _ (old now new : TurnState) (so : RunSoFar old now) where
+  -- the input begins with the requests so far, and with the one after them
   begins_more : (taken : List ℕ) (request : Request) → Spells next_request_of taken (asks request) → (rest : List ℕ)
       → Begins ((so.taken ++ taken) ++ rest) (so.asked ++ request ∷ []) rest
   begins_more taken request spelled rest =
@@ -74,6 +75,7 @@ module _ (old now new : TurnState) (so : RunSoFar old now) where
   }
 
   module _ (status : ℕ) (start : old.ahead.waiting.bytes ≡ []) (zero : old.ahead.waiting.count ≡ 0) where
+    -- what waits at the end
     abbrev waits : List ℕ
     waits = new.ahead.waiting.bytes
 
@@ -82,10 +84,12 @@ module _ (old now new : TurnState) (so : RunSoFar old now) where
         so.taken ++ (taken ++ waits) ≡ t.more
     read_is taken t = sym (append_assoc so.taken taken waits) ∙ sym t.same ∙ ap (λ l. l ++ t.more) start
 
+    -- what was read begins with the requests that were answered
     begun : (taken : List ℕ) (t : TakesBytes old.ahead new.ahead (so.taken ++ taken)) →
         Begins t.more so.asked (taken ++ waits)
     begun taken t = subst (λ l. Begins l so.asked (taken ++ waits)) (read_is taken t) (so.begins (taken ++ waits))
 
+    -- where too many bytes were counted, too many were read
     long : (taken : List ℕ) (t : TakesBytes old.ahead new.ahead (so.taken ++ taken)) →
         too_many ≤ new.ahead.waiting.count → too_many ≤ length t.more
     long taken t many = let count = t.counted in omega (arith, many, count, zero)
@@ -109,6 +113,7 @@ module _ (old now new : TurnState) (so : RunSoFar old now) where
       status = answer;
     }
 
+    -- what was taken since the first turn is what was taken before and what this turn took
     all_of : (taken : List ℕ) → TakesBytes now.ahead new.ahead taken →
         TakesBytes old.ahead new.ahead (so.taken ++ taken)
     all_of taken takes = takes_both old.ahead now.ahead new.ahead so.taken taken _ so.takes takes refl
@@ -117,11 +122,13 @@ module _ (old now new : TurnState) (so : RunSoFar old now) where
     none_left : (taken : List ℕ) → taken ≡ [] → waits ≡ [] → EndsBy (next_request_of (taken ++ waits)) clean
     none_left taken p q = subst (λ l. EndsBy (next_request_of l) clean) (sym (ap (λ l. l ++ waits) p ∙ q)) tt
 
+    -- where nothing waits, the input ends with what was taken
     all_taken : (taken : List ℕ) (e : Ending) → waits ≡ [] → EndsBy (next_request_of taken) e →
         EndsBy (next_request_of (taken ++ waits)) e
     all_taken taken e none ends =
         subst (λ l. EndsBy (next_request_of l) e) (sym (ap (λ l. taken ++ l) none ∙ append-nil taken)) ends
 
+    -- where this turn ends the run, it was a run of the session from its first turn on
     pub ended_run : («end» : End) → EndsAs next_request_of now new «end» →
         HasAnswer old.session.how.edition «end» new.session.bytes status
         → IsSessionRun (seen_of old) (seen_of new) status

@@ -6,10 +6,12 @@ use Rattle.std.proofs.lemmas.List.{drop_all, length-take-le, take-append-drop, t
 use Rattle.shtext.proofs.Known.{Consumes-trans}
 use Rattle.shlive.specs.Ahead.{Ahead, TakesBytes}
 
+-- to read nothing leaves what a reader has left
 consumes_none : (a : Option (List ℕ)) → Consumes a a []
 consumes_none None = tt
 consumes_none (Some x) = refl
 
+-- what is taken and then more is taken all together
 pub takes_both : (a b c : Ahead) (t u v : List ℕ) → TakesBytes a b t → TakesBytes b c u → t ++ u ≡ v → TakesBytes a c v
 takes_both a b c t u v p q is = record {
   more = p.more ++ q.more;

@@ -23,15 +23,18 @@ pub record Walked (row left : Row (HeldLine AKind)) (begin : ℕ) : Type 0 where
   pub split : row ≡ done ++ left
   pub begins : begin ≡ extent done
 
+-- at first all lines are left
 pub walked_start : (row : Row (HeldLine AKind)) → Walked row row 0
 unfolding extent
 walked_start row = record { done = []; split = refl; begins = refl }
 
 module _ (row left : Row (HeldLine AKind)) (begin : ℕ) (l : HeldLine AKind) (rest : Row (HeldLine AKind))
     (so : Walked row left begin) (first : left ≡ l ∷ rest) where
+  -- the row is the lines that are done, the first one left, and those after it
   split_here : row ≡ so.done ++ l ∷ rest
   split_here = so.split ∙ ap (λ ls. so.done ++ ls) first
 
+  -- after one line more, those after it are left
   pub walked_more : Walked row rest (begin + l.len)
   walked_more = record {
     done = so.done ++ l ∷ [];
@@ -40,9 +43,11 @@ module _ (row left : Row (HeldLine AKind)) (begin : ℕ) (l : HeldLine AKind) (r
   }
 
   module _ (edition : Edition) (B : List ℕ) (is : IsRow (IsHeldLine edition) B row) where
+    -- that row, parted so, is the row of the text
     here : IsRow (IsHeldLine edition) B (so.done ++ l ∷ rest)
     here = subst (IsRow (IsHeldLine edition) B) split_here is
 
+    -- the first one left ends in the text
     pub walked_within : begin + l.len ≤ length B
     walked_within = let within = row_line_within edition B so.done l rest
         (row_top edition B (so.done ++ l ∷ rest) here) in omega (arith, within, so.begins)
@@ -53,12 +58,14 @@ module _ (row left : Row (HeldLine AKind)) (begin : ℕ) (l : HeldLine AKind) (r
         (row_line edition B so.done l rest (row_top edition B (so.done ++ l ∷ rest) here))
 
     module _ (xs : Entries) (kind_is : l.kind ≡ entries_line xs) (small : length B < 2 ^ 64) where
+      -- no node of it names an offset past the greatest one that there is
       pub walked_nodes_fit : NodesWithin (2 ^ 64 - 1 - begin) xs
       walked_nodes_fit = subst (λ n. NodesWithin (2 ^ 64 - 1 - n) xs) (sym so.begins)
           (row_nodes_fit edition B so.done l rest (row_top edition B (so.done ++ l ∷ rest) here) xs kind_is small)
 
 -- ---- the line that holds a byte
 
+-- a byte of the text that the line may hold stands before its end, even where it is the last line
 high_by : (edition : Edition) (B : List ℕ) (at : ℕ) (l : HeldLine AKind) (before after : Row (HeldLine AKind)) →
     IsRow (IsHeldLine edition) B (before ++ l ∷ after) → at < length B →
     ((after ≡ [] → ⊥) → at < extent before + l.len) → at < extent before + l.len
@@ -68,9 +75,11 @@ high_by edition B at l before (k ∷ ks) is lt past = past (λ e. absurd cc)
 
 module _ (edition : Edition) (B : List ℕ) (row : Row (HeldLine AKind)) (at : ℕ) (l : HeldLine AKind) (begin : ℕ)
     (is : IsRow (IsHeldLine edition) B row) (so : HasLineAt row at l begin) where
+  -- the row, with the line that holds the byte apart
   pub line_there : IsRow (IsHeldLine edition) B (so.before ++ l ∷ so.after)
   line_there = subst (IsRow (IsHeldLine edition) B) so.row is
 
+  -- the byte stands at the start of that line or after it, and before its end if the text has it
   pub line_low : extent so.before ≤ at
   line_low = subst (λ n. n ≤ at) so.begins so.low
 
@@ -80,6 +89,7 @@ module _ (edition : Edition) (B : List ℕ) (row : Row (HeldLine AKind)) (at : �
 
 -- ---- what a line has
 
+-- a line that has these entries is a line of them
 pub entries_are : (k : AKind) (xs : Entries) → entries_in k ≡ Some xs → k ≡ entries_line xs
 entries_are (entries_line es) xs e = ap some_or e
   where
@@ -90,6 +100,7 @@ entries_are blank_line xs e = absurd cc
 entries_are end_line xs e = absurd cc
 entries_are (faulty_line f) xs e = absurd cc
 
+-- a line without entries has no node at a byte, and no outline
 pub no_nodes_at : (k : AKind) (base at : ℕ) → entries_in k ≡ None → line_nodes_at base at k ≡ []
 no_nodes_at (entries_line es) base at e = absurd cc
 no_nodes_at blank_line base at e = refl
@@ -117,6 +128,7 @@ outlined ns begin l rest left first = append_assoc ns (line_outline begin l.kind
 
 -- ---- results
 
+-- what follows from a fact about a good result, and what is so in any case of a failed one
 pub on_ok : {T E : Type 0} {P Q : Type 0} (r : Result T E) → OnOk r P → (P → Q) → OnOk r Q
 on_ok (Ok x) p f = f p
 on_ok (Err e) p f = tt

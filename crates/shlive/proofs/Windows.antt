@@ -15,6 +15,7 @@ use Rattle.shlive.proofs.TopLines.{window_held, window_top}
 module _ (edition : Edition) (B U : List ℕ) (ss : Row ASplice) (a e b : ℕ)
     (text : U ≡ edited B ss) (first : a ≡ first_begin ss) (end : e ≡ new_end ss) (last : b ≡ last_end ss)
     (before meter : ℕ) where
+  -- the window of the splices is from w up to t
   abbrev Is : ℕ → ℕ → Type 0
   Is w t = IsWindow (IsTopLine edition) B (edited B ss) (first_begin ss) (new_end ss) (last_end ss) w t
 
@@ -26,6 +27,7 @@ module _ (edition : Edition) (B U : List ℕ) (ss : Row ASplice) (a e b : ℕ)
       (subst (λ n. IsWindow (IsTopLine edition) B (edited B ss) n e b w t) first
       (subst (λ T. IsWindow (IsTopLine edition) B T a e b w t) text is)))
 
+  -- and the window of the splices is that of these places
   from_splices : (w t : ℕ) → Is w t → IsWindow (IsTopLine edition) B U a e b w t
   from_splices w t is =
       subst (λ T. IsWindow (IsTopLine edition) B T a e b w t) (sym text)
@@ -33,6 +35,7 @@ module _ (edition : Edition) (B U : List ℕ) (ss : Row ASplice) (a e b : ℕ)
       (subst (λ n. IsWindow (IsTopLine edition) B (edited B ss) (first_begin ss) n b w t) (sym end)
       (subst (λ n. IsWindow (IsTopLine edition) B (edited B ss) (first_begin ss) (new_end ss) n w t) (sym last) is)))
 
+  -- where a reader of held lines read the window of the places, it read that of the splices
   pub has_read : before ≤ 2 ^ 64 - 1 → the_held.RoseByWindow (IsHeldLine edition) B U a e b before meter →
       HasReadWindow edition B ss before meter
   has_read low read =
@@ -41,6 +44,7 @@ module _ (edition : Edition) (B U : List ℕ) (ss : Row ASplice) (a e b : ℕ)
       let rose : risen before (t - w) ≡ raised before (t - w) = omega (arith, low) in
       (w, t, to_splices w t (window_top edition B U a e b w t read.2), read.3 ∙ rose)
 
+  -- or no more than that
   pub has_read_no_more : the_held.RoseWithinWindow (IsHeldLine edition) B U a e b before meter →
       HasReadNoMore edition B ss before meter
   has_read_no_more no_more w t is = no_more w t (window_held edition B U a e b w t (from_splices w t is))

@@ -27,10 +27,12 @@ use Rattle.shgrammar.proofs.OneOutcome.{computed_is_only}
 
 -- ---- what is read of a line, where its first entry is blank as the lines before it have it
 
+-- the lines before tell, as they do in the grammar, whether the next one's first entry is blank
 pub blank_is : (before : LinesBefore) (so : LinesSoFar) → Before before so
     → is_blank_after before ≡ is_blank_line so
 blank_is before so stood = ap (λ b. b && before.begun) stood.0 ∙ ap (λ b. so.gap && b) stood.1
 
+-- what is computed of a line is what the grammar reads of it
 pub line_read : (edition : Edition) (B : Row ℕ) (so : LinesSoFar) (p : ℕ) (blank : Bool) (x : Read (Row AnEntry × Bool))
     →
     blank ≡ is_blank_line so → line_from edition B Whole blank p ≡ x → LineReads edition B so p x
@@ -55,6 +57,7 @@ whole_fault p blank f x (Ok y) outer whole = absurd outer
 whole_fault p blank f (Ok x) (Err h) outer whole = absurd whole
 whole_fault p blank f (Err g) (Err h) outer whole = ap Err (whole ∙ sym outer)
 
+-- what is computed of a line without those trees is read of it so
 outer_read : (edition : Edition) (B : Row ℕ) (so : LinesSoFar) (p : ℕ) (x : Read (Row AnEntry × Bool))
     → line_from edition B Outer (is_blank_line so) p ≡ x → OuterReads edition B so p x
 outer_read edition B so p (Ok x) read = read
@@ -68,6 +71,7 @@ outer_read edition B so p (Err f) read =
 
 -- ---- what is told, from what is computed
 
+-- what was told of a line is read of it so, if what it is in the definitions is
 told_by : (bound : Limits) (reads : Read (Row AnEntry × Bool) → Type 0) (read : Read (Row AnEntry × Bool)) → reads read
     → (r : Result ParsedLine Stop) → Gives bound view_told r read → IsReadBy reads r
 told_by bound reads read is (Ok told) gives = subst reads gives is
@@ -76,11 +80,13 @@ told_by bound reads read is (Err Memory) fails = tt
 
 module _ {S : Type 0} (B : Row ℕ) (bound : Limits) (old : ScriptLines S) (r : Result ParsedLine Stop) (so : LinesSoFar)
     (stood : Stands old so) where
+  -- what was told of the next line is what the grammar reads of it
   pub next_line : Gives bound view_told r (line_from old.edition B Whole (is_blank_after old.before) old.at) →
       IsReadBy (LineReads old.edition B so old.at) r
   next_line gives = told_by bound (LineReads old.edition B so old.at) _
       (line_read old.edition B so old.at (is_blank_after old.before) _ (blank_is old.before so stood) refl) r gives
 
+  -- and so it is without the trees in command substitutions
   pub outer_line : Gives bound view_told r (line_from old.edition B Outer (is_blank_after old.before) old.at) →
       IsReadBy (OuterReads old.edition B so old.at) r
   outer_line gives = told_by bound (OuterReads old.edition B so old.at) _
@@ -103,11 +109,13 @@ LeadsOn edition B so p es true q = (s : AScript) → Rest edition B (with_line s
 LeadsOn edition B so p es false q =
     Rest edition B so p (record { entries = entries_of (so.entries ++ es); fault = None })
 
+-- a line that the grammar reads leads on with its entries
 line_leads : (edition : Edition) (B : Row ℕ) (so : LinesSoFar) (p n : ℕ) (es : Row AnEntry) (newline : Bool)
     → LineReads edition B so p (Ok ((es, newline), standing n)) → LeadsOn edition B so p es newline (p + n)
 line_leads edition B so p n es true read = λ s rest. (read.0 ++ rest.0, line_ended es (standing n) read.0 read.1 rest.1)
 line_leads edition B so p n es false read = (read.0, last_line es (standing n) read.0 read.1)
 
+-- so does one that was told
 pub leads_on : (edition : Edition) (B : Row ℕ) (so : LinesSoFar) (p : ℕ) (told : ParsedLine) (newline : Bool) →
     told.newline ≡ newline
     → IsReadBy (LineReads edition B so p) (Ok told) →
@@ -116,6 +124,7 @@ leads_on edition B so p told newline is read =
     subst (λ b. LeadsOn edition B so p (map view_entry told.entries.items) b (p + told.len)) is
     (line_leads edition B so p told.len (map view_entry told.entries.items) told.newline read)
 
+-- where a line has a fault, the script is what the lines before it gave, and that fault
 pub leads_nowhere : (edition : Edition) (B : Row ℕ) (so : LinesSoFar) (p : ℕ) (stop : Stop) (f : Fault) → stop ≡ Wrong f
     → IsReadBy (LineReads edition B so p) (Err stop) →
     Rest edition B so p (record { entries = entries_of so.entries; fault = Some f })
@@ -133,6 +142,7 @@ fault_told e f bound x is told = (subst (λ z. Fails bound z x) is told).0
 abbrev pub so_far : Row Entry → Bool → LinesSoFar
 so_far xs gap = record { entries = map view_entry xs; gap = gap }
 
+-- entries of the code, in a row after others, are so in the definitions
 all_is : (before all line : Row Entry) → all ≡ before ++ line →
     map view_entry all ≡ map view_entry before ++ map view_entry line
 all_is before all line is = ap (map view_entry) is ∙ map-append view_entry before line
@@ -140,6 +150,7 @@ all_is before all line is = ap (map view_entry) is ∙ map-append view_entry bef
 module _ {S : Type 0} (edition : Edition) (B : Row ℕ) (before all line : Row Entry) (all_are : all ≡ before ++ line)
     (old new : ScriptLines S)
     (from : (s : AScript) → Rest edition B (so_far before old.before.gap) old.at s → Outcome edition B s) where
+  -- after a line that a newline ended, the lines gave all entries so far; what is left still gives the script
   pub ended_on : (n : ℕ) → new.at ≡ old.at + n →
       Stands new (with_line (so_far before old.before.gap) (map view_entry line))
       → LeadsOn edition B (so_far before old.before.gap) old.at (map view_entry line) true (old.at + n)
@@ -155,12 +166,14 @@ module _ {S : Type 0} (edition : Edition) (B : Row ℕ) (before all line : Row E
             (subst (λ so. Rest edition B so new.at s) (sym same) rest))),
       )
 
+  -- after the script's last line, all entries so far are those of the script, and it has no fault
   pub last_on : Rest edition B (so_far before old.before.gap) old.at
       (record { entries = entries_of (map view_entry before ++ map view_entry line); fault = None })
       → Outcome edition B (record { entries = entries_of (map view_entry all); fault = None })
   last_on rest = subst (λ es. Outcome edition B (record { entries = entries_of es; fault = None }))
       (sym (all_is before all line all_are)) (from _ rest)
 
+-- no node of all entries so far names an offset above the limit, where none before and none of the line does
 pub all_within : (limit : ℕ) (before all line : Row Entry) → all ≡ before ++ line →
     NodesWithin limit (entries_of (map view_entry line))
     → NodesWithin limit (entries_of (map view_entry before)) → NodesWithin limit (entries_of (map view_entry all))

@@ -9,6 +9,7 @@ use Rattle.shgrammar.proofs.Editions.{delimiter_seen, piece_seen, token_seen}
 use Rattle.shgrammar.proofs.Each.{Each, each_bytes, each_either, each_ending, each_just, each_level, each_then, each_token, each_turns}
 use Rattle.shread.specs.Outcome2017.{Lines_2017, Outcome_2017, line_ended as line_ended_2017, last_line as last_line_2017, faulty as faulty_2017, may_2017, seen_2017}
 
+-- by that edition a row sees what POSIX.1-2017 itself says
 same_seen : {X : Type 0} (f : Sight X) (g : Given) (s : State) → g.edition ≡ Y2017 → seen f g s ≡ seen_2017 f g s
 same_seen here g s by = refl
 same_seen the_byte g s by = refl
@@ -26,6 +27,7 @@ same_seen (the_delimiter bytes) g s by = delimiter_seen bytes g s by
 -- ---- forms
 
 module _ (g : Given) (by : g.edition ≡ Y2017) where
+  -- so what may be read by a form is what it reads where rows see that, one way and the other
   to_2017 : {X : Type 0} (r : Form X) → Each (may r g) (may_2017 r g)
   to_2017 (give x) s y k p = p
   to_2017 (see f) s y k p = each_just (same_seen f g s by) y k p
@@ -60,6 +62,7 @@ module _ (g : Given) (by : g.edition ≡ Y2017) where
 
 -- ---- scripts
 
+-- the same of the lines from p on, and of all of a script
 lines_to : (B : List ℕ) (so : LinesSoFar) (p : ℕ) (s : AScript) (k : Row Spelled) → Lines Y2017 B so p s k →
     Lines_2017 B so p s k
 lines_to B so p s k (line_ended {l = l} es t k1 read rest) =

@@ -15,6 +15,7 @@ use Rattle.shline.specs.Limits.{limits}
 use Rattle.shline.proofs.Wanted.{seen_after}
 use Rattle.shread.specs.Answers.{NoFaultBefore, Tells}
 
+-- a line that was read has no fault: the first one is that from its end on, or there is none
 no_fault_before : (edition : Edition) (B : List ℕ) (p n : ℕ) (es : List AnEntry) (newline : Bool) →
     line_from edition B Nothing false p ≡ Ok ((es, newline), standing n) → Onward 0 n newline → p + n ≤ length B →
     NoFaultBefore edition B p (p + n) newline
@@ -22,6 +23,7 @@ no_fault_before edition B p n es true read some within =
     (beyond edition B p (standing n) es read, omega (arith, some), within)
 no_fault_before edition B p n es false read some within = nowhere edition B p (standing n) es read
 
+-- what is told of a line, or what stopped it, is true of the first fault from its start on
 pub tells : (edition : Edition) (B : List ℕ) (p : ℕ) (r : Result ParsedLine Stop) → p ≤ length B
     → Gives (limits 0 p (drop p B)) view_told r (line_from edition B Nothing false p) →
     IfOk r (λ x. Onward 0 x.len x.newline)

@@ -9,10 +9,12 @@ use Rattle.shgrammar.proofs.Places.{word_longer}
 use Rattle.shgrammar.proofs.Stretches.{place_low}
 use Rattle.shgrammar.proofs.WordsWithin.{word_ends}
 
+-- where what is at c ends no word, a byte stands there
 byte_within : (T : List ℕ) (c : ℕ) (x : Option ℕ) → slice_get T c ≡ x → ends x ≡ false → c < length T
 byte_within T c None is e = absurd cc
 byte_within T c (Some b) is e = slice_get_within T c b is
 
+-- a word that is read where none ends has a byte at least
 pub some_read : (room p n : ℕ) (g : Given) → ReadsWord room g p n → ends_word g.text p ≡ false → 0 < n
 unfolding ends_word
 some_read room p n g is no_end =

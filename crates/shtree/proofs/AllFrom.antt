@@ -19,6 +19,7 @@ module _ {A : Type 0} (p : A → Bool) where
   any_from (x ∷ xs) (suc i) = any_from xs i
 
   module _ {X : Type 0} (v : X → A) where
+    -- from a node on, the test holds of all or of some by that node and by those after it
     all_suc : (xs : Row X) (i : ℕ) (d : X) → i < length xs →
         all_from (map v xs) i ≡ (p (v (get_or xs i d)) && all_from (map v xs) (suc i))
     unfolding all_from
@@ -57,13 +58,14 @@ module _ {A : Type 0} (p : A → Bool) where
 
 -- ---- the tests of the definitions, as rows
 
--- what is tested of an operand of an and-or list, of an operand of a pipeline, and of a substitution
+-- what is tested of an operand of an and-or list, and of one of a pipeline
 abbrev pub is_normal_part : AnAndOrPart → Bool
 is_normal_part p = is_normal_join p.join && is_normal_pipeline p.pipeline
 
 abbrev pub is_normal_pipe : APipelinePart → Bool
 is_normal_pipe p = is_normal_join p.join && is_normal_command p.command
 
+-- a list holds a command, or a row of parts is normal, as the tests say from its first part on
 pub command_among : (es : Row AnEntry) → holds_command (entries_of es) ≡ any_from is_command es 0
 unfolding any_from
 command_among [] = refl

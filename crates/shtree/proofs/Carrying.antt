@@ -13,6 +13,7 @@ module _ {X A : Type 0} (g : A → A) (v : X → A) where
   unfoldable pub still : Row X → Row X → ℕ → Row A
   still made xs i = map v made ++ map g (map v (drop i xs))
 
+  -- it is what is made of the row: before the first copy, with each one more, and after the last
   pub still_first : (xs : Row X) → still [] xs 0 ≡ map g (map v xs)
   unfolding still
   still_first xs = refl
@@ -30,6 +31,7 @@ module _ {X A : Type 0} (g : A → A) (v : X → A) where
 -- ---- the parts of a tree, as rows
 
 module _ (f h : Span → Span) where
+  -- a row of each kind: its parts, each of them changed, are the changed row
   pub entries_carried : (xs : Row AnEntry) →
       entries_of (map (carried_entry f h true) xs) ≡ carried f h true (entries_of xs)
   entries_carried [] = refl

@@ -9,6 +9,7 @@ use Rattle.shtree.specs.Gathered.{Begins, gathered}
 use Rattle.shast.specs.Tree.{AnEntry, AnAndOrPart, APipelinePart, ABranch, ACaseItem, AWord, AnItem, ASubst, entries_of, and_or_parts_of, pipeline_parts_of, branches_of, cases_of, patterns_of, items_of, substs_of}
 use Rattle.shast.specs.Nodes.{and_or_parts_nodes, branch_nodes, branches_nodes, case_nodes, cases_nodes, command_nodes, comment_node, entries_nodes, entry_nodes, item_nodes, items_nodes, patterns_nodes, pipeline_nodes, pipes_nodes, subst_nodes, substs_nodes, word_nodes}
 
+-- with no nodes those so far stay
 pub gathered_none : (wanted : NodeLine → Bool) (ns : Row NodeLine) → gathered wanted ns [] ≡ ns
 unfolding gathered
 gathered_none wanted ns = append-nil ns
@@ -37,10 +38,12 @@ gathered_unwanted wanted so_far n is_not = rw is_not (append-nil so_far)
 
 -- ---- what nodes begin with
 
+-- nodes begin with themselves
 pub begins_self : (ns : Row NodeLine) → Begins ns ns
 unfolding Begins
 begins_self ns = take-length ns
 
+-- what nodes begin with is no longer than they are
 begins_within : (first ns : Row NodeLine) → take (length first) ns ≡ first → length first ≤ length ns
 begins_within first ns h = omega (arith, length-take (length first) ns, ap length h)
 
@@ -57,6 +60,7 @@ module _ {A : Type 0} (f : A → Row NodeLine) where
   nodes_from (x ∷ xs) (suc i) = nodes_from xs i
 
   module _ {X : Type 0} (v : X → A) where
+    -- from a part on they are its nodes, and those of the parts after it
     from_suc : (xs : Row X) (i : ℕ) (d : X) → i < length xs →
         nodes_from (map v xs) i ≡ f (v (get_or xs i d)) ++ nodes_from (map v xs) (suc i)
     unfolding nodes_from
@@ -78,6 +82,7 @@ module _ {A : Type 0} (f : A → Row NodeLine) where
 
 -- ---- the nodes of the definitions, as rows
 
+-- the nodes of a comment, of an operand of an and-or list, and of an operand of a pipeline
 abbrev pub comment_row : Span → Row NodeLine
 comment_row c = comment_node c ∷ []
 
@@ -87,6 +92,7 @@ part_nodes p = map comment_node p.join.comments ++ pipeline_nodes p.pipeline
 abbrev pub pipe_nodes : APipelinePart → Row NodeLine
 pipe_nodes p = map comment_node p.join.comments ++ command_nodes p.command
 
+-- the nodes of a row of each kind are those of its parts from the first on
 pub comments_are : (cs : Row Span) → map comment_node cs ≡ nodes_from comment_row cs 0
 unfolding nodes_from
 comments_are [] = refl

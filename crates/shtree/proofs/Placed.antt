@@ -11,12 +11,14 @@ use Rattle.shast.specs.Tree.{Entries}
 use Rattle.shast.specs.Nodes.{by_place, entries_nodes, holds, in_order, in_outline, inserted, nodes_at, outline, placed, placed_span}
 use Rattle.shtree.proofs.InOrder.{before, filter-in_order}
 
+-- at a base offsets compare as they do without it, and so do nodes by their places
 cmp_moved : (b s t : ℕ) → nat_cmp (b + s) (b + t) ≡ nat_cmp s t
 cmp_moved b s t = grind (arith, nat_tests)
 
 by_place_moved : (b : ℕ) (m n : NodeLine) → by_place (placed b m) (placed b n) ≡ by_place m n
 by_place_moved b m n = rw (cmp_moved b m.start n.start, cmp_moved b n.«end» m.«end») refl
 
+-- so nodes are put among others, and all of them in order, as they are without it
 inserted_case : (b : ℕ) (n m : NodeLine) (ms : Row NodeLine) (c : Bool) →
     inserted (placed b n) (map (placed b) ms) ≡ map (placed b) (inserted n ms)
     → cond c (placed b m ∷ inserted (placed b n) (map (placed b) ms)) (placed b n ∷ placed b m ∷ map (placed b) ms)
@@ -35,6 +37,7 @@ in_order_moved : (b : ℕ) (ns : Row NodeLine) → in_order (map (placed b) ns) 
 in_order_moved b [] = refl
 in_order_moved b (n ∷ ns) = rw (in_order_moved b ns) (inserted_moved b n (in_order ns))
 
+-- nodes that f changed pass a test as they passed another before that
 filter_case : (f : NodeLine → NodeLine) (n : NodeLine) (ms : Row NodeLine) (c : Bool) →
     cond c (f n ∷ map f ms) (map f ms) ≡ map f (cond c (n ∷ ms) ms)
 filter_case f n ms true = refl
@@ -52,14 +55,17 @@ asked p q b h ns =
     sym (in_order_moved b (filter q ns)) ∙ ap in_order (sym (filter_moved p q (placed b) h ns))
     ∙ sym (filter-in_order p (map (placed b) ns))
 
+-- the outline of a list at a base is found without the base
 pub outline_is : (base : ℕ) (es : Entries) →
     map (placed base) (in_order (filter in_outline (entries_nodes es))) ≡ outline base es
 outline_is base es = asked in_outline in_outline base (λ n. refl) (entries_nodes es)
 
+-- at a base a span holds an offset from there on as without it the span holds the difference
 within_moved : (b at s e : ℕ) → b ≤ at →
     (nat_le (b + s) at && nat_lt at (b + e)) ≡ (nat_le s (at - b) && nat_lt (at - b) e)
 within_moved b at s e h = grind (arith, nat_tests)
 
+-- the nodes of a list at a base that hold an offset from there on are found without the base
 pub nodes_at_is : (base at : ℕ) (es : Entries) → base ≤ at →
     map (placed base) (in_order (filter (holds (at - base)) (entries_nodes es))) ≡ nodes_at base at es
 nodes_at_is base at es h = asked (holds at) (holds (at - base)) base (λ n. within_moved base at n.start n.«end» h)
@@ -74,6 +80,7 @@ all_passed : (b at : ℕ) (ns : Row NodeLine) → at < b → filter (holds at) (
 all_passed b at [] h = refl
 all_passed b at (n ∷ ns) h = rw (not_before b at n.start n.«end» h) (all_passed b at ns h)
 
+-- so the list has no node there
 pub nodes_at_none : (base at : ℕ) (es : Entries) → at < base → nodes_at base at es ≡ []
 nodes_at_none base at es h =
     filter-in_order (holds at) (map (placed base) (entries_nodes es))
@@ -94,6 +101,7 @@ module _ (P : NodeLine → Type 0) where
   all_in_order [] a = a
   all_in_order (n ∷ ns) a = all_inserted n (in_order ns) (All-head P n ns a) (all_in_order ns (All-tail P n ns a))
 
+  -- and so it does of those that pass a test
   pub all_asked : (p : NodeLine → Bool) (ns : Row NodeLine) → All P ns → All P (in_order (filter p ns))
   all_asked p ns a = all_in_order (filter p ns) (All-filter p P ns a)
 
@@ -105,6 +113,7 @@ placed_from b [] i = []
 placed_from b (n ∷ ns) zero = placed b n ∷ placed_from b ns zero
 placed_from b (n ∷ ns) (suc i) = n ∷ placed_from b ns i
 
+-- with the node at an index placed, those from the next index on are left
 placed_suc : (b : ℕ) (ns : Row NodeLine) (i : ℕ) (d : NodeLine) → i < length ns →
     placed_from b (set ns i (placed b (get_or ns i d))) (suc i) ≡ placed_from b ns i
 unfolding placed_from
@@ -116,6 +125,7 @@ pub placed_more : (b : ℕ) (ns : Row NodeLine) (i : ℕ) (n d : NodeLine) → i
     placed_from b (set ns i n) (i + 1) ≡ placed_from b ns i
 placed_more b ns i n d h e = rw (e, add-one) (placed_suc b ns i d h)
 
+-- past the last one none is left, and from the first one on all of them are
 pub placed_end : (b : ℕ) (ns : Row NodeLine) (i : ℕ) → length ns ≤ i → placed_from b ns i ≡ ns
 unfolding placed_from
 placed_end b [] i h = refl

@@ -12,11 +12,13 @@ with_tail ns n other = take n ns ++ (other ++ drop (length other) (drop n ns))
 
 module _ (first rest ns : Row NodeLine) (n k : ℕ) (are : ns ≡ first ++ rest) (at : n ≡ length first)
     (long : k ≡ length ns) where
+  -- the nodes from the index on are those after the first ones
   pub tail_is : slice_range ns n k ≡ rest
   tail_is =
       let count : k - length first ≡ length rest = omega (arith, length-append first rest, ap length are) in
       rw (are, at, drop-append_seam first rest, count) (take-length rest)
 
+  -- once as many others are written over those, the first ones and these are all
   pub tail_written : (other : Row NodeLine) → length other ≡ length rest
       → take k (with_tail ns n other ++ drop (length (with_tail ns n other)) ns) ≡ first ++ other
   tail_written other same =

@@ -17,6 +17,7 @@ module _ {K : Type 0} (Is : List ℕ → HeldLine K → Type 0) (laws : Reads Is
       p + l.len ≤ length B
   line_within B p l within is e = let high = laws.within (drop p B) l is e in omega (arith, high, length-drop p B)
 
+  -- and so does each boundary
   pub boundary_within : (B : List ℕ) (s : ℕ) → IsBoundary Is B s → s ≤ length B
   boundary_within B _ at_start = omega arith
   boundary_within B _ (at_end_of {p = p} {l = l} at is e) = line_within B p l (boundary_within B p at) is e
@@ -36,6 +37,7 @@ module _ {K : Type 0} (Is : List ℕ → HeldLine K → Type 0) (laws : Reads Is
       (λ (more : s < p). let r = gap_by B n s p m (omega arith) at_s at_p more is_m in absurd (omega (arith, r.1))) o)
       (cases_order p s)
 
+  -- the same, without a number that the two boundaries stay below
   pub gap : (B : List ℕ) (p s : ℕ) (l : HeldLine K) → IsBoundary Is B p → IsBoundary Is B s → p < s → Is (drop p B) l →
       (l.ended ≡ true) × (p + l.len ≤ s)
   gap B p s l = gap_by B (suc (p + s)) p s l (omega arith)

@@ -11,6 +11,7 @@ use Rattle.shwindow.specs.declared.line.HeldLine.{HeldLine}
 use Rattle.shwindow.specs.declared.place.BlockPlace.{BlockPlace}
 use Rattle.shwindow.proofs.Rows.{extent_append, extent_none, extent_read, extent_whole, row_at}
 
+-- the lines of some blocks and of others after them
 pub joined_append : {X : Type 0} (js ks : Row (Row X)) → in_one_row (js ++ ks) ≡ in_one_row js ++ in_one_row ks
 unfolding in_one_row
 joined_append [] ks = refl
@@ -49,6 +50,7 @@ pub block_read : {X : Type 0} (ks : Row (Row X)) (n : ℕ) (k : Row X) → n < l
     k ≡ block_at ks n
 block_read ks n k low is = is ∙ get_or_default ks n k [] low
 
+-- and one that was read from where these blocks stand
 pub block_read_of : {X : Type 0} (ks : Row (Row X)) (n : ℕ) (items : Row (Row X)) (k : Row X) → items ≡ ks →
     n < length items → k ≡ get_or items n k → (n < length ks) × (k ≡ block_at ks n)
 block_read_of {X = X} ks n items k same =
@@ -62,6 +64,7 @@ unfolding in_one_row
 joined_some n ks low = ap in_one_row (drop-cons ks n [] low)
     ∙ ap (λ m. block_at ks n ++ in_one_row (drop m ks)) (sym (add-one n))
 
+-- the same past the last block, where all of these are none, and so at each index
 joined_none : {X : Type 0} (n : ℕ) (ks : Row (Row X)) → length ks ≤ n →
     in_one_row (drop n ks) ≡ block_at ks n ++ in_one_row (drop (n + 1) ks)
 unfolding in_one_row
@@ -78,6 +81,7 @@ pub joined_more : {X : Type 0} (n : ℕ) (ks : Row (Row X)) → n < length ks �
     in_one_row (take (n + 1) ks) ≡ in_one_row (take n ks) ++ block_at ks n
 joined_more n ks low = ap in_one_row (take_more ks n [] low) ∙ joined_push (take n ks) (block_at ks n)
 
+-- a row with another element at an index: those before it, this one, and those after it
 set_parts : {X : Type 0} (xs : Row X) (n : ℕ) (x : X) → n < length xs → set xs n x ≡ take n xs ++ x ∷ drop (n + 1) xs
 set_parts xs n x low =
     sym (take-append-drop (n + 1) (set xs n x))
@@ -104,6 +108,7 @@ joined_last n ks k more last is =
 
 -- ---- places
 
+-- the lines before a place and those from there on are all lines
 pub place_split : {X : Type 0} (ks : Row (Row X)) (p : BlockPlace) →
     lines_before ks p ++ lines_from ks p ≡ in_one_row ks
 place_split ks p =
@@ -139,6 +144,7 @@ from_line ks p d low =
     (drop-cons (block_at ks p.block) p.line d low
     ∙ ap (λ m. get_or (block_at ks p.block) p.line d ∷ drop m (block_at ks p.block)) (sym (add-one p.line)))
 
+-- past the last block there is none
 pub from_end : {X : Type 0} (ks : Row (Row X)) (p : BlockPlace) → length ks ≤ p.block → lines_from ks p ≡ []
 unfolding in_one_row
 from_end ks p high =
@@ -146,6 +152,7 @@ from_end ks p high =
     let more = drop_all (p.block + 1) ks (omega arith) in
     rw (none, more, drop-nil p.line) refl
 
+-- where there is a first one, the place is in a block
 pub from_some : {X : Type 0} (ks : Row (Row X)) (p : BlockPlace) (x : X) → Some x ≡ first_of (lines_from ks p) →
     p.block < length ks
 from_some ks p x is =
@@ -153,10 +160,12 @@ from_some ks p x is =
     (λ (high : length ks ≤ p.block). let none = ap first_of (from_end ks p high) in absurd cc)
     (cases_lt p.block (length ks))
 
+-- and it is the line that stands at the place
 pub from_first : {X : Type 0} (ks : Row (Row X)) (p : BlockPlace) (h : X) → p.line < length (block_at ks p.block) →
     h ≡ get_or (block_at ks p.block) p.line h → first_of (lines_from ks p) ≡ Some h
 from_first ks p h low is = ap first_of (from_line ks p h low) ∙ ap Some (sym is)
 
+-- a row that has a first element begins with it, and a row that has none is empty
 pub first_some : {X : Type 0} (xs : Row X) (x : X) → Some x ≡ first_of xs → (ys : Row X) × (xs ≡ x ∷ ys)
 first_some [] x is = absurd cc
 first_some (y ∷ ys) x is = (ys, cc)
@@ -176,7 +185,7 @@ pub by_last : {X : Type 0} (ks : Row (Row X)) (p : BlockPlace) (last : X) → li
 by_last ks p last from = ap (λ x. x ++ last ∷ [])
     (sym (place_split ks p) ∙ ap (λ x. lines_before ks p ++ x) from ∙ append-nil (lines_before ks p))
 
--- the place after a line, in its block and in the next one
+-- from an index in a row on stands the item there, and then the others
 drop_some : {X : Type 0} (xs : Row X) (n : ℕ) → n < length xs → (x : X) × (drop n xs ≡ x ∷ drop (n + 1) xs)
 drop_some [] n low = absurd (omega arith)
 drop_some (x ∷ xs) n low = (
@@ -184,11 +193,13 @@ drop_some (x ∷ xs) n low = (
   drop-cons (x ∷ xs) n x low ∙ ap (λ m. get_or (x ∷ xs) n x ∷ drop m (x ∷ xs)) (sym (add-one n)),
 )
 
+-- from the place of a line on stand that line, and those from the place after it in its block
 pub after_within : {X : Type 0} (ks : Row (Row X)) (p : BlockPlace) → p.line < length (block_at ks p.block) → (x : X)
     × (lines_from ks p ≡ x ∷ lines_from ks (record { block = p.block; line = p.line + 1 }))
 after_within ks p low = let some = drop_some (block_at ks p.block) p.line low in
     (some.0, ap (λ x. x ++ in_one_row (drop (p.block + 1) ks)) some.1)
 
+-- or those from the start of the next block on, where it is the last one of its own
 pub after_out : {X : Type 0} (ks : Row (Row X)) (p : BlockPlace) → p.line < length (block_at ks p.block) →
     length (block_at ks p.block) ≤ p.line + 1
     → (x : X) × (lines_from ks p ≡ x ∷ lines_from ks (record { block = p.block + 1; line = 0 }))
@@ -310,6 +321,7 @@ between_parts front head new tail rest =
     ap (λ x. front ++ x) (append_assoc head (new ++ tail) rest ∙ ap (λ x. head ++ x) (append_assoc new tail rest))
     ∙ sym (append_assoc front head (new ++ (tail ++ rest)))
 
+-- with other lines in a part of a block, they stand there among all lines
 pub between_joined : {X : Type 0} (ks : Row (Row X)) (p : BlockPlace) (to : ℕ) (new k : Row X) → p.block < length ks →
     k ≡ take p.line (block_at ks p.block) ++ (new ++ drop to (block_at ks p.block))
     → in_one_row (set ks p.block k) ≡ lines_before ks p ++ (new ++ lines_from ks (in_block p to))
@@ -339,6 +351,7 @@ pub extent_more_blocks : {K : Type 0} (n : ℕ) (ks : Row (Row (HeldLine K))) �
     extent (in_one_row (take (n + 1) ks)) ≡ extent (in_one_row (take n ks)) + extent (block_at ks n)
 extent_more_blocks n ks low = ap extent (joined_more n ks low) ∙ extent_append (in_one_row (take n ks)) (block_at ks n)
 
+-- the first blocks, a block, and two that are neighbours have no more bytes than all blocks have
 pub extent_blocks : {K : Type 0} (n : ℕ) (ks : Row (Row (HeldLine K))) →
     extent (in_one_row (take n ks)) ≤ extent (in_one_row ks)
 extent_blocks n ks = let all = ap extent (joined_split n ks) in
@@ -353,6 +366,7 @@ pub extent_two_blocks : {K : Type 0} (n : ℕ) (ks : Row (Row (HeldLine K))) →
 extent_two_blocks n ks low = omega
     (arith, extent_more_blocks n ks (omega arith), extent_more_blocks (n + 1) ks low, extent_blocks ((n + 1) + 1) ks)
 
+-- no blocks have no byte
 pub extent_no_blocks : (K : Type 0) → extent {K = K} (in_one_row []) ≡ 0
 unfolding in_one_row
 extent_no_blocks K = extent_none K
@@ -386,6 +400,7 @@ found_at ks at p before begin low is within begins high past = record {
       omega (arith, past, begins, more);
 }
 
+-- so the place that a search of that block found is the one for the offset
 pub found_in : {K : Type 0} (ks : Row (Row (HeldLine K))) (at : ℕ) (p : BlockPlace) (k : Row (HeldLine K))
     (before begin : ℕ)
     → p.block < length ks → k ≡ block_at ks p.block → before ≡ extent (in_one_row (take p.block ks)) →
@@ -404,6 +419,7 @@ found_in {K = K} ks at p k before begin low same is =
     absurd (omega (arith, whole, begins, high, past)))
     (cases_lt p.line (length (block_at ks p.block))))
 
+-- where all lines end at the offset or before it, the place after them is
 pub found_end : {K : Type 0} (ks : Row (Row (HeldLine K))) (at : ℕ) (p : BlockPlace) (begin : ℕ) → p.block ≡ length ks →
     IsPlace ks p → lines_from ks p ≡ [] → begin ≡ extent (in_one_row ks) → begin ≤ at → Found ks at p begin
 found_end ks at p begin is place none begins high = record {

@@ -45,6 +45,7 @@ module _ {K : Type 0} (Is : List ℕ → HeldLine K → Type 0) (a : ℕ) where
     pub past : (T : List ℕ) (h : HeldLine K) (ls : Row (HeldLine K)) → h ∷ ls ≡ left → IsRow Is T (h ∷ ls) →
         h.ended ≡ true → a < begin + h.len
 
+  -- so they are cut where the first line left ends past a, or only the last line is left
   pub cut_at : (hs kept left xs : Row (HeldLine K)) (last : HeldLine K) (begin : ℕ) → hs ≡ kept ++ left →
       begin ≡ extent kept → begin ≤ a → left ≡ xs ++ last ∷ []
       → ((h : HeldLine K) (ls : Row (HeldLine K)) → xs ≡ h ∷ ls → a < begin + h.len) → IsCut hs kept left begin
@@ -58,6 +59,7 @@ module _ {K : Type 0} (Is : List ℕ → HeldLine K → Type 0) (a : ℕ) where
 
   module _ (laws : Reads Is) (B U : List ℕ) (e b : ℕ) (apart : Apart B U a e b) (hs kept : Row (HeldLine K)) (begin : ℕ)
       (row : IsRow Is B hs) where
+    -- at the cut the window begins, and before it the lines stay
     begun_by : (left : Row (HeldLine K)) → IsCut hs kept left begin →
         (IsBoundary Is B begin × IsRow Is (drop begin B) left × Begins Is B a begin)
         × ((ms : Row (HeldLine K)) → IsRow Is (drop begin U) ms → IsRow Is U (kept ++ ms))
@@ -75,6 +77,7 @@ module _ {K : Type 0} (Is : List ℕ → HeldLine K → Type 0) (a : ℕ) where
               (subst (λ x. IsRow Is (drop x U) ms) (sym same) rows),
         )
 
+    -- so there the reading of the window begins
     pub cut_begun : (left : Row (HeldLine K)) → IsCut hs kept left begin → IsBegun Is B U a e b begin left
     cut_begun left cut = let parts = begun_by left cut in
         record { apart = apart; boundary = parts.0.0; low = cut.low; row = parts.0.1 }
@@ -91,6 +94,7 @@ module _ {K : Type 0} (Is : List ℕ → HeldLine K → Type 0) (a : ℕ) where
         let same : n ≡ (begin + n) - begin = omega arith in
         (begin, begin + n, record { begins = (begun_by left cut).0.2; ends = ends }, is ∙ ap (risen before) same)
 
+    -- or what it says where no more than the window was read
     pub cut_no_more : (left : Row (HeldLine K)) (before meter : ℕ) → IsCut hs kept left begin →
         ((t : ℕ) → Ends Is B U e b t → RoseWithin (t - begin) before meter) → RoseWithinWindow Is B U a e b before meter
     cut_no_more left before meter cut rose w t window =
@@ -107,6 +111,7 @@ has_no_more Is B U a e b before meter (v, u, window, is) w t other =
 
 -- ---- the new row
 
+-- the lines kept, read and left after those, with the last line apart from those that ended
 pub mended : {X : Type 0} (kept read after : Row X) (last : X) →
     kept ++ (read ++ (after ++ last ∷ [])) ≡ (kept ++ (read ++ after)) ++ last ∷ []
 mended kept read after last =

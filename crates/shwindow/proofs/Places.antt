@@ -7,6 +7,7 @@ use Rattle.shwindow.specs.Places.{IsNotAfter, in_block}
 use Rattle.shwindow.specs.declared.place.BlockPlace.{BlockPlace}
 use Rattle.shwindow.proofs.Joined.{joined_at}
 
+-- a place is not after itself; nor after a third, if it is not after a second that is not after the third
 pub not_after_itself : (p : BlockPlace) → IsNotAfter p p
 not_after_itself p = record { block = omega arith; line = λ _. omega arith }
 
@@ -49,11 +50,13 @@ from_next ks p q n block line is =
 module _ {X : Type 0} (ks new : Row (Row X)) (p q : BlockPlace) (order : IsNotAfter p q)
     (front : take q.block new ≡ take q.block ks)
     (head : take q.line (block_at new q.block) ≡ take q.line (block_at ks q.block)) where
+  -- a block before the one that is cut is the same
   same_block : p.block < q.block → block_at new p.block ≡ block_at ks p.block
   same_block low =
       sym (get_or-take q.block new p.block [] low) ∙ ap (λ x. block_at x p.block) front
       ∙ get_or-take q.block ks p.block [] low
 
+  -- so is what the place's block has before the place
   pub same_head : take p.line (block_at new p.block) ≡ take p.line (block_at ks p.block)
   same_head =
       ⊎_elim (λ (low : p.block < q.block). ap (take p.line) (same_block low))
@@ -66,6 +69,7 @@ module _ {X : Type 0} (ks new : Row (Row X)) (p q : BlockPlace) (order : IsNotAf
       ∙ take-take p.line q.line (block_at ks q.block) low))
       (cases_lt p.block q.block)
 
+  -- and so are all lines before the place
   pub same_before : lines_before new p ≡ lines_before ks p
   same_before =
       let blocks : take p.block new ≡ take p.block ks =

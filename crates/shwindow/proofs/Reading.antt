@@ -16,10 +16,12 @@ use Rattle.shwindow.proofs.Hands.{passes_sum}
 use Rattle.shwindow.proofs.Rows.{extent_none, extent_push, row_extent}
 use Rattle.shwindow.proofs.Steps.{Going, NotMet, Past, going_last, going_low, going_met, going_on, going_passed, going_start, old_place_bound, place_fits}
 
+-- what is so in any case is so of a result that failed
 pub on_err : {T E P : Type 0} (r : Result T E) → P → OnErr r P
 on_err (Ok x) p = tt
 on_err (Err e) p = p
 
+-- a row with one element more is not empty
 pub push_some : {X : Type 0} (xs : Row X) (x : X) → xs ++ x ∷ [] ≡ [] → ⊥
 push_some [] x none = cc
 push_some (y ∷ ys) x none = cc
@@ -29,6 +31,7 @@ pub same_from : {K : Type 0} (o n : Lines K) (p : BlockPlace) → n.blocks ≡ o
     lines_from n.blocks.now.blocks.items p ≡ lines_from o.blocks.now.blocks.items p
 same_from {K = K} o n p blocks = ap (λ (x : Bor (Blocks K)). lines_from x.now.blocks.items p) blocks
 
+-- the same, with the last line after them
 pub same_left : {K : Type 0} (o n : Lines K) (p : BlockPlace) → n.blocks ≡ o.blocks → n.last ≡ o.last
     → lines_from n.blocks.now.blocks.items p ++ n.last.now ∷ [] ≡ lines_from o.blocks.now.blocks.items p ++ o.last.now
     ∷ []
@@ -37,12 +40,15 @@ same_left {K = K} o n p blocks last = ap (λ (x : Row (HeldLine K)). x ++ n.last
 
 -- ---- meters
 
+-- after no byte a meter is what it was
 pub risen_none : (m : ℕ) → risen m 0 ≡ m
 risen_none m = omega arith
 
+-- after some bytes and then others it is what it is after all of them
 pub risen_more : (m k n : ℕ) → risen (risen m k) n ≡ risen m (k + n)
 risen_more m k n = omega arith
 
+-- a meter that rose by k bytes rose by no more than n, if k is no more than n
 pub rose : (m k n : ℕ) → k ≤ n → RoseWithin n m (risen m k)
 rose m k n low = (omega arith, omega arith)
 
@@ -56,6 +62,7 @@ module _ {K : Type 0} (Is : List ℕ → HeldLine K → Type 0) (U : List ℕ) (
 
 module _ {K : Type 0} (Is : List ℕ → HeldLine K → Type 0) (laws : Reads Is) (U : List ℕ) (e b w : ℕ)
     (old : Row (HeldLine K)) where
+  -- at first no line is read, and all old lines are in hand
   pub at_start : AtLine Is U e b w old [] w w old
   at_start = record {
     going = λ B a begun. going_start Is laws B U a e b begun.apart w old begun.boundary begun.low begun.row;
@@ -84,6 +91,7 @@ module _ {K : Type 0} (Is : List ℕ → HeldLine K → Type 0) (laws : Reads Is
   }
 
   module _ (B : List ℕ) (a : ℕ) (begun : IsBegun Is B U a e b w old) where
+    -- what was read ends in the new text
     pub at_within : (read : Row (HeldLine K)) (q p : ℕ) (hs : Row (HeldLine K)) → AtLine Is U e b w old read q p hs →
         q ≤ length U
     at_within read q p hs at = place_fits Is laws B U a e b begun.apart w read q p hs (at.going B a begun)
@@ -93,6 +101,7 @@ module _ {K : Type 0} (Is : List ℕ → HeldLine K → Type 0) (laws : Reads Is
     old_length = let within = boundary_within Is laws B w begun.boundary in
         omega (arith, within, row_extent Is laws (drop w B) old begun.row, length-drop w B)
 
+    -- the old place of q is below each number that b and the end of the old lines are below
     pub old_at_fits : (q n : ℕ) → q ≤ length U → b < n → w + extent old < n → b + (q - e) < n
     old_at_fits q n low small fits =
         old_place_bound Is laws B U a e b begun.apart q n low small (omega (arith, old_length))
@@ -133,9 +142,11 @@ module _ {K : Type 0} (Is : List ℕ → HeldLine K → Type 0) (T : List ℕ) w
     pub sum : extent read ≡ q
     pub leads : (ms : Row (HeldLine K)) → IsRow Is (drop q T) ms → IsRow Is T (read ++ ms)
 
+  -- at first none is
   pub row_start : AtRow [] 0
   row_start = record { within = omega arith; sum = extent_none K; leads = λ ms row. row }
 
+  -- with a line more that ended, they are read up to its end
   pub row_more : (read : Row (HeldLine K)) (q : ℕ) (l : HeldLine K) → AtRow read q → Is (drop q T) l → l.ended ≡ true →
       q + l.len ≤ length T → AtRow (read ++ l ∷ []) (q + l.len)
   row_more read q l at is ended within = let sum = at.sum in record {
@@ -145,6 +156,7 @@ module _ {K : Type 0} (Is : List ℕ → HeldLine K → Type 0) (T : List ℕ) w
         (at.leads (l ∷ ms) (more_lines is ended (subst (λ x. IsRow Is x ms) (sym (drop-drop l.len q T)) rows)));
   }
 
+  -- with the last line they are the row of the text
   pub row_done : (read : Row (HeldLine K)) (q : ℕ) (l : HeldLine K) → AtRow read q → Is (drop q T) l → l.ended ≡ false →
       q + l.len ≡ length T → IsRow Is T (read ++ l ∷ [])
   row_done read q l at is not_ended whole =

@@ -36,6 +36,7 @@ pub extent_between : {K : Type 0} (m n : ℕ) (hs new : Row (HeldLine K)) →
     extent (take m hs ++ (new ++ drop n hs)) ≡ extent (take m hs) + (extent new + extent (drop n hs))
 extent_between m n hs new = omega (arith, extent_append (take m hs) (new ++ drop n hs), extent_append new (drop n hs))
 
+-- lines are left, if fewer give way than there are with the new ones
 pub some_between : {X : Type 0} (m n : ℕ) (xs new : Row X) → m ≤ n → n ≤ length xs → n - m < length xs + length new →
     0 < length (take m xs ++ (new ++ drop n xs))
 some_between m n xs new low high some =
@@ -58,6 +59,7 @@ pub extent_read : {K : Type 0} (n : ℕ) (hs : Row (HeldLine K)) (h : HeldLine K
 extent_read {K = K} n hs h low is = let more = extent_more n hs h low in
     omega (arith, more, ap (λ (x : HeldLine K). x.len) is)
 
+-- the first lines have no more bytes than all; if they are all, as many, and then none are left
 pub extent_take : {K : Type 0} (n : ℕ) (hs : Row (HeldLine K)) → extent (take n hs) ≤ extent hs
 extent_take n hs = omega (arith, extent_split n hs)
 

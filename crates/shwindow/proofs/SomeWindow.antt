@@ -23,6 +23,7 @@ module _ {K : Type 0} (Is : List ℕ → HeldLine K → Type 0) (laws : Reads Is
         goes l is ended (on (p + l.len) (omega (arith, onward, within, length-drop p B)))
     walk_by p l false not_ended is on = stops l is not_ended
 
+    -- so there is a walk from a place with fewer than n bytes after it, and one over the whole text
     walk_below : (n p : ℕ) → length B - p < n → Walk B p
     walk_below zero p low = absurd (omega arith)
     walk_below (suc n) p low =
@@ -73,6 +74,7 @@ module _ {K : Type 0} (Is : List ℕ → HeldLine K → Type 0) (laws : Reads Is
         (cases_lt a (p + l.len))
 
     module _ (whole : Walk B 0) where
+      -- there is one for each a
       greatest : (a : ℕ) → (w : ℕ) × Begins Is B a w
       greatest a = greatest_from a 0 whole at_start (omega arith)
 
@@ -126,6 +128,7 @@ module _ {K : Type 0} (Is : List ℕ → HeldLine K → Type 0) (laws : Reads Is
         (λ s m. (gap Is laws U p s l at m.here (each_after p s none m (least s m)) is).1))
         (is_shared p at)
 
+  -- each edit has a window, where each text begins with a line
   pub some_window : ((T : List ℕ) → (l : HeldLine K) × Is T l) → (B U : List ℕ) (a e b : ℕ)
       → (w t : ℕ) × IsWindow Is B U a e b w t
   some_window some B U a e b =

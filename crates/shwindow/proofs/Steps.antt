@@ -58,6 +58,7 @@ module _ {K : Type 0} (Is : List ℕ → HeldLine K → Type 0) (laws : Reads Is
 
   -- ---- the old lines in hand
 
+  -- they are all of those for a later offset too
   holds_less : (o u p : ℕ) (hs : Row (HeldLine K)) → o ≤ u → Holds Is B o p hs → Holds Is B u p hs
   holds_less o u p hs low (in_hand at row least) = in_hand at row (λ s at_s more. least s at_s (omega arith))
   holds_less o u p _ low (empty_hand none) = empty_hand (λ s at_s. let less = none s at_s in omega arith)
@@ -73,15 +74,18 @@ module _ {K : Type 0} (Is : List ℕ → HeldLine K → Type 0) (laws : Reads Is
       in_hand (at_end_of at is e) (subst (λ T. IsRow Is T hs) (drop-drop h.len p B) row)
       (λ s at_s more. (gap Is laws B p s h at at_s (omega arith) is).1)
 
+  -- so the others stay in hand
   rest_holds : (o p : ℕ) (h : HeldLine K) (hs : Row (HeldLine K)) → p < o → Holds Is B o p (h ∷ hs) →
       Holds Is B o (p + h.len) hs
   rest_holds o p h hs lt (in_hand at row least) = next_holds o p h hs lt at row least
 
+  -- where the first one begins at o, that is a boundary with these lines after it
   found_at : (o p : ℕ) (h : HeldLine K) (hs : Row (HeldLine K)) → Holds Is B o p (h ∷ hs) → p ≡ o → IsBoundary Is B o
       × IsRow Is (drop o B) (h ∷ hs)
   found_at o p h hs (in_hand at row least) same =
       subst (λ x. IsBoundary Is B x × IsRow Is (drop x B) (h ∷ hs)) same (at, row)
 
+  -- where o is a boundary, and none in hand begins before it, one begins there
   found_none : (o p : ℕ) (hs : Row (HeldLine K)) → Holds Is B o p hs → Past o p hs → IsBoundary Is B o →
       (p ≡ o → hs ≡ []) → ⊥
   found_none o p hs (in_hand at row least) past at_o none =
@@ -92,6 +96,7 @@ module _ {K : Type 0} (Is : List ℕ → HeldLine K → Type 0) (laws : Reads Is
       some (none same)
   found_none o p _ (empty_hand none) past at_o not_met = let lt = none o at_o in omega arith
 
+  -- the first one in hand ends in the old text
   hold_fits : (o p : ℕ) (h : HeldLine K) (hs : Row (HeldLine K)) → Holds Is B o p (h ∷ hs) → p + h.len ≤ length B
   unfolding extent
   hold_fits o p h hs (in_hand at row least) =
@@ -103,6 +108,7 @@ module _ {K : Type 0} (Is : List ℕ → HeldLine K → Type 0) (laws : Reads Is
 
 module _ {K : Type 0} (Is : List ℕ → HeldLine K → Type 0) (laws : Reads Is) (B U : List ℕ) (a e b : ℕ)
     (apart : Apart B U a e b) where
+  -- at its start no line is read, and all old lines from there on are in hand
   pub going_start : (w : ℕ) (hs : Row (HeldLine K)) → IsBoundary Is B w → w ≤ a → IsRow Is (drop w B) hs →
       Going Is B U a e b w [] w w hs
   unfolding extent
@@ -130,6 +136,7 @@ module _ {K : Type 0} (Is : List ℕ → HeldLine K → Type 0) (laws : Reads Is
     hand = rest_holds Is laws B (b + (q - e)) p h hs lt g.hand;
   }
 
+  -- and so are more of them
   pub going_passed : (w : ℕ) (read : Row (HeldLine K)) (q p : ℕ) (hs : Row (HeldLine K)) (r : ℕ) (ks : Row (HeldLine K))
       → Going Is B U a e b w read q p hs → Passes (b + (q - e)) p hs r ks → Going Is B U a e b w read q r ks
   going_passed w read q p hs _ _ g none_passed = g
@@ -203,6 +210,7 @@ module _ {K : Type 0} (Is : List ℕ → HeldLine K → Type 0) (laws : Reads Is
       Going Is B U a e b w read q p hs → q ≤ length U
   place_fits w read q p hs g = boundary_within Is laws U q g.boundary
 
+  -- the old place of q is in the old text, if b is
   pub old_place_fits : (q : ℕ) → b ≤ length B → q ≤ length U → b + (q - e) ≤ length B
   old_place_fits q low high =
       let here : e + 0 ≡ e = omega arith in
@@ -211,6 +219,7 @@ module _ {K : Type 0} (Is : List ℕ → HeldLine K → Type 0) (laws : Reads Is
       let rest : length (drop e U) ≡ length (drop b B) = ap length same in
       omega (arith, rest, length-drop e U, length-drop b B)
 
+  -- and it is below each number that b and the length of the old text are below
   pub old_place_bound : (q n : ℕ) → q ≤ length U → b < n → length B < n → b + (q - e) < n
   old_place_bound q n high small fits =
       ⊎_elim (λ (far : length B < b).

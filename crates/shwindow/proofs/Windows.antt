@@ -15,6 +15,7 @@ module _ {K : Type 0} (Is : List ℕ → HeldLine K → Type 0) (B U : List ℕ)
       let q = y.greatest w x.boundary x.low in
       omega arith
 
+  -- and one end
   pub ends_only : (t u : ℕ) → Ends Is B U e b t → Ends Is B U e b u → t ≡ u
   ends_only t u (meets m least) (meets n least') = let l = least u n in let k = least' t m in omega arith
   ends_only t u (meets m least) (never is none) = absurd (none t m)

@@ -24,6 +24,7 @@ kind_after line kind unused long short within =
       drop-append-add (take 43 line) kind unused,
     ) refl
 
+-- the codes of a newline and of blanks are those texts
 joined : (start stop kind : List ℕ) →
     10 ∷ (start ++ 32 ∷ (stop ++ 32 ∷ kind)) ≡ codes "\n" ++ start ++ codes " " ++ stop ++ codes " " ++ kind
 joined start stop kind = grind (arith, append_assoc)

@@ -4,6 +4,7 @@ use Rattle.std.proofs.lemmas.Fmt.{length-decimal-le}
 use Rattle.std.proofs.lemmas.List.{drop-set}
 use Rattle.shlive.proofs.texts.write_number.Goals as goal
 
+-- a number of a usize has 20 digits at most
 short : (n : ℕ) → n < 2 ^ 64 → length (decimal n) ≤ 20
 short n h = length-decimal-le 20 n (omega arith) (omega arith) h
 

@@ -13,6 +13,7 @@ use Rattle.shtree.proofs.Tail.{tail_is, tail_written}
 use Rattle.shtree.proofs.nodes.add_nodes.Goals as goal
 use Rattle.shtree.proofs.nodes.add_nodes.Goals.{then-is_ok+else-is_ok-2, else-is_ok}
 
+-- what is told of a good result is so where the result is good
 when_ok : {T E P : Type 0} (r : Result T E) → is_ok r ≡ true → OnOk r P → P
 when_ok (Ok x) is p = p
 when_ok (Err e) is p = absurd (false≢true is)

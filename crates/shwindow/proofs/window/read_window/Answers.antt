@@ -69,18 +69,22 @@ passed g c =
     (lines_left c.pass.new.self.lines))
     (ap (λ n. c.args.old_end + n) c.saturating_sub.ensures) c.pass.ensures.passes)
 
+-- those left in hand begin at the old place of what was read or after it
 past : (g : Over) (c : After-pass g) →
     Past (c.args.old_end + (c.lines.at - c.args.«end»)) c.pass.new.self.begin (lines_left c.pass.new.self.lines)
 past g c some = let high = c.pass.ensures.past some in omega (arith, high, c.saturating_sub.ensures)
 
+-- where none of them is met, that place is not shared
 not_met : (g : Over) (c : After-meets g) → c.meets.result ≡ false →
     NotMet c.args.«end» c.args.old_end c.lines.at c.pass.new.self.begin (lines_left c.pass.new.self.lines)
 not_met g c is high same = c.meets.ensures.not_met is high
     (same ∙ sym (ap (λ n. c.args.old_end + n) c.saturating_sub.ensures))
 
+-- the lines in hand are still in the old blocks
 blocks_of : (g : Over) (c : After-pass g) → c.pass.new.self.lines.blocks ≡ c.args.old.blocks
 blocks_of g c = c.pass.ensures.blocks ∙ c.lines.invariant.blocks
 
+-- where one is met, those left are the old lines from its place on
 left_of : (g : Over) (c : After-meets g) → c.pass.new.self.lines.blocks ≡ c.args.old.blocks → c.meets.result ≡ true
     → lines_left c.pass.new.self.lines ≡ lines_from c.args.old.blocks.now.blocks.items c.pass.new.self.lines.place
     ++ c.args.old.last.now ∷ []

@@ -6,6 +6,7 @@ use Rattle.shwindow.proofs.blocks.Blocks.replace_from.Given.{Over}
 use Rattle.shwindow.proofs.blocks.Blocks.replace_from.Goals as goal
 use Rattle.shwindow.proofs.blocks.Blocks.replace_from.Goals.{After-replace_items}
 
+-- all lines then: those before the place, the new ones, and those of the blocks that stay after it
 all_lines : (g : Over) (c : After-replace_items g) →
     in_one_row c.replace_items.new.of.items ≡ lines_before c.args.self.now.blocks.items c.args.from
     ++ (in_one_row c.args.new.blocks.items ++ in_one_row (drop c.args.to c.args.self.now.blocks.items))

@@ -22,6 +22,7 @@ find-begin-requires g c =
     let fits = c.self.invariant in
     omega (arith, fits, extent_push (in_one_row held.blocks.blocks.items) held.last)
 
+-- the lines are cut at the place that was found for the start of the edit
 cut : (g : Over) (c : After-new-old g) →
     IsCut (g.R.LineReader.is_line (g.R.LineReader.setting c.args.reader.now)) c.args.start c.args.self.now
     (lines_before c.self.inside.blocks.blocks.items c.find-begin.result.0)
