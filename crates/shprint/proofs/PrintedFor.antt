@@ -35,7 +35,7 @@ use Rattle.shprint.proofs.PrintedGroups.{block_marks, body_read}
 module _ (y : Layout) where
   -- ---- what is printed before `do`
 
-  -- between the name and `do`
+  -- after the name up to `do`, with it
   abbrev pub head_marks : Text → Shape ForWordsOf → Marks → Marks
   head_marks m no_in ms = text (codes " ") ∷ text (codes "do") ∷ ms
   head_marks m (in_words items) ms = text (codes " ") ∷ text (codes "in")
