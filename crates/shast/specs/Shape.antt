@@ -15,7 +15,7 @@ Text = List ℕ
 abbrev pub text_at : List ℕ → Span → Text
 text_at B s = take (s.«end» - s.start) (drop s.start B)
 
--- without continuations, in text that has no quotes (XCU 2.2.1)
+-- without continuations, each a backslash (92) and a newline (10), in text that has no quotes (XCU 2.2.1)
 unfoldable pub bare : Text → Text
 bare [] = []
 bare (b ∷ []) = b ∷ []

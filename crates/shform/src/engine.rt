@@ -1,4 +1,5 @@
-//! The two tools over readers and writers: an input is read to its end, under the limit, and reported on.
+//! A check and a print over readers and writers: an input is read to its end, under the limit, and reported
+//! on. A session has its FILE read here too.
 ghost use Rattle.std.specs.Prelude.{◌≡◌, ◌≢◌, ◌+◌, ◌<◌, ◌≤◌, ◌==◌, ℕ, List, [], IfErr, IfOk, false, length, take, true};
 ghost use Rattle.std.specs.Io.KnownBytes.{Consumes, IsAtEnd};
 ghost use Rattle.shtext.specs.Device.{held_of, input_ended, input_failed, left_of, output_failed};

@@ -1,6 +1,6 @@
 //! Each growth refused in turn, as in the tests of the reader: by the library that
-//! `tests/refused-growths` loads. Without it, as in the gate, each test runs once. They catch the
-//! wrong body `always_out_of_memory`, which no contract can.
+//! `tests/refused-growths` loads. Without it, as in the gate, each test runs once. They catch a
+//! body that gives up though there is memory, which no contract can.
 use crate::gathering::Gathering;
 use crate::tests::checked;
 use crate::tests::print::print as printed;

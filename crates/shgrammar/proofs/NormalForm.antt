@@ -427,7 +427,8 @@ module _ (g : Given) where
         (λ j u good. tells_then Whole g (normal_command j.1 u)
         (λ c v fine. pushed_on (gives (pipes_more p.parts _ so good fine)))))
 
-    normal_pipe_turn : (p : PipesSoFar) (s : State) → PipesHold p s → N (pipe_turn inner p) (Turned Whole g PipesHold) s
+    normal_pipe_turn : (p : PipesSoFar) (s : State) → PipesHold p s →
+        N (pipe_turn inner p) (Turned Whole g PipesHold) s
     unfolding pipe_turn
     normal_pipe_turn p s so = picked_by (is_pipe p.next.token) (λ e. normal_one_command p s so)
         (gives so)

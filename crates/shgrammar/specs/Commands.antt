@@ -191,7 +191,7 @@ takes_here redirects.Here = true
 takes_here redirects.HereStripped = true
 takes_here _ = false
 
--- it takes tabs off the lines of its here-document
+-- it takes tabs off the lines of its here-document, and has three bytes
 abbrev pub is_strip : RedirectOperator → Bool
 is_strip redirects.HereStripped = true
 is_strip _ = false
@@ -202,7 +202,7 @@ is_long redirects.Input = false
 is_long redirects.Output = false
 is_long _ = true
 
--- `<<-` has three bytes
+-- its one, two or three bytes, with their span
 unfoldable pub an_operator : RedirectOperator → Form (Unit {0} × Span)
 an_operator o = token (by (redirect_text o))
     (move one_byte >> pick (is_long o) (move one_byte) (give tt) >> pick (is_strip o) (move one_byte) (give tt))

@@ -126,11 +126,13 @@ elif_turn inner b =
     push b.branches x.0 >>= λ bs. give (again (branches_so_far bs x.1)))
     (give (done b))
 
+-- `else` and what it runs, or nothing (XCU 2.9.4.4)
 unfoldable pub an_else : Inner → Next → Form (Otherwise × Next)
 an_else inner n = pick (is_closing closings.Else n.token)
     (reserved_or_paren (closing_text closings.Else) false Command >>= λ k. a_list inner k.1 >>= λ l.
     give (otherwise l.0, l.1)) (give (no_else, n))
 
+-- a condition and what it runs, each `elif` with its own, `else`, `fi` (XCU 2.9.4.4)
 unfoldable pub an_if : Inner → Next → Form (Closed AForm)
 an_if inner n =
     a_branch inner n >>= λ f.
@@ -192,6 +194,8 @@ for_words inner cs =
 abbrev pub begins_words : Bool → Token → Bool
 begins_words semicolon t = not semicolon && is_closing closings.In t
 
+-- What stands between the name and `do`. Its `;` is that of a `sequential_sep` too: after it no `in` may
+-- stand (XCU 2.9.4.2, 2.10.2).
 unfoldable pub a_for_head : Inner → Next → Form Headed
 a_for_head inner n =
     a_semicolon n >>= λ s.

@@ -40,6 +40,7 @@ abbrev pub step_if : {A : Type 0} → Bool → A → Step A
 step_if true a = again a
 step_if false a = done a
 
+-- what is read of a text from a place on, step by step; each row of the grammar is one
 pub data Form : Type 0 → Type 1 where
   -- this is read, and nothing is passed
   give : {X : Type 0} → X → Form X

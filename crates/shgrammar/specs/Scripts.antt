@@ -55,6 +55,7 @@ nothing_yet = record { entries = []; gap = false }
 abbrev pub Passes : Edition → List ℕ → AScript → Row Spelled → Type 0
 Passes edition B s k = Lines edition B nothing_yet 0 s k
 
+-- what a script is by its bytes: its entries, or those before its first fault, with the fault
 abbrev pub Outcome : Edition → List ℕ → AScript → Type 0
 Outcome edition B s = (k : Row Spelled) × Passes edition B s k
 

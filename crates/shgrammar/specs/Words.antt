@@ -102,6 +102,7 @@ holds_others pieces.Arith = true
 holds_others pieces.Param = true
 holds_others _ = false
 
+-- one piece of a word, or the end of what it stands in
 unfoldable pub a_piece : Inner → Mode → ℕ → WordSoFar → Form (Step WordSoFar)
 a_piece inner mode b h = see (the_piece mode h.nested) >>= piece_row inner mode b h
 

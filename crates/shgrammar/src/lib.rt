@@ -3,7 +3,7 @@
 //! Start with `specs/`: `Words`, `Commands`, `Lists`, `Compounds`, `Substitutions` and `Lines` are the
 //! grammar's rows, and `Form` says what a row means. `proofs/` has what holds of every text by these
 //! definitions alone. The types here are those that rows are told by: [`Token`], [`Mode`] and their kin,
-//! [`Fault`], and [`Keep`]. No reader stands here: that is the crate `shread`.
+//! [`Fault`], and [`Keep`]. No reader stands here: `shline` reads lines, `shpass` and `shread` read scripts.
 #![tactic(auto)]
 
 mod byte_kinds;

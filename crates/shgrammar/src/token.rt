@@ -131,7 +131,7 @@ impl Token {
         }
     }
 
-    /// Whether this token is that.
+    /// Whether this token parts or closes a compound command so.
     pub fn is_closing(self, closing: Closing) -> bool
         ensures value { result ≡ is_closing closing self }
         ensures some { result ≡ true → is_end self ≡ false }

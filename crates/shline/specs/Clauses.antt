@@ -251,7 +251,7 @@ abbrev pub TokenToToken : {S X Y : Type 0} {k : ℕ} {g : _} → Cursor S k g �
     Cursor S k g → Type 0
 TokenToToken old form result view new = Goes old form (at_token old) result view (at_token new) new
 
--- The same of a form that cannot stop,
+-- The same of a form that cannot stop.
 abbrev pub Finds : {S X : Type 0} {k : ℕ} {g : _} → Cursor S k g → Form X → X → Cursor S k g → Type 0
 Finds old form x new = Leads old form (at_token old) x (at_token new) new
 

@@ -2,8 +2,8 @@
 //!
 //! Start with [`line_at`], which what reads scripts (the crates `shread` and `shpass`) calls for each
 //! top-level line. `Cursor` is a place in a text; what reads a row of the grammar is a method of it, named as
-//! the row is and in a file of its own. What is read is told by the definitions of the crate `shgrammar`;
-//! `specs/Clauses` says in their words what a function here answers.
+//! the row is, and the rows of one construct stand in one file. What is read is told by the definitions of
+//! the crate `shgrammar`; `specs/Clauses` says in their words what a function here answers.
 #![tactic(auto)]
 
 mod and_or;

@@ -8,7 +8,7 @@ use crate::incoming::{Incoming, InputEnd};
 use shtext::Input;
 use std::io::Read;
 
-/// The most bytes that the line of a request has.
+/// The most bytes that the line of a request has, or that of a part of a batch.
 const LINE_LIMIT: usize = 64;
 
 /// A line, which is kept in a fixed array as far as that has room.

@@ -129,8 +129,8 @@ print_bang (Some mark) = one (codes "! ")
 
 -- ---- conditions
 
--- A condition stands on the line of its `if` where it is one command, with no comment
--- and not in the background.
+-- A condition stands on the line of its reserved word (`if`, `elif`, `while`, `until`) where it is one
+-- command, with no comment and not in the background.
 abbrev pub is_one_line : Shape EntriesOf → Bool
 is_one_line (more_entries (entry (command a) false blank None) no_entry) = true
 is_one_line _ = false
@@ -147,10 +147,12 @@ print_function_gap y margin [] body = if y.func_next_line && is_brace body then 
     else one (codes " ")
 print_function_gap y margin (c ∷ cs) body = print_comments margin (c ∷ cs) ++ (line_end ∷ text margin ∷ [])
 
+-- the words of a `for`, up to its `do`, with it
 abbrev pub print_for_words : Layout → Text → Shape ForWordsOf → Marks
 print_for_words y margin no_in = one (codes " do")
 print_for_words y margin (in_words items) = text (codes " in") ∷ print_items y margin items ++ one (codes "; do")
 
+-- the patterns of an item after the first
 abbrev pub print_patterns : Shape PatternsOf → Marks
 print_patterns no_pattern = []
 print_patterns (more_patterns w ws) = text (codes " | ") ∷ print_word w ++ print_patterns ws

@@ -145,7 +145,7 @@ impl<'a, S: Source> Printer<'a, S> {
         }
     }
 
-    /// The words of a `for`, up to its `do`.
+    /// The words of a `for`, with the `;` and the `do` after them.
     fn print_for_words(&self, words: &[Item], page: &mut Page) -> Result<(), AllocError>
         ensures { OnOk result (LaysOut S.bytes self.now page.old page.new
             print_for_words shape_of_for_words (in_words (items_of (map view_item words.now)))) }

@@ -103,6 +103,7 @@ impl Reader {
             (view_line at line)) }
         ensures no_further { IfOk result (λ line. line.ended ≡ true →
             NoFurther (edition_of self.old) (drop at (S.bytes source.now)) (view_line at line)) }
+        // It stands in the text, and leads on where a newline ended it; else it is the last.
         ensures next { IfOk result
             (λ line. (at ≤ line.next) × (line.next ≤ length (S.bytes source.now))) }
         ensures onward { IfOk result (λ line. line.ended ≡ true → at < line.next) }
@@ -118,9 +119,11 @@ impl Reader {
         // Its fault lies within it.
         ensures fault { IfOk result (λ line. FaultWithin (line.next - at) (view_kind line.kind)) }
         ensures edition { edition_of self.new ≡ edition_of self.old }
+        // The meter counts its bytes, and none where memory ran out.
         ensures meter { IfOk result
             (λ line. meter_of self.new ≡ raised (meter_of self.old) (line.next - at)) }
         ensures err { IfErr result (λ e. meter_of self.new ≡ meter_of self.old) }
+        // At the end of the text no memory is wanted.
         ensures end { at ≡ length (S.bytes source.now) → IsOk result }
     {
         let line = line_from(self.alloc, self.edition, source, at)?;

@@ -17,7 +17,7 @@ pub record IsRun (bytes : List ℕ) (at : ℕ) (front : List ℕ) : Type 0 where
   -- at or past the end it has none
   pub none : length bytes ≤ at → length front ≡ 0
 
--- a newline, which ends a line
+-- a newline (10), which ends a line
 abbrev pub is_newline : ℕ → Bool
 is_newline b = b == 10
 

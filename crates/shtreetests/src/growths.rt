@@ -1,7 +1,7 @@
 //! Growths of memory that are refused on request. `tests/refused-growths` runs tests under a library that
 //! refuses the growth they ask it to refuse; without it, as in the gate, no growth is refused and each test
-//! runs once. They catch the wrong body that no contract can: `always_out_of_memory`, which gives up though
-//! memory is there, from the start or once a growth was refused.
+//! runs once. They catch the wrong body that no contract can: one that gives up though memory is there,
+//! from the start or once a growth was refused.
 use std::alloc::Global;
 
 /// Growths of calls, of which one is refused each time: the first of the first call,
