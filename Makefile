@@ -16,13 +16,18 @@ SCRIPTS = tests/run tests/examples tests/session tests/soak tests/lsp tests/term
 	tests/leaks tests/stack tests/second-reader tests/launcher tests/install tests/completions \
 	tests/git-hook tests/pre-commit tests/columns tests/names tests/imports
 
+# How many checks the gate runs side by side: one a processor, and one for 5 GB of free memory. Of itself rt
+# reserves more for a check than it takes, and leaves processors idle.
+LANES = $(shell awk -v most="$$(getconf _NPROCESSORS_ONLN)" '$$1 == "MemAvailable:" \
+	{ lanes = int($$2 / 5000000); print lanes < 1 ? 1 : (lanes < most ? lanes : most) }' /proc/meminfo)
+
 .PHONY: all test scripts bench install
 
 all:
 	@./shform --version
 
 test:
-	rt ci
+	RT_JOBS=$(LANES) rt ci
 	$(MAKE) scripts
 
 scripts: $(PROGRAM) $(TESTS)
