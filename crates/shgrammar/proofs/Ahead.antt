@@ -112,6 +112,7 @@ abbrev pub all_go : List ℕ → Bool
 all_go [] = true
 all_go (x ∷ xs) = goes_on x && (not (ends (Some x)) && all_go xs)
 
+-- the same of each of these words
 abbrev all_words : Row Spelling → Bool
 all_words [] = true
 all_words (w ∷ ws) = all_go w.0 && all_words ws
@@ -210,6 +211,7 @@ module _ {edition : Edition} {T T2 : List ℕ} {a L : ℕ} {to : ℕ → ℕ} {c
     pub same_after : past_byte T2 (to p) ≡ to (past_byte T p)
     same_after = here_after E.kept (seen s)
 
+    -- so that byte is this one, and passes a test, in both texts or in none
     pub same_stands : (x : ℕ) → stands T2 (to p) x ≡ stands T p x
     unfolding stands
     same_stands x = ap (λ b. is_byte b x) same_byte
@@ -218,6 +220,7 @@ module _ {edition : Edition} {T T2 : List ℕ} {a L : ℕ} {to : ℕ → ℕ} {c
     unfolding stands_in
     same_stands_in test = ap (passes test) same_byte
 
+    -- continuations end at the same place
     pub same_place : past_continuations T2 (to p) ≡ to (past_continuations T p)
     same_place = (seen s).there
 
@@ -240,6 +243,7 @@ module _ {edition : Edition} {T T2 : List ℕ} {a L : ℕ} {to : ℕ → ℕ} {c
       absurd (both_ways (raw_stands T p backslash) (on_no_backslash T p on) (continued T p c).0)
 
   module _ (test : ℕ → Bool) (g : Goes c test) where
+    -- a byte that passes is not the one at the limit, and what is looked for goes on over it
     not_there : (p : ℕ) → raw_in test T p ≡ true → p ≡ L → ⊥
     unfolding raw_in
     not_there p e is = both_ways (test c) g.not_limit (sym (ap (passes test) (ap (slice_get T) is ∙ E.byte)) ∙ e)
@@ -248,6 +252,7 @@ module _ {edition : Edition} {T T2 : List ℕ} {a L : ℕ} {to : ℕ → ℕ} {c
     unfolding raw_in
     raw_on p e = passes_goes g (slice_get T p) e
 
+    -- a test of the byte that is read is one of the byte after continuations
     read_raw : (p : ℕ) → stands_in test T p ≡ true → raw_in test T (past_continuations T p) ≡ true
     unfolding stands_in raw_in
     read_raw p e = e
@@ -258,6 +263,7 @@ module _ {edition : Edition} {T T2 : List ℕ} {a L : ℕ} {to : ℕ → ℕ} {c
         let r = read_raw p e in
         subst (Safe T a L) (sym (past_byte_is T p)) (raw_safe (place_safe s) (raw_on _ r) (not_there _ r))
 
+    -- over a stretch it is safe too, and it ends at one place in both; fewer than n bytes are left there
     past_below : (n p : ℕ) → length T - p < n → Safe T a L p → Safe T a L (past test T p)
         × (past test T2 (to p) ≡ to (past test T p))
     past_below zero p few s = absurd (omega arith)
@@ -278,10 +284,12 @@ module _ {edition : Edition} {T T2 : List ℕ} {a L : ℕ} {to : ℕ → ℕ} {c
     pub past_safe : {p : ℕ} → Safe T a L p → Safe T a L (past test T p) × (past test T2 (to p) ≡ to (past test T p))
     past_safe {p = p} s = past_below (suc (length T - p)) p (omega arith) s
 
+    -- the byte that is read is no backslash where it passes
     raw_clear : (p : ℕ) → stands_in test T p ≡ true → raw_stands T (past_continuations T p) backslash ≡ false
     unfolding stands_in raw_stands
     raw_clear p e = on_no_backslash_by (byte_at T p) (passes_goes g (byte_at T p) e)
 
+    -- it is as safe before a stretch as after it, where fewer than n bytes are left
     back_below : (n p : ℕ) → length T - p < n → a ≤ p → Safe T a L (past test T p) → Safe T a L p
     back_below zero p few low s = absurd (omega arith)
     back_below (suc n) p few low s =
@@ -312,10 +320,12 @@ module _ {edition : Edition} {T T2 : List ℕ} {a L : ℕ} {to : ℕ → ℕ} {c
   blanks_back p low s = past_back is_blank (goes_blank c E.ender) p low
       (safe_place K (past is_blank T p) (omega (arith, low, past_low is_blank T p)) s)
 
+  -- a byte up to the limit passes the same tests in both texts
   pub same_raw_in : (test : ℕ → Bool) (p : ℕ) → a ≤ p → p ≤ L → raw_in test T2 (to p) ≡ raw_in test T p
   unfolding raw_in
   same_raw_in test p low high = ap (passes test) (E.kept.same p low (omega (arith, high)))
 
+  -- blanks as they stand, without continuations between them, end at one place as well
   raw_blanks_below : (n p : ℕ) → L - p < n → Safe T a L p → Safe T a L (raw_past is_blank T p)
       × (raw_past is_blank T2 (to p) ≡ to (raw_past is_blank T p))
   raw_blanks_below zero p few s = absurd (omega arith)
@@ -336,6 +346,7 @@ module _ {edition : Edition} {T T2 : List ℕ} {a L : ℕ} {to : ℕ → ℕ} {c
       (subst (Safe T a L) (sym none) s, raw_none is_blank T2 (to p) (same ∙ e) ∙ ap to (sym none)))
       (cases_Bool (raw_in is_blank T p))
 
+  -- a continuation stands there in both texts, or in none
   same_continues : {p : ℕ} → Safe T a L p → continues T2 (to p) ≡ continues T p
   same_continues at_limit = no_backslash T2 (to L) limit_clear_there ∙ sym (no_backslash T L limit_clear)
   same_continues (halts {p = p} low lt none stop) = at_limit_same p low lt none ∙ sym none
@@ -355,10 +366,12 @@ module _ {edition : Edition} {T T2 : List ℕ} {a L : ℕ} {to : ℕ → ℕ} {c
 
   -- A word of the grammar stands in both texts or in none, where it is safe.
 
+  -- a byte that is read passes the test for itself
   stands_is : (p x : ℕ) → stands T p x ≡ true → stands_in (λ b. b == x) T p ≡ true
   unfolding stands stands_in
   stands_is p x f = stands_passes (byte_at T p) x f
 
+  -- one word, the first of a row of words, and a reserved word
   pub same_word : (word : List ℕ) (p : ℕ) → all_go word ≡ true → Safe T a L p →
       is_word_at T2 (to p) word ≡ is_word_at T p word
   same_word [] p e s = spelled_none T2 (to p) ∙ ap ends (same_byte s) ∙ sym (spelled_none T p)
@@ -386,6 +399,7 @@ module _ {edition : Edition} {T T2 : List ℕ} {a L : ℕ} {to : ℕ → ℕ} {c
 
   -- Where it is safe, both texts have the same token, in each position of a command.
 
+  -- an assignment, a NAME, a number, and a word by the position in which it stands
   pub same_assignment : {p : ℕ} → Safe T a L p → begins_assignment T2 (to p) ≡ begins_assignment T p
   unfolding begins_assignment
   same_assignment s =
@@ -409,6 +423,7 @@ module _ {edition : Edition} {T T2 : List ℕ} {a L : ℕ} {to : ℕ → ℕ} {c
   same_in_position Prefix s = rw (same_assignment s) refl
   same_in_position Suffix s = refl
 
+  -- the operator of a redirection, after its first byte
   same_less : {q : ℕ} → Safe T a L q → less_at T2 (to q) ≡ less_at T q
   unfolding less_at
   same_less {q = q} s =
@@ -423,6 +438,7 @@ module _ {edition : Edition} {T T2 : List ℕ} {a L : ℕ} {to : ℕ → ℕ} {c
   unfolding greater_at
   same_greater s = rw (same_stands s greater_than_sign, same_stands s ampersand, same_stands s vertical_line) refl
 
+  -- a token by its first byte, the token at a place, and the next one after blanks
   token_by : (position : Position) {p : ℕ} (x : Option ℕ) → Safe T a L p → byte_at T p ≡ x →
       token_of position T2 (to p) x ≡ token_of position T p x
   unfolding stands_in

@@ -49,6 +49,7 @@ module _ (g : Given) where
 
 -- ---- one outcome and another, made into more
 
+-- one of two by a test, another fault where the text ends, a change, and what is read in a level
 when_like : {X Y : Type 0} (S : X → Y → Type 0) (test : Bool) (x u : Read X) (y v : Read Y) → Like S x y → Like S u v
     → Like S (cond test x u) (cond test y v)
 when_like S true x u y v one two = one
@@ -75,6 +76,7 @@ level_like S R s (Err e) (Ok (y, t)) like so = absurd like
 level_like S R s (Err e) (Err e') like so = like
 
 module _ (g : Given) where
+  -- what is read with its span, and with its bytes
   token_like : {X Y : Type 0} (S : X → Y → Type 0) (R : X × Span → Y × Span → Type 0) (s : State) (x : Read X)
       (y : Read Y) → Like S x y → ((a : X) (b : Y) (z : Span) → S a b → R (a, z) (b, z))
       → Like R (x ▸ λ a t. Ok ((a, span g.offset s.at t.at), t)) (y ▸ λ b t. Ok ((b, span g.offset s.at t.at), t))
@@ -186,6 +188,7 @@ module _ {g : Given} where
 
   module _ {A B : Type 0} (S : A → B → Type 0) (turn : A → Form (Step A)) (turn2 : B → Form (Step B))
       (each : (a : A) (b : B) → S a b → Alike g (SameStep S) (turn a) (turn2 b)) where
+    -- a turn with its tree, and one without
     one : A → State → Read (Step A)
     one a s = does (turn a) Whole g s
 
@@ -214,6 +217,7 @@ module _ {g : Given} where
     turn_like a b s (Err e) (Ok (y, t)) is is' like rest = absurd like
     turn_like a b s (Err e) (Err f) is is' like rest = rw (turns_fault g one a s e is, turns_fault g two b s f is') like
 
+    -- by how many bytes are left
     loop_like : (n : ℕ) (a : A) (b : B) (s : State) → length g.text - s.at < n → S a b →
         Like S (turns g one a s) (turns g two b s)
     unfolding one two

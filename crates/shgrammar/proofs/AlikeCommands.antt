@@ -46,6 +46,7 @@ SameTarget x y = SamePlace x.0 y.0 × (x.1 ≡ y.1)
 abbrev pub SameJoin : JoinSoFar → JoinSoFar → Type 0
 SameJoin j k = (j.join.broken ≡ k.join.broken) × (j.next ≡ k.next)
 
+-- the same token after the commands so far, and after the pipelines so far
 abbrev pub SamePipes : PipesSoFar → PipesSoFar → Type 0
 SamePipes p q = p.next ≡ q.next
 
@@ -56,10 +57,12 @@ SameAndOrs a b = a.next ≡ b.next
 abbrev pub SameEntered : Entered → Entered → Type 0
 SameEntered e f = (e.parted ≡ f.parted) × (e.next ≡ f.next)
 
+-- by the same test both turns go on, or both end
 join_step : (p : Bool) (j k : JoinSoFar) → SameJoin j k → SameStep SameJoin (step_if p j) (step_if p k)
 join_step true j k same = same
 join_step false j k same = same
 
+-- the same after a newline, or none
 join_steps : (l m : Bool × Next) → l ≡ m → (broken pale : Bool) → broken ≡ pale → (cs ds : Row Span)
     → SameStep SameJoin (step_if l.0 (join_so_far (a_join_of (broken || l.0) cs) l.1))
     (step_if m.0 (join_so_far (a_join_of (pale || m.0) ds) m.1))
@@ -76,6 +79,7 @@ both_broken broken pale n m one two = rw (one, two) refl
 -- ---- single quotes, backquotes and dollar-single quotes
 
 module _ {g : Given} where
+  -- with a tree and without the reading stands at the same place after them, or stops with the same fault
   alike_single : Alike g All single single
   unfolding single
   alike_single = alike_see (λ b. alike_on (alike_on (alike_when alike_stop (alike_move tt))))
@@ -114,6 +118,7 @@ module _ {g : Given} where
   pub alike_place : {how : Telling} {m : Move} → Alike g (λ x y. x ≡ y) (token how (move m)) (token how (move m))
   alike_place = alike_token {R = λ x y. x ≡ y} (alike_move {S = All} tt) (λ a b z so. refl)
 
+  -- the same token comes next, also after the same comment
   pub alike_next : (position : Position) → Alike g (λ n m. n ≡ m) (next_token position) (next_token position)
   unfolding next_token
   alike_next position = alike_see (λ n. alike_on (alike_give refl))
@@ -127,12 +132,14 @@ module _ {g : Given} where
   unfolding a_comment
   alike_comment n m same = rw (← same) (alike_see (λ c. alike_comment_by n c))
 
+  -- a newline or none, and the same token after it
   pub alike_newline : (n : Next) → Alike g (λ x y. x ≡ y) (a_newline n) (a_newline n)
   unfolding a_newline
   alike_newline n = alike_pick (is_newline_token n.token) _ refl
       (alike_on (alike_then {S = All} (alike_change tt)
       (λ u v so. alike_then (alike_next _) (λ m k same. alike_give (ap (λ z. (true, z)) same))))) (alike_give refl)
 
+  -- a here-document that waits stops both
   alike_none_waits : (w : Option ℕ) → Alike g All (none_waits w) (none_waits w)
   alike_none_waits (Some b) = alike_stop
   alike_none_waits None = alike_give tt
@@ -141,6 +148,7 @@ module _ {g : Given} where
   unfolding nothing_waits
   alike_nothing_waits = alike_see (λ w. alike_none_waits w)
 
+  -- a `;` or none, a separator or none, and the same token after it
   pub alike_semicolon : (n : Next) → Alike g (λ x y. x ≡ y) (a_semicolon n) (a_semicolon n)
   unfolding a_semicolon
   alike_semicolon n = alike_pick (is_semicolon n.token) _ refl
@@ -158,10 +166,12 @@ module _ {g : Given} where
 
   -- ---- joins and linebreaks
 
+  -- whichever comments are kept
   alike_with : (cs ds : Row Span) (c : Option Span) → Alike g All (with_comment cs c) (with_comment ds c)
   alike_with cs ds (Some c) = alike_push tt
   alike_with cs ds None = alike_give tt
 
+  -- a turn over comments and newlines, a join, and a linebreak, with the same token after each
   alike_join_turn : (j k : JoinSoFar) → SameJoin j k → Alike g (SameStep SameJoin) (join_turn j) (join_turn k)
   unfolding join_turn
   alike_join_turn j k same =
@@ -183,6 +193,7 @@ module _ {g : Given} where
 
   -- ---- the parts of a redirection
 
+  -- its number, and the token after it
   alike_number : (n : Next) → Alike g (λ x y. x ≡ y) (a_number n) (a_number n)
   unfolding a_number
   alike_number n =
@@ -191,6 +202,7 @@ module _ {g : Given} where
       (λ x y so. alike_then (alike_next _) (λ m k same. alike_give (rw (so, same) refl))))
       (alike_give refl)
 
+  -- its operator, and where that stands
   alike_operator : (o : RedirectOperator) → Alike g (λ x y. x.1 ≡ y.1) (an_operator o) (an_operator o)
   unfolding an_operator
   alike_operator o = alike_token {S = All} {R = λ x y. x.1 ≡ y.1}
@@ -201,6 +213,7 @@ module _ {g : Given} where
   alike_operator_by p (Some o) = alike_then (alike_operator o) (λ x y so. alike_give (ap (λ z. (o, z)) so))
   alike_operator_by p None = alike_stop
 
+  -- its here-document or none, by the same bytes of its word
   alike_document_by : (b p : ℕ) (strip : Bool) (d : Option ADelimiter) →
       Alike g (λ x y. x ≡ y) (document_by b p strip d) (document_by b p strip d)
   alike_document_by b p strip (Some d) = alike_then {S = All} (alike_change tt) (λ u v so. alike_give refl)
@@ -259,6 +272,7 @@ module _ {g : Given} {inner : Inner} (fits : Fits g inner) where
   alike_piece_by mode b h i pieces.BadClose same = alike_see (λ q. alike_stop)
   alike_piece_by mode b h i pieces.Ordinary same = alike_on (alike_give same)
 
+  -- the piece that begins here
   alike_piece : (mode : Mode) (b : ℕ) (h i : WordSoFar) → SameHeld h i →
       Alike g (SameStep SameHeld) (a_piece inner mode b h) (a_piece inner mode b i)
   unfolding a_piece
@@ -273,6 +287,7 @@ module _ {g : Given} {inner : Inner} (fits : Fits g inner) where
       (word_so_far 0 ss)
       (word_so_far 0 zs) refl) (λ x y so. alike_give tt)
 
+  -- words that stand at the same place
   pub alike_word : Alike g SamePlace (a_word inner) (a_word inner)
   unfolding a_word
   alike_word = alike_see (λ p. alike_then
@@ -292,6 +307,7 @@ module _ {g : Given} {inner : Inner} (fits : Fits g inner) where
       Alike g S (unexpected inner n) (unexpected inner n)
   alike_unexpected n = alike_then (alike_wrong n) (λ w v so. rw (← so) alike_stop)
 
+  -- a word or an assignment, with the same token after it
   pub alike_item : (i j : ItemsSoFar) (position : Position) →
       Alike g (SameStep SameItems) (an_item inner i position) (an_item inner j position)
   unfolding an_item
@@ -299,12 +315,14 @@ module _ {g : Given} {inner : Inner} (fits : Fits g inner) where
       alike_then alike_word (λ w v so. alike_pushed
       (alike_then (alike_next position) (λ n m same. alike_give (refl, same))))
 
+  -- the word of a redirection, at the same place and of the same bytes
   alike_target : Alike g SameTarget (a_target inner) (a_target inner)
   unfolding a_target
   alike_target = alike_then (alike_next _)
       (λ n m same. rw (← same) (alike_pick (is_word n.token) _ refl
       (alike_with_bytes alike_word (λ a b k so. (so, refl))) (alike_unexpected n)))
 
+  -- a redirection with the same token after it, whatever items were read before it
   alike_redirect : (broken pale : Bool) (position : Position) (is js : Row AnItem) (n : Next)
       → Alike g (SameStep SameItems) (one_redirect inner broken position is n) (one_redirect inner pale position js n)
   unfolding one_redirect
@@ -320,6 +338,7 @@ module _ {g : Given} {inner : Inner} (fits : Fits g inner) where
       → Alike g (SameStep SameItems) (one_redirect inner broken p is n) (one_redirect inner pale q js m)
   alike_redirect_at broken pale p q is js n m one two = rw (← one, ← two) (alike_redirect broken pale p is js n)
 
+  -- an item of either kind, a turn over items, and a simple command
   alike_item_by : (i j : ItemsSoFar) (position : Option Position) → SameItems i j →
       Alike g (SameStep SameItems) (item_by inner i position) (item_by inner j position)
   alike_item_by i j (Some position) same = alike_item i j position
@@ -342,6 +361,7 @@ module _ {g : Given} {inner : Inner} (fits : Fits g inner) where
       (alike_many SameItems (item_turn inner) (item_turn inner) alike_item_turn i j same)
       (λ is js so. alike_give so.1)
 
+  -- the redirections after a compound command
   alike_redirect_turn : (i j : ItemsSoFar) → SameItems i j →
       Alike g (SameStep SameItems) (redirect_turn inner i) (redirect_turn inner j)
   unfolding redirect_turn
@@ -356,11 +376,13 @@ module _ {g : Given} {inner : Inner} (fits : Fits g inner) where
       alike_then (alike_many SameItems (redirect_turn inner) (redirect_turn inner) alike_redirect_turn
       (items_so_far [] Command c.1) (items_so_far [] Command d.1) (refl, same)) (λ i j so. alike_give so.1)
 
+  -- a compound command by its opener, or a fault where there is none
   pub alike_compound_by : (n : Next) (o : Option Opener) →
       Alike g SameNext (compound_by inner n o) (compound_by inner n o)
   alike_compound_by n (Some o) = alike_then (fits.compound o) alike_with_redirect_list
   alike_compound_by n None = alike_unexpected n
 
+  -- a function, the command that begins with a word, and whichever begins here
   alike_named_function : (good : Bool) (w v : AWord) → SamePlace w v →
       Alike g SameNext (named_function inner good (word_span w)) (named_function inner good (word_span v))
   alike_named_function good w v same =
@@ -384,6 +406,7 @@ module _ {g : Given} {inner : Inner} (fits : Fits g inner) where
 
   -- ---- pipelines, and-or lists and entries
 
+  -- `!`, if it stands here
   alike_bang : (n : Next) → Alike g SameNext (a_bang n) (a_bang n)
   unfolding a_bang
   alike_bang n =
@@ -391,6 +414,7 @@ module _ {g : Given} {inner : Inner} (fits : Fits g inner) where
       (alike_then alike_mark (λ x y so. alike_then (alike_next _) (λ m k same. alike_give same)))
       (alike_give refl)
 
+  -- one more command after a `|`, a turn over them, and the pipeline
   alike_one_command : (p q : PipesSoFar) → SamePipes p q →
       Alike g (SameStep SamePipes) (one_command inner p) (one_command inner q)
   unfolding one_command
@@ -414,6 +438,7 @@ module _ {g : Given} {inner : Inner} (fits : Fits g inner) where
       (pipes_so_far [] c.1)
       (pipes_so_far [] e.1) so') (λ p q so''. alike_give so'')))
 
+  -- one more pipeline after `&&` or `||`, a turn over them, and the and-or list
   alike_one_pipeline : (a b : AndOrSoFar) (o : AndOrOperator) → SameAndOrs a b →
       Alike g (SameStep SameAndOrs) (one_pipeline inner a o) (one_pipeline inner b o)
   unfolding one_pipeline
@@ -444,6 +469,7 @@ module _ {g : Given} {inner : Inner} (fits : Fits g inner) where
       (and_or_turn inner) alike_and_or_turn (and_or_so_far [] p.1) (and_or_so_far [] q.1) same)
       (λ a b so. alike_give so))
 
+  -- an entry, whether it is blank or not
   pub alike_entry : (blank pale : Bool) (n : Next) →
       Alike g SameEntered (an_entry inner blank n) (an_entry inner pale n)
   unfolding an_entry

@@ -31,10 +31,12 @@ module _ {g : Given} {inner : Inner} (fits : Fits g inner) where
   abbrev SameList : ListSoFar → ListSoFar → Type 0
   SameList l m = (l.list.commands ≡ m.list.commands) × (l.next ≡ m.next)
 
+  -- a step that goes on by one test in both
   same_step : (p : Bool) (l m : ListSoFar) → SameList l m → SameStep SameList (step_if p l) (step_if p m)
   same_step true l m same = same
   same_step false l m same = same
 
+  -- one more entry, and a comment that stands for itself
   alike_one_entry : (l m : ListSoFar) → SameList l m →
       Alike g (SameStep SameList) (one_entry inner l) (one_entry inner m)
   unfolding one_entry
@@ -60,12 +62,14 @@ module _ {g : Given} {inner : Inner} (fits : Fits g inner) where
   alike_remark l m same = alike_then (alike_comment l.next m.next same.1)
       (λ x y so. rw (← so) (alike_remark_by l m x same.0))
 
+  -- all of one line
   alike_on_line : (l m : ListSoFar) → SameList l m → Alike g SameList (on_line inner l) (on_line inner m)
   unfolding on_line
   alike_on_line l m same = alike_then
       (alike_many SameList (entry_turn inner) (entry_turn inner) alike_entry_turn l m same)
       (λ j k so. alike_remark j k so)
 
+  -- both lists go on where a newline ended the line, or both end
   line_steps : (x y : Bool × Next) → x ≡ y → (l m : Listed) → l.commands ≡ m.commands →
       SameStep SameList (step_if x.0 (list_so_far (next_line l) x.1)) (step_if y.0 (list_so_far (next_line m) y.1))
   line_steps x y is l m same =
@@ -73,6 +77,7 @@ module _ {g : Given} {inner : Inner} (fits : Fits g inner) where
       (step_if z.0 (list_so_far (next_line m) z.1))) is
       (same_step x.0 (list_so_far (next_line l) x.1) (list_so_far (next_line m) x.1) (same, refl))
 
+  -- one more line, and a whole list
   alike_list_turn : (l m : ListSoFar) → SameList l m →
       Alike g (SameStep SameList) (list_turn inner l) (list_turn inner m)
   unfolding list_turn
@@ -93,6 +98,7 @@ module _ {g : Given} {inner : Inner} (fits : Fits g inner) where
 
   -- Each row hands on the same token, with its tree and without.
 
+  -- a reserved word or a round bracket, and what has to stand here
   alike_reserved_or_paren : (text : Spelled) (paren : Bool) (position : Position) →
       Alike g (λ x y. x ≡ y) (reserved_or_paren text paren position) (reserved_or_paren text paren position)
   unfolding reserved_or_paren
@@ -124,6 +130,7 @@ module _ {g : Given} {inner : Inner} (fits : Fits g inner) where
       (λ t u so. alike_then (alike_at (a_list inner) alike_list t.1 u.1 (ap (λ (z : Span × Next). z.1) so))
       (λ b e so'. alike_give so')))
 
+  -- the branches after an `elif` so far
   abbrev SameBranches : BranchesSoFar → BranchesSoFar → Type 0
   SameBranches b c = b.next ≡ c.next
 
@@ -137,6 +144,7 @@ module _ {g : Given} {inner : Inner} (fits : Fits g inner) where
       (λ x y so'. alike_pushed (alike_give so'))))
       (alike_give same)
 
+  -- what stands after `else`, and a whole `if`
   alike_else : (n : Next) → Alike g SameNext (an_else inner n) (an_else inner n)
   unfolding an_else
   alike_else n =
@@ -155,6 +163,7 @@ module _ {g : Given} {inner : Inner} (fits : Fits g inner) where
       (λ b c so. alike_then (alike_at (an_else inner) alike_else b.next c.next so)
       (λ e d so'. alike_closed _ _ closings.Fi e.1 d.1 so')))
 
+  -- a loop, and a list with what closes it
   alike_loop : (n : Next) → Alike g SameClosed (a_loop inner n) (a_loop inner n)
   unfolding a_loop
   alike_loop n =
@@ -167,6 +176,7 @@ module _ {g : Given} {inner : Inner} (fits : Fits g inner) where
   unfolding a_group
   alike_group c n = alike_then (alike_list n) (λ l m same. alike_closed _ _ c l.1 m.1 same)
 
+  -- the name of a `for`
   alike_for_name : (n : Next) → Alike g SameNext (a_for_name inner n) (a_for_name inner n)
   unfolding a_for_name
   alike_for_name n =
@@ -175,6 +185,7 @@ module _ {g : Given} {inner : Inner} (fits : Fits g inner) where
       (λ w v so. alike_pick good _ refl (alike_then (alike_next _) (λ m k same. alike_give same)) alike_stop))))
       (alike_unexpected fits n)
 
+  -- a `;` or a newline, with newlines and comments
   alike_sequential_sep : (cs ds : Row Span) (n m : Next) → n ≡ m →
       Alike g SameJoin (a_sequential_sep inner cs n) (a_sequential_sep inner ds m)
   unfolding a_sequential_sep
@@ -184,6 +195,7 @@ module _ {g : Given} {inner : Inner} (fits : Fits g inner) where
       (λ l k is. alike_pick _ _ (ap (λ b. s.0 || b) is.0) (alike_give is)
       (alike_at (unexpected inner) (alike_unexpected fits) l.next k.next is.1))))
 
+  -- what stands between the name of a `for` and its `do`, and a whole `for`
   abbrev SameHead : Headed → Headed → Type 0
   SameHead h k = h.next ≡ k.next
 
@@ -216,12 +228,14 @@ module _ {g : Given} {inner : Inner} (fits : Fits g inner) where
       (λ d e so'. alike_then (alike_at (a_group inner closings.Done) (alike_group closings.Done) d.1 e.1
       (ap (λ (z : Span × Next). z.1) so')) (λ b c so''. alike_give so''))))
 
+  -- the word of a `case`
   alike_case_word : (n : Next) → Alike g SameNext (a_case_word inner n) (a_case_word inner n)
   unfolding a_case_word
   alike_case_word n = alike_pick (begins_word n.token) _ refl
       (alike_then (alike_word fits) (λ w v so. alike_then (alike_next _) (λ m k same. alike_give same)))
       (alike_unexpected fits n)
 
+  -- the patterns of an item so far, and all of them
   abbrev SamePatterns : PatternsSoFar → PatternsSoFar → Type 0
   SamePatterns p q = p.next ≡ q.next
 
@@ -253,6 +267,7 @@ module _ {g : Given} {inner : Inner} (fits : Fits g inner) where
       (λ p q so. alike_many SamePatterns (pattern_turn inner) (pattern_turn inner) alike_pattern_turn p q so))
       (alike_unexpected fits n)
 
+  -- the `(` before the patterns, and the list of an item
   alike_bracket : (n : Next) → Alike g (λ m k. m ≡ k) (an_open_bracket n) (an_open_bracket n)
   unfolding an_open_bracket
   alike_bracket n = alike_pick (is_paren n.token) _ refl (alike_on (alike_next _)) (alike_give refl)
@@ -262,6 +277,7 @@ module _ {g : Given} {inner : Inner} (fits : Fits g inner) where
   alike_body n = alike_many SameList (list_turn inner) (list_turn inner) alike_list_turn
       (list_so_far (none_listed false) n) (list_so_far (none_listed false) n) (refl, refl)
 
+  -- the end of an item, by `;;` or `;&` or before `esac`
   abbrev SameItemEnd : ItemEnd → ItemEnd → Type 0
   SameItemEnd e f = e.next ≡ f.next
 
@@ -278,6 +294,7 @@ module _ {g : Given} {inner : Inner} (fits : Fits g inner) where
       rw (← same) (alike_pick (ends_item n.token) _ refl (alike_ender (falls_through n.token))
       (alike_pick (is_closing closings.Esac n.token) _ refl (alike_give refl) (alike_unexpected fits n)))
 
+  -- one more item of a `case`
   abbrev SameCases : CasesSoFar → CasesSoFar → Type 0
   SameCases c d = c.next ≡ d.next
 
@@ -299,6 +316,7 @@ module _ {g : Given} {inner : Inner} (fits : Fits g inner) where
   alike_case_turn c d same = alike_pick _ _ (ap (λ (n : Next). is_closing closings.Esac n.token) same)
       (alike_give same) (alike_one_case c d same)
 
+  -- what stands between `case` and its items, and a whole `case`
   abbrev SameCaseHead : AWord × Row Span × Next → AWord × Row Span × Next → Type 0
   SameCaseHead h k = h.2 ≡ k.2
 
@@ -318,6 +336,7 @@ module _ {g : Given} {inner : Inner} (fits : Fits g inner) where
       (cases_so_far [] h.1 h.2) (cases_so_far [] k.1 k.2) same)
       (λ c d so. alike_closed _ _ closings.Esac c.next d.next so))
 
+  -- a compound command by its opener: after it, and from it on
   alike_form : (o : Opener) (n : Next) → Alike g SameClosed (a_form inner o n) (a_form inner o n)
   alike_form openers.Brace n = alike_then (alike_group closings.Brace n) (λ l m same. alike_give same)
   alike_form openers.Paren n = alike_then (alike_group closings.Paren n) (λ l m same. alike_give same)
@@ -336,6 +355,7 @@ module _ {g : Given} {inner : Inner} (fits : Fits g inner) where
 
   -- ---- substitutions
 
+  -- what stands in a command substitution, and one more substitution after others
   alike_substitution_list : Alike g All (substitution_list inner) (substitution_list inner)
   unfolding substitution_list
   alike_substitution_list =
@@ -353,6 +373,7 @@ module _ {g : Given} {inner : Inner} (fits : Fits g inner) where
       (alike_then (alike_level_of {S = All} {R = All} (alike_ending alike_substitution_list) (λ a b k so. tt))
       (λ x y so. alike_see (λ q. alike_push tt)))
 
+  -- a function, from just after its name on
   pub alike_function : (name : Span) → Alike g SameNext (a_function inner name) (a_function inner name)
   unfolding a_function
   alike_function name =
@@ -365,6 +386,7 @@ module _ {g : Given} {inner : Inner} (fits : Fits g inner) where
 
   -- ---- lines
 
+  -- a newline ends both lines, or none does
   alike_end : (n : Next) → Alike g (λ x y. x ≡ y) (end_of_line inner n) (end_of_line inner n)
   unfolding end_of_line
   alike_end n = alike_pick (is_newline_token n.token) _ refl
@@ -372,6 +394,7 @@ module _ {g : Given} {inner : Inner} (fits : Fits g inner) where
       (alike_pick (is_end n.token) _ refl (alike_then alike_nothing_waits (λ u v so. alike_give refl))
       (alike_unexpected fits n))
 
+  -- a line of a script, whether its first entry is told to be blank or not
   alike_open_line : (blank pale : Bool) → Alike g SameEnd (an_open_line inner blank) (an_open_line inner pale)
   unfolding an_open_line
   alike_open_line blank pale =

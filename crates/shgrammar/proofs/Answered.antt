@@ -5,6 +5,7 @@ use Rattle.shgrammar.specs.Scripts.{AScript, Outcome, FirstFault, script_at, lin
 use Rattle.shgrammar.proofs.Scripts.{line_is, line_only, script_is, script_only}
 use Rattle.shgrammar.specs.declared.edition.Edition.{Edition}
 
+-- what is computed for a text is the line with which it begins, and no other is
 pub line_answered : (edition : Edition) → (T : List ℕ) (l : ALine) → l ≡ line_of_text edition T → IsLine edition T l
 line_answered edition T l is = subst (IsLine edition T) (sym is) (line_is edition T)
 
@@ -12,6 +13,7 @@ pub line_alone : (edition : Edition) → (T : List ℕ) (l : ALine) → l ≡ li
     IsLine edition T a → a ≡ l
 line_alone edition T l is a other = line_only edition T a other ∙ sym is
 
+-- what is computed for a script is its outcome, and no other is
 pub script_answered : (edition : Edition) → (B : List ℕ) (s : AScript) → s ≡ script_at edition B → Outcome edition B s
 script_answered edition B s is = subst (Outcome edition B) (sym is) (script_is edition B)
 
@@ -19,6 +21,7 @@ pub script_alone : (edition : Edition) → (B : List ℕ) (s : AScript) → s �
     Outcome edition B a → a ≡ s
 script_alone edition B s is a other = script_only edition B a other ∙ sym is
 
+-- what is computed as its first fault, or none, is that of its outcome
 pub fault_answered : (edition : Edition) → (B : List ℕ) (f : _) → f ≡ first_fault_from edition B 0 →
     FirstFault edition B f
 unfolding first_fault_from script_at

@@ -28,6 +28,7 @@ use Rattle.shgrammar.proofs.OneOutcome.{computed_is_only}
 use Rattle.shgrammar.proofs.SameLine.{same_front}
 use Rattle.shgrammar.specs.declared.edition.Edition.{Edition}
 
+-- what just gives passes no token, and a token that is told as it stands is told by its bytes
 just_is : {X : Type 0} {x : X} {t : State} (y : Read X) (k : Row Spelled) → Just x t y k → (y ≡ Ok (x, t)) × (k ≡ [])
 just_is y k just = (refl, refl)
 
@@ -38,6 +39,7 @@ token_is {X = X} {g = g} {s = s} y k (whole {x = a} {t = u} part) x t is =
     ap (λ (z : (X × Span) × State). raw g.text s.at z.1.at ∷ []) same
 token_is y k (broken_off part) x t is = absurd cc
 
+-- what holds of the tokens of one form with those of the next holds of those of both
 then_is : {X Y : Type 0} {r : Comes X} {q : X → Comes Y} {s : State} (P : Row Spelled → Type 0) (c : Y) (u : State)
     (y : Read Y) (k : Row Spelled) → Then r q s y k → y ≡ Ok (c, u)
     → ((x : X) (t : State) (m l : Row Spelled) → r s (Ok (x, t)) m → q x t (Ok (c, u)) l → P (m ++ l)) → P k
@@ -86,9 +88,11 @@ same_front_of : (A B : List ℕ) (p q n r : ℕ) → take n (drop q B) ≡ take 
     slice_get B (q + r) ≡ slice_get A (p + r)
 same_front_of A B p q n r same lt = sym (get_drop q B r) ∙ same_front n (drop p A) (drop q B) same r lt ∙ get_drop p A r
 
+-- the place in the second text for r in the first
 abbrev pub from_to : ℕ → ℕ → ℕ → ℕ
 from_to p q r = q + (r - p)
 
+-- where they have the same n bytes from there on, the second keeps those of the first
 pub kept : (edition : Edition) (T U : List ℕ) (p q n : ℕ) → take n (drop q U) ≡ take n (drop p T) →
     Kept edition T U p (p + n) (from_to p q)
 kept edition T U p q n same = record {
@@ -103,6 +107,7 @@ abbrev pub padded : ℕ → List ℕ → List ℕ
 padded zero T = T
 padded (suc o) T = 0 ∷ padded o T
 
+-- from that offset on they are the text
 pub padded_is : (o : ℕ) (T : List ℕ) → T ≡ drop o (padded o T)
 padded_is zero T = refl
 padded_is (suc o) T = padded_is o T
@@ -114,6 +119,7 @@ module _ (room : ℕ) (g h : Given) (p q n : ℕ) (same : take n (drop q h.text)
   abbrev k : Given
   k = given g.edition h.text h.offset
 
+  -- the n bytes from p on stand in it from q on
   K : Kept g.edition g.text h.text p (p + n) (from_to p q)
   K = kept g.edition g.text h.text p q n same
 
@@ -123,6 +129,7 @@ module _ (room : ℕ) (g h : Given) (p q n : ℕ) (same : take n (drop q h.text)
   end_there : from_to p q (p + n) ≡ q + n
   end_there = omega arith
 
+  -- after them a word ends, and no `(` stands
   here_ends : ends (byte_at h.text (from_to p q (p + n))) ≡ true
   here_ends = subst (λ r. ends (byte_at h.text r) ≡ true) (sym end_there) ender
 
@@ -130,21 +137,26 @@ module _ (room : ℕ) (g h : Given) (p q n : ℕ) (same : take n (drop q h.text)
       is_byte (byte_at h.text (from_to p q (p + n))) 40 ≡ false
   here_no_open e = subst (λ r. is_byte (byte_at h.text r) left_parenthesis ≡ false) (sym end_there) no_open
 
+  -- a state, in the other text
   abbrev over : State → State
   over s = there K g.offset h.offset s
 
+  -- what ends after those bytes is read by r there too, and S holds of the two
   abbrev there_is : {X : Type 0} → (X → X → Type 0) → Form X → X → State → Type 0
   there_is {X = X} S r x t = t.at ≡ p + n → (y : X) × ((does r Whole k (over (standing p)) ≡ Ok (y, over t)) × S x y)
 
+  -- what may be opened, and what stands in the word there
   abbrev inner : Inner
   inner = level room
 
   abbrev holds_there : Form (Row ASubst)
   holds_there = contents inner Plain (h.offset + from_to p q p) []
 
+  -- substitutions of the same shapes
   abbrev SameSubsts : Row ASubst → Row ASubst → Type 0
   SameSubsts ss zs = map (shape_of_subst B) ss ≡ map (shape_of_subst C) zs
 
+  -- what stands in the word is read there, with such substitutions
   contents_by : Holds (there_is SameSubsts holds_there)
       (does (contents inner Plain (g.offset + p) []) Whole g (standing p))
   contents_by =
@@ -160,6 +172,7 @@ module _ (room : ℕ) (g h : Given) (p q n : ℕ) (same : take n (drop q h.text)
       let there : q + n - q ≡ n = omega arith in
       ap (λ m. take m (drop p g.text)) here ∙ sym same ∙ ap (λ m. take m (drop q h.text)) (sym there)
 
+  -- so a span that ends after them has the same text there
   texts_same : (e : ℕ) → e ≡ p + n →
       text_at B (span g.offset p e) ≡ text_at C (span h.offset (from_to p q p) (from_to p q e))
   texts_same e is =
@@ -168,16 +181,19 @@ module _ (room : ℕ) (g h : Given) (p q n : ℕ) (same : take n (drop q h.text)
       ∙ ap (λ r. text_at C (span h.offset r (q + n))) (sym begin_there)
       ∙ ap (λ r. text_at C (span h.offset (from_to p q p) r)) (sym end_there ∙ ap (from_to p q) (sym is))
 
+  -- such substitutions, and spans of the same text; words of the same shape
   abbrev SameToken : Row ASubst × Span → Row ASubst × Span → Type 0
   SameToken x y = SameSubsts x.0 y.0 × (text_at B x.1 ≡ text_at C y.1)
 
   abbrev SameShape : AWord → AWord → Type 0
   SameShape w v = shape_of_word B w ≡ shape_of_word C v
 
+  -- by such substitutions and spans words have the same shape
   words_same : (x y : Row ASubst × Span) → SameToken x y →
       SameShape (word x.1 (substs_of x.0)) (word y.1 (substs_of y.0))
   words_same x y so = rw (so.1, substs_shape B x.0, so.0, sym (substs_shape C y.0)) refl
 
+  -- a word that ends after those bytes is read there, of the same shape
   word_by : Holds (there_is SameShape (a_word inner)) (does (a_word inner) Whole g (standing p))
   unfolding a_word
   word_by =
@@ -232,6 +248,7 @@ same_word room g h p q n w told part same ender no_open B C stands_in stands_the
     (sym ((computed_is_only (a_word (level room)) g (standing p)).only _ _ part)) in
     (v.0, (word_may room (given g.edition h.text h.offset) q n v.0 v.1.0, sym v.1.1))
 
+-- so the bytes of a word are read as one in each text that has them, before such a byte
 pub anywhere : (room : ℕ) (g h : Given) (p q n : ℕ) → ReadsWord room g p n →
     take n (drop q h.text) ≡ take n (drop p g.text) → ends_word h.text (q + n) ≡ true →
     stands h.text (q + n) left_parenthesis ≡ false
@@ -249,9 +266,11 @@ abbrev pub Waits : {X : Type 0} → State → X → State → Type 0
 Waits s x t = Still s t
 
 module _ (g : Given) where
+  -- r leaves them as they are
   abbrev W : {X : Type 0} → Form X → State → Type 0
   W r s = Tells Whole g r (Waits s) s
 
+  -- so do forms that give, see and move, and one form and then another
   same : {X : Type 0} {r : Form X} {s : State} → Holds (Waits s) (does r Whole g s) → W r s
   same so = record { told = so }
 
@@ -270,6 +289,7 @@ module _ (g : Given) where
   goes {q = q} one rest = tells_then Whole g one
       (λ x t so. tells_so Whole g (rest x t) (λ y u more. (more.0 ∙ so.0, more.1 ∙ so.1)))
 
+  -- so do turns, if each does
   turns_still : {A : Type 0} (turn : A → Form (Step A)) → ((a : A) (s : State) → W (turn a) s) → (a : A) (s : State) →
       W (many turn a) s
   turns_still {A = A} turn each a s =
@@ -279,6 +299,7 @@ module _ (g : Given) where
       turned t one (again c) u two = (two.0 ∙ one.0, two.1 ∙ one.1)
       turned t one (done c) u two = (two.0 ∙ one.0, two.1 ∙ one.1)
 
+  -- text in single quotes, in backquotes, and in dollar-single quotes
   single_still : (s : State) → W single s
   unfolding single
   single_still s = sees (moves (moves (tells_when Whole g (same tt) (same (refl, refl)))))
@@ -301,6 +322,7 @@ module _ (g : Given) where
     substitution : (b : ℕ) (ss : Row ASubst) (s : State) → W (inner.substitution b ss) s
 
   module _ (inner : Inner) (quiet : Quiet inner) where
+    -- a construct in a word, and each piece by its kind
     opened_still : (mode : Mode) (b : ℕ) (h : WordSoFar) (s : State) → W (opened inner mode b h) s
     opened_still mode b h s = goes (quiet.construct mode b h.substs s) (λ x t. still)
 
@@ -323,6 +345,7 @@ module _ (g : Given) where
     piece_still mode b h pieces.BadClose s = sees (same tt)
     piece_still mode b h pieces.Ordinary s = moves still
 
+    -- pieces up to the end of their construct, and a word
     contents_still : (mode : Mode) (b : ℕ) (ss : Row ASubst) (s : State) → W (contents inner mode b ss) s
     unfolding contents a_piece
     contents_still mode b ss s = goes (turns_still _ (λ h t. sees (piece_still mode b h _ t)) (word_so_far 0 ss) s)
@@ -338,6 +361,7 @@ module _ (g : Given) where
     substitution_still b ss s = tells_inside Whole g
         (goes (tells_level Whole g (tells_any Whole g) (λ x t so. (refl, refl))) (λ x t. sees (same (refl, refl))))
 
+  -- by how many more may be opened
   quiet_level : (room : ℕ) → Quiet (level room)
   unfolding level
   quiet_level zero = record { construct = λ mode b ss s. same tt; substitution = λ b ss s. same tt }
@@ -347,9 +371,11 @@ module _ (g : Given) where
         substitution = λ b ss s. substitution_still (level room) (quiet_level room) b ss s;
       }
 
+  -- so does a word where so many constructs may be open
   pub waits : (room : ℕ) (s : State) → Tells Whole g (a_word (level room)) (Waits s) s
   waits room s = word_still (level room) (quiet_level room) s
 
+-- where nothing waits and no bodies were read, a state is its place
 pub state_is : (t : State) → t.waiting ≡ [] → t.bodies ≡ [] → t ≡ standing t.at
 state_is t one two = rw (← one, ← two) refl
 

@@ -35,9 +35,11 @@ none_there T p = must_fail _ (λ c. let is = place_same T p in let more = joined
 -- looked for in both; `to` says where
 module _ {edition : Edition} {T U : List ℕ} {a M : ℕ} {to : ℕ → ℕ} {limit : ℕ}
     (E : ListEnds edition T U a M to limit) where
+  -- p is a good place of T
   abbrev G : ℕ → Type 0
   G p = Good T a M p
 
+  -- a good place is at most M and at least a; from a on as many bytes further is as many further in U
   pub high : {p : ℕ} → G p → p ≤ M
   high s = safe_high (K E) s
 
@@ -47,6 +49,7 @@ module _ {edition : Edition} {T U : List ℕ} {a M : ℕ} {to : ℕ → ℕ} {li
   pub on : (p k : ℕ) → a ≤ p → to (p + k) ≡ to p + k
   on p k low = E.kept.on p k low
 
+  -- where no continuation stands, a place before M is good if the search ends there, or if the next is good
   good_halt : (q : ℕ) → a ≤ q → q < M → continues T q ≡ false → raw_in goes_on T q ≡ false → G q
   good_halt q low lt none off = halts low lt none off
 
@@ -56,6 +59,7 @@ module _ {edition : Edition} {T U : List ℕ} {a M : ℕ} {to : ℕ → ℕ} {li
       ⊎_elim (λ on. one_byte low on s) (λ off. good_halt q low (omega (arith, lt)) none off)
       (cases_Bool (raw_in goes_on T q))
 
+  -- a place is good if a later one is, and no continuation begins at the byte before that
   good_over_below : (n p q : ℕ) → q ≤ p + n → a ≤ p → p ≤ q + 1 → continues T q ≡ false → G (q + 1) → G p
   good_over_below zero p q few low le none s =
       ⊎_elim (λ lt. let is : q ≡ p = omega (arith, few, lt) in subst G is (good_back q (omega (arith, low, is)) none s))
@@ -80,9 +84,11 @@ module _ {edition : Edition} {T U : List ℕ} {a M : ℕ} {to : ℕ → ℕ} {li
   abbrev pub Moves2 : (List ℕ → ℕ → ℕ) → (List ℕ → ℕ → ℕ) → ℕ → Type 0
   Moves2 f f2 p = (p ≤ f T p) × (a ≤ p → G (f T p) → G p × (f2 U (to p) ≡ to (f T p)))
 
+  -- the same function for both
   abbrev pub Moves : (List ℕ → ℕ → ℕ) → ℕ → Type 0
   Moves f p = Moves2 f f p
 
+  -- past a byte, past two, past blanks, and past what closes a construct
   pub moves_after : (p : ℕ) → Moves past_byte p
   moves_after p = (
     omega (arith, after_low T p),
@@ -110,6 +116,7 @@ module _ {edition : Edition} {T U : List ℕ} {a M : ℕ} {to : ℕ → ℕ} {li
   moves_closer DoubleBrace p = moves_after p
   moves_closer Arith p = moves_twice p
 
+  -- past the bytes that pass a test, past a reserved word, past digits, and past a parameter
   moves_past : (test : ℕ → Bool) → Goes limit test → (p : ℕ) → a ≤ p → G (past test T p) → G p
       × (past test U (to p) ≡ to (past test T p))
   moves_past test goes p low s = let g = past_back E test goes p low s in (g, (past_safe E test goes g).1)
@@ -162,10 +169,12 @@ module _ {edition : Edition} {T U : List ℕ} {a M : ℕ} {to : ℕ → ℕ} {li
         (cases_Bool (stands_in is_letter T p)),
   )
 
+  -- up to M both texts end here, or neither
   pub same_end : (p : ℕ) → a ≤ p → p ≤ M → at_end U (to p) ≡ at_end T p
   unfolding at_end
   same_end p low le = ap is_none (E.kept.same p low (omega (arith, le)))
 
+  -- where the next byte is no newline no continuation stands
   no_newline : (q : ℕ) → raw_stands T (q + 1) newline_char ≡ false → continues T q ≡ false
   no_newline q e = must_fail _ (λ c. both_ways (raw_stands T (q + 1) newline_char) e (continued T q c).1)
 
@@ -184,6 +193,7 @@ module _ {edition : Edition} {T U : List ℕ} {a M : ℕ} {to : ℕ → ℕ} {li
         raw_there E.kept test b (omega (arith, low, le)) (omega (arith, high s)),
       )
 
+  -- a search for a quote ends at no other byte, one for a closer or a backslash at no newline
   quote_other : (x : Option ℕ) (c : ℕ) → (apostrophe == c) ≡ false → passes (λ b. not (b == apostrophe)) x ≡ false →
       is_byte x c ≡ false
   quote_other None c e f = refl
@@ -195,6 +205,7 @@ module _ {edition : Edition} {T U : List ℕ} {a M : ℕ} {to : ℕ → ℕ} {li
   escaped_other escapings.Backquotes (Some b) e = grind (arith, nat_tests)
   escaped_other escapings.DollarSingle (Some b) e = grind (arith, nat_tests)
 
+  -- past one byte that is no backslash, and past a backslash with the byte after it
   pub moves_one : (p : ℕ) → raw_stands T p backslash ≡ false → Moves (λ T p. p + 1) p
   moves_one p e = (omega arith, λ low s. (good_back p low (no_backslash T p e) s, sym (on p 1 low)))
 
@@ -208,6 +219,7 @@ module _ {edition : Edition} {T U : List ℕ} {a M : ℕ} {to : ℕ → ℕ} {li
     ),
   )
 
+  -- after a backslash both texts end, or neither
   pub same_taken : (p : ℕ) → raw_stands T p backslash ≡ true → a ≤ p → G p → at_end U (to p + 1) ≡ at_end T (p + 1)
   unfolding raw_stands
   same_taken p e low s =
@@ -218,10 +230,12 @@ module _ {edition : Edition} {T U : List ℕ} {a M : ℕ} {to : ℕ → ℕ} {li
       absurd (both_ways (is_byte (slice_get T M) backslash) (rw E.byte (not_backslash limit E.ender)) (rw (sym is) e)))
       (cases_lt p M))
 
+  -- up to M the byte c stands in both texts, or in neither
   pub same_raw_stands : (p c : ℕ) → a ≤ p → p ≤ M → raw_stands U (to p) c ≡ raw_stands T p c
   unfolding raw_stands
   same_raw_stands p c low le = ap (λ b. is_byte b c) (E.kept.same p low (omega (arith, le)))
 
+  -- over a newline the search for one does not go on
   newline_by : (x : Option ℕ) → x ≡ Some newline_char → passes (λ b. not (b == newline_char)) x ≡ false
   newline_by x is = rw is refl
 
@@ -232,6 +246,7 @@ module _ {edition : Edition} {T U : List ℕ} {a M : ℕ} {to : ℕ → ℕ} {li
       ⊎_elim (λ lt. absurd (both_ways _ (newline_by (slice_get T M) (E.byte ∙ ap Some ten))
       (raw_past_all (λ b. not (b == newline_char)) T p M le lt))) (λ ge. ge) (cases_lt M (next_newline T p))
 
+  -- the next newline stands there too, if it is at most at M
   pub same_newline : (p : ℕ) → a ≤ p → next_newline T p ≤ M → next_newline U (to p) ≡ to (next_newline T p)
   same_newline p low near = raw_there E.kept (λ b. not (b == newline_char)) p low (omega (arith, near))
 
@@ -264,14 +279,17 @@ module _ {edition : Edition} {T U : List ℕ} {a M : ℕ} {to : ℕ → ℕ} {li
       ))
       (cases_Bool (raw_in is_blank T r))
 
+  -- nothing that is looked for goes on over a `#`, which is no blank and no newline
   hash_goes : (x : Option ℕ) → is_byte x number_sign ≡ true → (passes goes_on x ≡ false) × (passes is_blank x ≡ false)
       × (passes (λ b. not (b == newline_char)) x ≡ true)
   hash_goes None e = absurd cc
   hash_goes (Some b) e = (grind (arith, nat_tests), grind (arith, nat_tests), grind (arith, nat_tests))
 
+  -- the byte of the limit is no `#`
   no_hash : (limit == number_sign) ≡ false
   no_hash = ender limit number_sign E.ender.ends_it refl
 
+  -- where a `#` stands, the place is good
   at_hash : (p : ℕ) → a ≤ p → p ≤ M → raw_stands T p number_sign ≡ true → G p
   unfolding raw_stands raw_in
   at_hash p low le e =
@@ -281,6 +299,7 @@ module _ {edition : Edition} {T U : List ℕ} {a M : ℕ} {to : ℕ → ℕ} {li
       good_halt p low lt (no_backslash T p (byte_other (slice_get T p) number_sign backslash refl e))
       (hash_goes (slice_get T p) e).0
 
+  -- lists that have the same at each place below n have the same first n
   same_take : (n : ℕ) (A B : List ℕ) → ((i : ℕ) → i < n → slice_get A i ≡ slice_get B i) → take n A ≡ take n B
   same_take zero A B same = refl
   same_take (suc n) [] [] same = refl
@@ -291,6 +310,7 @@ module _ {edition : Edition} {T U : List ℕ} {a M : ℕ} {to : ℕ → ℕ} {li
       let is : a ≡ b = cc in
       rw (is, same_take n A B (λ i lt. same (suc i) (omega (arith, lt)))) refl
 
+  -- from one place to another it is as far in both texts
   long_there : (p q : ℕ) → a ≤ p → a ≤ q → to q - to p ≡ q - p
   long_there p q low from =
       ⊎_elim
@@ -309,6 +329,7 @@ module _ {edition : Edition} {T U : List ℕ} {a M : ℕ} {to : ℕ → ℕ} {li
   pub same_raw : (p q : ℕ) → a ≤ p → a ≤ q → q ≤ M → raw U (to p) (to q) ≡ raw T p q
   same_raw p q low from le = same_raw_to p q low from (omega (arith, le))
 
+  -- the byte that is read at a good place stands at M or before it
   place_in : {p : ℕ} → G p → past_continuations T p ≤ M
   place_in s = let h = seen E s in omega (arith, h.inside)
 
@@ -327,6 +348,7 @@ module _ {edition : Edition} {T U : List ℕ} {a M : ℕ} {to : ℕ → ℕ} {li
   unfolding stands_in
   next_byte p b c s is e on other = next_safe E (λ x. x == c) (goes_one limit c on other) s (rw is e)
 
+  -- after it the byte x is read in both texts, or in neither
   same_next : (p b c x : ℕ) → G p → byte_at T p ≡ Some b → (b == c) ≡ true → goes_on c ≡ true → (limit == c) ≡ false →
       stands U (past_byte U (to p)) x ≡ stands T (past_byte T p) x
   same_next p b c x s is e on other = rw (same_after E s) (same_stands E (next_byte p b c s is e on other) x)
@@ -336,6 +358,7 @@ module _ {edition : Edition} {T U : List ℕ} {a M : ℕ} {to : ℕ → ℕ} {li
   NoBracket Arith = (limit == right_parenthesis) ≡ false
   NoBracket _ = Unit {0}
 
+  -- what a `$` begins is the same in both texts
   dollar_by_same : (q : ℕ) (x : Option ℕ) → G q → byte_at T q ≡ x → dollar_by U (to q) x ≡ dollar_by T q x
   dollar_by_same q None s is = refl
   dollar_by_same q (Some b) s is =
@@ -349,6 +372,7 @@ module _ {edition : Edition} {T U : List ℕ} {a M : ℕ} {to : ℕ → ℕ} {li
       let next = next_byte p b dollar_sign s is e refl (ender limit dollar_sign E.ender.ends_it refl) in
       rw (same_after E s, same_byte E next) (dollar_by_same (past_byte T p) (byte_at T (past_byte T p)) next refl)
 
+  -- what a byte begins in a mode, if it is no backslash, no backquote and no `$`
   byte_same : (mode : Mode) (p n b : ℕ) → NoBracket mode → G p → byte_at T p ≡ Some b →
       byte_by U (to p) mode n b ≡ byte_by T p mode n b
   byte_same Plain p n b other s is = refl
@@ -359,6 +383,7 @@ module _ {edition : Edition} {T U : List ℕ} {a M : ℕ} {to : ℕ → ℕ} {li
       same_if (b == right_parenthesis) _ _ _ _
       (λ e. rw (same_next p b right_parenthesis right_parenthesis s is e refl other) refl) (λ e. refl)
 
+  -- so at a good place the same piece begins in both texts
   piece_same : (mode : Mode) (p n : ℕ) (x : Option ℕ) → NoBracket mode → G p → byte_at T p ≡ x →
       piece_by U (to p) mode n x ≡ piece_by T p mode n x
   piece_same mode p n None free s is = refl
@@ -378,15 +403,18 @@ module _ {edition : Edition} {T U : List ℕ} {a M : ℕ} {to : ℕ → ℕ} {li
   unfolding piece_at
   same_piece mode n p free s = rw (same_byte E s) (piece_same mode p n (byte_at T p) free s refl)
 
+  -- and the rest of an expansion is read in the same mode
   pub same_mode : (mode : Mode) (p : ℕ) → G p → rest_mode U mode (to p) ≡ rest_mode T mode p
   unfolding rest_mode
   same_mode mode p s = rw (same_stands E s number_sign, same_stands E s percent_sign) refl
 
   -- ---- the moves that are left
 
+  -- past continuations
   pub moves_joined : (p : ℕ) → Moves past_continuations p
   moves_joined p = (place_low T p, λ low s. let g = safe_place (K E) p low s in (g, same_place E g))
 
+  -- past one byte, or past two where the first is a backslash
   by_taken : (p n : ℕ) (b : Bool) → raw_stands T p backslash ≡ b → a ≤ p → G (p + cond b 2 1) → G p
       × (to p + cond b 2 1 ≡ to (p + cond b 2 1))
   by_taken p n true e low s = (moves_two p e).1 low s
@@ -401,6 +429,7 @@ module _ {edition : Edition} {T U : List ℕ} {a M : ℕ} {to : ℕ → ℕ} {li
         (w.0, rw (same_raw_stands p backslash low (high w.0)) w.1),
   )
 
+  -- to the next quote, to the next closer or backslash, and to the end of a comment
   pub moves_quote : (p : ℕ) → Moves next_quote p
   unfolding raw_in raw_stands
   moves_quote p = (
@@ -441,6 +470,7 @@ module _ {edition : Edition} {T U : List ℕ} {a M : ℕ} {to : ℕ → ℕ} {li
 
   -- ---- what is seen
 
+  -- at a good place both texts end or neither, and a backslash is the last byte of both or of neither
   pub same_end_here : (p : ℕ) → a ≤ p → G p → at_end U (to p) ≡ at_end T p
   same_end_here p low s = same_end p low (high s)
 
@@ -463,6 +493,7 @@ module _ {edition : Edition} {T U : List ℕ} {a M : ℕ} {to : ℕ → ℕ} {li
       let w = before_there q p q (omega arith) low lt near bytes.1 in
       (rw (same_newline p low near) w.0, w.1)
 
+  -- the same comment begins there, where each text has the same spans by its offset
   pub same_comment : (o o2 : ℕ) → ((p q : ℕ) → a ≤ p → a ≤ q → span o2 (to p) (to q) ≡ span o p q) → (p : ℕ) → G p →
       (raw_stands T p number_sign ≡ true → next_newline T p ≤ M) → comment_at U o2 (to p) ≡ comment_at T o p
   unfolding comment_at

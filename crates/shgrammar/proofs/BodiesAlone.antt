@@ -15,6 +15,7 @@ use Rattle.shgrammar.proofs.Places.{next_newline_low}
 use Rattle.shgrammar.proofs.Delimiters.{between, bodies_go, past_line_high}
 use Rattle.shgrammar.specs.declared.edition.Edition.{Edition}
 
+-- a byte that is no newline
 abbrev pub is_text : ℕ → Bool
 is_text b = not (b == newline_char)
 
@@ -30,11 +31,13 @@ past_front X = min (width X + 1) (length X)
 
 -- ---- texts whose last line ends in a newline
 
+-- the last byte is a newline, or there is none
 unfoldable pub closed : List ℕ → Bool
 closed [] = true
 closed (b ∷ []) = b == newline_char
 closed (b ∷ c ∷ bs) = closed (c ∷ bs)
 
+-- without its first bytes such a text is one too
 pub closed_drop : (n : ℕ) (L : List ℕ) → closed L ≡ true → closed (drop n L) ≡ true
 unfolding closed
 closed_drop zero L so = so
@@ -46,6 +49,7 @@ closed_drop (suc n) (b ∷ c ∷ bs) so = closed_drop n (c ∷ bs) so
 abbrev pub Ends : List ℕ → List ℕ → Type 0
 Ends L Y = (width (L ++ Y) ≡ width L) × (width L < length L)
 
+-- so it is of each such text that is not empty
 ends_by : (b : ℕ) (L Y : List ℕ) → ((b == newline_char) ≡ false → Ends L Y) → (t : Bool) →
     (b == newline_char) ≡ t → Ends (b ∷ L) Y
 unfolding count_front
@@ -74,6 +78,7 @@ module _ (w : Waiting) where
 
   -- ---- what follows makes no difference
 
+  -- in such a text the search looks at its first line, and then at the rest of it
   pub by_turn : (n : ℕ) (taken : Bool) (b : ℕ) (bs Y : List ℕ) → closed (b ∷ bs) ≡ true
       → found_in (suc n) taken ((b ∷ bs) ++ Y)
       ≡ turn taken (front (b ∷ bs)) (width (b ∷ bs) + 1)
@@ -93,6 +98,7 @@ module _ (w : Waiting) where
       ∙ ap (λ X. turn taken (front (b ∷ bs)) (width (b ∷ bs) + 1) (found_in n (takes_newline w (front (b ∷ bs))) X))
       left
 
+  -- where the rest finds the same, so does one turn
   pub turn_alone : (k i : ℕ) (rest other : Option ℕ) → ((j : ℕ) → rest ≡ Some j → k + j ≡ i → other ≡ Some j) →
       (t : Bool)
       → cond t (Some 0) (option_map (λ (q : ℕ). k + q) rest) ≡ Some i →
@@ -101,10 +107,12 @@ module _ (w : Waiting) where
   turn_alone k i None other more false found = absurd cc
   turn_alone k i (Some j) other more false found = rw (more j refl cc) found
 
+  -- without a turn nothing is found
   pub none_found : {A : Type 0} (X : List ℕ) (taken : Bool) (i : ℕ) → found_in zero taken X ≡ Some i → A
   unfolding found_in
   none_found X taken i found = absurd cc
 
+  -- what is found in such a text is found there whatever follows it
   pub alone : (n m : ℕ) (taken : Bool) (L Y Z : List ℕ) (i : ℕ) → closed L ≡ true → length L < m
       → found_in n taken (L ++ Y) ≡ Some i → i < length L → found_in m taken (L ++ Z) ≡ Some i
   alone n m taken [] Y Z i so many found before = absurd (omega arith)
@@ -124,6 +132,7 @@ module _ (w : Waiting) where
 
   -- ---- nor does where the bytes stand
 
+  -- a place that counts from p + k is one that counts from k, and then from p
   over : (p k : ℕ) (r : Option ℕ) →
       option_map (λ (q : ℕ). (p + k) + q) r ≡ option_map (λ (q : ℕ). p + q) (option_map (λ (q : ℕ). k + q) r)
   over p k None = refl
@@ -135,12 +144,14 @@ module _ (w : Waiting) where
   over_turn p k r true = ap (λ (x : ℕ). Some x) (omega arith)
   over_turn p k r false = over p k r
 
+  -- the text ends at p where no byte is left from p on
   end_there : (T : List ℕ) (p : ℕ) → at_end T p ≡ is_none (slice_get (drop p T) 0)
   unfolding at_end
   end_there T p =
       let is : p + 0 ≡ p = omega arith in
       ap is_none (ap (slice_get T) (sym is) ∙ sym (get_drop p T 0))
 
+  -- one turn, where those after it are so
   found_by : (n : ℕ) (taken : Bool) (T : List ℕ) (p : ℕ) (X : List ℕ) → drop p T ≡ X → p ≤ length T
       → ((t : Bool) (r : ℕ) → r ≤ length T →
       delimiter_below n T w t r ≡ option_map (λ (q : ℕ). r + q) (found_in n t (drop r T)))
@@ -175,6 +186,7 @@ module _ (w : Waiting) where
   found_at zero taken T p within = refl
   found_at (suc n) taken T p within = found_by n taken T p (drop p T) refl within (λ t r. found_at n t T r)
 
+  -- where the place is p + q, what was found is q
   pub from_found : (p q : ℕ) (r : Option ℕ) → option_map (λ (i : ℕ). p + i) r ≡ Some (p + q) → r ≡ Some q
   from_found p q None is = absurd cc
   from_found p q (Some i) is =
@@ -200,6 +212,7 @@ module _ (w : Waiting) where
 
 -- ---- bodies
 
+-- so it is of each text that ends in a newline and is not empty
 ends_some : (D Y : List ℕ) → closed D ≡ true → 0 < length D → Ends D Y
 ends_some [] Y so some = absurd (omega arith)
 ends_some (b ∷ bs) Y so some = ends b bs Y so
@@ -208,6 +221,7 @@ ends_some (b ∷ bs) Y so some = ends b bs Y so
 abbrev step_in : List ℕ → ℕ → ℕ
 step_in L q = q + (width (drop q L) + 1)
 
+-- the line that begins at q in L ends in L
 past_in : (T L Y : List ℕ) (p q : ℕ) → p ≤ length T → drop p T ≡ L ++ Y → closed L ≡ true → q < length L →
     (past_line T (p + q) ≡ p + step_in L q) × (step_in L q ≤ length L)
 unfolding raw_past
@@ -220,12 +234,14 @@ past_in T L Y p q within here so before =
     let size : length T - p ≡ length L + length Y = sym (length-drop p T) ∙ ap length here ∙ length-append L Y in
     (omega (arith, wide, e.1, left, size, before, within), omega (arith, e.1, left, before))
 
+-- an answer, and a span by its two offsets
 abbrev done : Row Span × ℕ → Result (Row Span × ℕ) Fault
 done x = Ok x
 
 abbrev from_to : ℕ → ℕ → Span
 from_to s e = record { start = s; «end» = e }
 
+-- spans that begin at one offset and are as long are one, whatever the offset of their text
 same_span : (o u p r q : ℕ) → o + p ≡ u + r → span o p (p + q) ≡ span u r (r + q)
 same_span o u p r q is =
     let last : o + (p + q) ≡ u + (r + q) = omega (arith, is) in
@@ -234,17 +250,21 @@ same_span o u p r q is =
 -- L stands in one text from p on, and in another from r on, and its last byte is a
 -- newline: bodies that end in L end there in both
 module _ (edition : Edition) (T U Y Z : List ℕ) (o u : ℕ) where
+  -- the second text has the bodies that were read, and ends them as far from r as the first from p
   abbrev Same : Row Waiting → Row Span → ℕ → ℕ → Row Span × ℕ → Type 0
   Same ws bodies p r x = bodies_from (given edition U u) ws bodies r ≡ done (x.0, r + (x.1 - p))
 
+  -- so it is for these documents wherever L stands, if their bodies end in it
   abbrev Alike : Row Waiting → Row Span × ℕ → Type 0
   Alike ws x = (bodies : Row Span) (L : List ℕ) (p r : ℕ) → p ≤ length T → r ≤ length U → o + p ≡ u + r →
       drop p T ≡ L ++ Y → drop r U ≡ L ++ Z → closed L ≡ true
       → bodies_from (given edition T o) ws bodies p ≡ Ok x → x.1 ≤ p + length L → Same ws bodies p r x
 
+  -- the bytes from p + k on are L without its first k, and what follows it
   after_in : (V W L : List ℕ) (p k : ℕ) → drop p V ≡ L ++ W → k ≤ length L → drop (p + k) V ≡ drop k L ++ W
   after_in V W L p k here le = sym (drop-drop k p V) ∙ ap (drop k) here ∙ drop-append-le k L W le
 
+  -- one more document before others, and all of them
   one_alike : (w : Waiting) (ws : Row Waiting) (x : Row Span × ℕ) → Alike ws x →
       (bodies : Row Span) (L : List ℕ) (p r : ℕ) → p ≤ length T → r ≤ length U → o + p ≡ u + r
       → drop p T ≡ L ++ Y → drop r U ≡ L ++ Z → closed L ≡ true → (d : Option ℕ) → delimiter_from T w p ≡ d →

@@ -17,6 +17,7 @@ use Rattle.shgrammar.proofs.Delimiters.{between}
 
 -- ---- bytes that are compared
 
+-- bytes are told to be the same as themselves, and as no others
 pub bytes_self : (xs : List ℕ) → bytes_eq xs xs ≡ true
 bytes_self [] = refl
 bytes_self (b ∷ xs) = let same : (b == b) ≡ true = grind (arith, nat_tests) in rw same (bytes_self xs)
@@ -32,6 +33,7 @@ bytes_same (b ∷ xs) (c ∷ ys) is =
 
 -- ---- tabs that are taken off
 
+-- where leading tabs were taken off none is left to take off
 stripped_twice_by : (b : ℕ) (X : List ℕ) →
     drop (count_front (λ c. c == tab) (drop (count_front (λ c. c == tab) X) X)) (drop (count_front (λ c. c == tab) X) X)
     ≡ drop (count_front (λ c. c == tab) X) X
@@ -57,6 +59,7 @@ stripped_twice false X = refl
 abbrev pub AreText : List ℕ → Type 0
 AreText X = width X ≡ length X
 
+-- how long the first line is, by the first byte
 text_first : (b : ℕ) (X : List ℕ) → (b == newline_char) ≡ false → width (b ∷ X) ≡ suc (width X)
 unfolding count_front
 text_first b X is = rw is (omega arith)
@@ -65,6 +68,7 @@ newline_first : (b : ℕ) (X : List ℕ) → (b == newline_char) ≡ true → wi
 unfolding count_front
 newline_first b X is = rw is refl
 
+-- bytes without a newline stay so without their first one, the first n, and leading tabs
 text_parts : (b : ℕ) (X : List ℕ) → AreText (b ∷ X) → (t : Bool) → (b == newline_char) ≡ t →
     ((b == newline_char) ≡ false) × AreText X
 text_parts b X is true e = absurd (let none = newline_first b X e in omega (arith, none, is))
@@ -79,6 +83,7 @@ pub text_stripped : (strip : Bool) (X : List ℕ) → AreText X → AreText (str
 text_stripped true X is = text_drop _ X is
 text_stripped false X is = is
 
+-- the empty text has no newline, and the first line of a text has none
 none_text : AreText []
 unfolding count_front
 none_text = refl
@@ -122,6 +127,7 @@ module _ (w : Waiting) where
   found_first m [] some is = absurd (omega (arith, some))
   found_first m (b ∷ bs) some is = rw is refl
 
+  -- where it is found at the front, the first line is the delimiter's, and no line before takes it in
   free_by : (taken : Bool) (b : ℕ) (bs : List ℕ) (k : ℕ) (rest : Option ℕ) → 0 < k → (t : Bool) →
       (not taken && is_delimiter w (front (b ∷ bs))) ≡ t
       → cond t (Some 0) (option_map (λ (q : ℕ). k + q) rest) ≡ Some 0 → (taken ≡ false)
@@ -166,6 +172,7 @@ module _ (w : Waiting) where
 
   -- ---- what was found is a body and a delimiter
 
+  -- two texts whose last lines end in a newline are one such text, one after the other
   closed_join : (X Y : List ℕ) → closed X ≡ true → closed Y ≡ true → closed (X ++ Y) ≡ true
   unfolding closed
   closed_join [] Y one two = two
@@ -173,6 +180,7 @@ module _ (w : Waiting) where
   closed_join (b ∷ []) (c ∷ Y) one two = two
   closed_join (b ∷ c ∷ X) Y one two = closed_join (c ∷ X) Y one two
 
+  -- the first line with its newline is such a text, by the first byte
   first_line_by : (b : ℕ) (X : List ℕ) → (width X < length X → closed (take (suc (width X)) X) ≡ true) →
       width (b ∷ X) < length (b ∷ X) → (t : Bool) → (b == newline_char) ≡ t
       → closed (take (suc (width (b ∷ X))) (b ∷ X)) ≡ true
@@ -187,6 +195,7 @@ module _ (w : Waiting) where
   first_line [] some = absurd (omega (arith, some))
   first_line (b ∷ X) some = first_line_by b X (first_line X) some (b == newline_char) refl
 
+  -- in no bytes nothing is found
   none_in : {A : Type 0} (n : ℕ) (taken : Bool) (i : ℕ) → found_in w n taken [] ≡ Some i → A
   unfolding found_in
   none_in zero taken i found = absurd cc
@@ -198,6 +207,7 @@ module _ (w : Waiting) where
     pub within : i ≤ length X
     pub line : is_delimiter w (front (drop i X)) ≡ true
 
+  -- so it is where the first line is the delimiter's, and where it is found after that
   cut_here : (X : List ℕ) (i : ℕ) → is_delimiter w (front X) ≡ true → 0 ≡ i → Cut X i
   unfolding closed
   cut_here X i is none = subst (λ n. Cut X n) none (record { lines = refl; within = omega arith; line = is })
@@ -221,6 +231,7 @@ module _ (w : Waiting) where
       empty_row [] is = refl
       empty_row (b ∷ X) is = absurd (omega (arith, is))
 
+  -- and so it is of whatever was found
   cut_by : (n : ℕ) (taken : Bool) (b : ℕ) (bs : List ℕ) (i : ℕ) (r : Option ℕ) →
       found_in w n taken (drop (past_front (b ∷ bs)) (b ∷ bs)) ≡ r →
       ((j : ℕ) → r ≡ Some j → Cut (drop (past_front (b ∷ bs)) (b ∷ bs)) j)
@@ -255,6 +266,7 @@ same_found b c strip d (suc n) taken (x ∷ xs) =
 
 -- ---- a document, wherever its body and the line of its delimiter stand
 
+-- where the bytes t stand, and the delimiter as a line after them, the document ends after t
 pub record DocumentAnywhere (strip : Bool) (d : ADelimiter) (t : List ℕ) : Type 0 where
   pub ends_there : (U : List ℕ) (b r : ℕ) (Z : List ℕ) → r ≤ length U → drop r U ≡ t ++ (d.text ++ 10 ∷ Z) →
       delimiter_from U (document b strip d) r ≡ Some (r + length t)
@@ -263,6 +275,7 @@ pub record DocumentAnywhere (strip : Bool) (d : ADelimiter) (t : List ℕ) : Typ
 
 module _ (T : List ℕ) (b p q : ℕ) (strip : Bool) (d : ADelimiter) (within : p ≤ length T)
     (found : delimiter_from T (document b strip d) p ≡ Some q) where
+  -- the document that waits, the bytes from where its body begins, and how many of them are the body
   abbrev w : Waiting
   w = document b strip d
 
@@ -272,6 +285,7 @@ module _ (T : List ℕ) (b p q : ℕ) (strip : Bool) (d : ADelimiter) (within : 
   abbrev i : ℕ
   i = q - p
 
+  -- after so many bytes the delimiter's line is found, and up to there whole lines stand
   found_here : found_in w (suc (length T - p)) false bytes ≡ Some i
   unfolding delimiter_on
   found_here =
@@ -283,6 +297,7 @@ module _ (T : List ℕ) (b p q : ℕ) (strip : Bool) (d : ADelimiter) (within : 
   cut_here_is : Cut w bytes i
   cut_here_is = cut w (suc (length T - p)) false bytes i found_here
 
+  -- once stripped that line is the delimiter, which has no newline and ends the document as a line
   abbrev line : List ℕ
   line = front (drop i bytes)
 
@@ -298,14 +313,17 @@ module _ (T : List ℕ) (b p q : ℕ) (strip : Bool) (d : ADelimiter) (within : 
       ∙ line_is in
       ap (λ X. bytes_eq X d.text) same ∙ bytes_self d.text
 
+  -- a text with a byte in it is not empty
   some_there : (X Z : List ℕ) (c : ℕ) → 0 < length (X ++ c ∷ Z)
   some_there [] Z c = omega arith
   some_there (b ∷ X) Z c = omega arith
 
+  -- where the delimiter and a newline are the first bytes, its line is found there
   starts : (Z : List ℕ) (k : ℕ) → found_in w (suc k) false (d.text ++ 10 ∷ Z) ≡ Some 0
   starts Z k = found_first w k (d.text ++ 10 ∷ Z) (some_there d.text Z 10)
       (ap (is_delimiter w) (line_front d.text Z delimiter_text) ∙ its_own)
 
+  -- the body has so many bytes, and after them the delimiter's line is found
   long : length (take i bytes) ≡ i
   long = length-take-le i bytes cut_here_is.within
 
@@ -313,6 +331,7 @@ module _ (T : List ℕ) (b p q : ℕ) (strip : Bool) (d : ADelimiter) (within : 
   found_whole = ap (found_in w (suc (length T - p)) false) (take-append-drop i bytes) ∙ found_here
       ∙ ap (λ (x : ℕ). Some x) (sym long)
 
+  -- so the bytes of the body are such, wherever they stand
   pub document_anywhere : DocumentAnywhere strip d (raw T p q)
   unfolding delimiter_on raw_past
   document_anywhere = record {

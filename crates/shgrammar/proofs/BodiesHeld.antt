@@ -20,6 +20,7 @@ module _ (g : Given) (limit : ℕ) where
   abbrev Before : State → Type 0
   Before s = g.offset + s.at ≤ limit
 
+  -- no body that is held is above the limit
   abbrev pub HoldsWithin : State → Type 0
   HoldsWithin s = All (IsSpanWithin limit) s.bodies
 
@@ -32,6 +33,7 @@ module _ (g : Given) (limit : ℕ) where
 
   -- ---- the bodies after a newline
 
+  -- one body, and then the others that wait
   body_step : (w : Waiting) (ws : Row Waiting) (bodies : Row Span) (p : ℕ) (x : Row Span × ℕ) → g.offset + x.1 ≤ limit →
       All (IsSpanWithin limit) bodies
       → ((bs : Row Span) (q : ℕ) → bodies_from g ws bs q ≡ Ok x → All (IsSpanWithin limit) bs →
@@ -46,6 +48,7 @@ module _ (g : Given) (limit : ℕ) where
       more (bodies ++ span g.offset p q ∷ []) (past_line g.text q) read
       (All-push (IsSpanWithin limit) bodies (span g.offset p q) all (omega (arith, ends, one.0), ends))
 
+  -- if the place after them is not above the limit, no body that was read is
   bodies_within : (ws : Row Waiting) (bodies : Row Span) (p : ℕ) (x : Row Span × ℕ) → bodies_from g ws bodies p ≡ Ok x →
       g.offset + x.1 ≤ limit → All (IsSpanWithin limit) bodies
       → All (IsSpanWithin limit) x.0
@@ -56,6 +59,7 @@ module _ (g : Given) (limit : ℕ) where
       body_step w ws bodies p x le all (λ bs q read_on. bodies_within ws bs q x read_on le)
       (delimiter_from g.text w p) refl read
 
+  -- so it is after a newline, and after any change
   state_within : (s t : State) → HoldsWithin s → Before t → (x : Result (Row Span × ℕ) Fault) →
       bodies_from g s.waiting s.bodies s.at ≡ x → state_by x ≡ Ok t → HoldsWithin t
   state_within s t so b (Ok x) read is =
@@ -70,6 +74,7 @@ module _ (g : Given) (limit : ℕ) where
 
   -- ---- all forms
 
+  -- no form reads a body above the limit, unless it ends above it
   pub held : {X : Type 0} (r : Form X) (s : State) → HoldsWithin s → Tells Whole g r (λ x t. Before t → HoldsWithin t) s
   held (give x) s so = record { told = λ b. so }
   held (see f) s so = record { told = λ b. so }

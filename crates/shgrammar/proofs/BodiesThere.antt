@@ -26,6 +26,7 @@ use Rattle.shgrammar.specs.declared.edition.Edition.{Edition}
 
 -- ---- the newline before the place where bodies end
 
+-- a line that ends before the text does ends at a newline, and a newline stands before the next one
 newline_is : (T : List ℕ) (p : ℕ) → p < length T → raw_in (λ b. not (b == newline_char)) T p ≡ false →
     slice_get T p ≡ Some 10
 unfolding raw_in
@@ -42,6 +43,7 @@ past_ends T q lt =
     (raw_past_stops (λ b. not (b == newline_char)) T q)
 
 module _ (g : Given) where
+  -- by where the line of the first delimiter begins
   before_step : (w : Waiting) (ws : Row Waiting) (bodies : Row Span) (p : ℕ) (x : Row Span × ℕ) → x.1 < length g.text →
       p < x.1
       → ((bs : Row Span) (q : ℕ) → bodies_from g ws bs q ≡ Ok x → q < x.1 → slice_get g.text (x.1 - 1) ≡ Some 10)
@@ -63,6 +65,7 @@ module _ (g : Given) where
       before_step w ws bodies p x within on (λ bs q more lt. newline_before ws bs q x more within lt)
       (delimiter_from g.text w p) read
 
+-- the state after what was read, or s where there was a fault
 abbrev ended_in : State → Read (Unit {0}) → State
 ended_in s (Ok (x, t)) = t
 ended_in s (Err f) = s
@@ -84,6 +87,7 @@ ends_by g s t (Ok x) read is newline =
     inl (ap (λ n. is_byte (slice_get g.text (n - 1)) newline_char) still ∙ newline)) (cases_lt s.at x.1)
 ends_by g s t (Err f) read is newline = absurd cc
 
+-- the same of the change that reads them
 pub ends_line : (keep : Keep) (g : Given) (s t : State) → does (change bodies_here) keep g s ≡ Ok (tt, t) →
     raw_stands g.text (s.at - 1) newline_char ≡ true →
     (raw_stands g.text (t.at - 1) newline_char ≡ true) ⊎ (at_end g.text t.at ≡ true)
@@ -97,6 +101,7 @@ closed_take zero (b ∷ X) is = let ten : b ≡ 10 = cc in grind (arith, nat_tes
 closed_take (suc n) (b ∷ []) is = absurd cc
 closed_take (suc n) (b ∷ c ∷ X) is = closed_take n (c ∷ X) is
 
+-- so are the bytes from p up to q, or there are none
 pub closed_raw : (T : List ℕ) (p q : ℕ) → p ≤ q → (p < q → slice_get T (q - 1) ≡ Some 10) → closed (raw T p q) ≡ true
 unfolding closed
 closed_raw T p q le newline =
@@ -112,12 +117,14 @@ closed_raw T p q le newline =
 
 module _ {edition : Edition} {T U : List ℕ} {a M : ℕ} {to : ℕ → ℕ} {limit : ℕ}
     (E : ListEnds edition T U a M to limit) where
+  -- the limit is in both texts
   long : M < length T
   long = slice_get_within T M limit E.byte
 
   long_there : to M < length U
   long_there = slice_get_within U (to M) limit (E.kept.same M E.under (omega arith) ∙ E.byte)
 
+  -- two places are as far from each other there
   far : (p q : ℕ) → a ≤ p → p ≤ q → to q ≡ to p + (q - p)
   far p q from le = let is : p + (q - p) ≡ q = omega (arith, le) in ap to (sym is) ∙ on E p (q - p) from
 
@@ -135,6 +142,7 @@ module _ {edition : Edition} {T U : List ℕ} {a M : ℕ} {to : ℕ → ℕ} {li
       good_over E p (x.1 - 1) from (omega (arith, lt)) none (subst (Good T a M) (sym is) good))
       (λ ge. let is : x.1 ≡ p = omega (arith, ge, onward) in subst (Good T a M) is good) (cases_lt p x.1)
 
+  -- the same of the states before and after the bodies
   good_after : (o : ℕ) (s t : State) → a ≤ s.at → Good T a M t.at → (x : Result (Row Span × ℕ) Fault) →
       bodies_from (given edition T o) s.waiting s.bodies s.at ≡ x → state_by x ≡ Ok t → Good T a M s.at
   good_after o s t from good (Ok x) read is =
@@ -151,6 +159,7 @@ module _ {edition : Edition} {T U : List ℕ} {a M : ℕ} {to : ℕ → ℕ} {li
       good_after o s t from good (bodies_from (given edition T o) s.waiting s.bodies s.at) refl is
 
   module _ (o u : ℕ) (off : (p : ℕ) → a ≤ p → u + to p ≡ o + p) where
+    -- bodies that end with a newline, and not past the byte at the limit, have the same spans there
     pub bodies_there : (ws : Row Waiting) (bodies : Row Span) (p : ℕ) (x : Row Span × ℕ) → a ≤ p →
         bodies_from (given edition T o) ws bodies p ≡ Ok x → x.1 ≤ M + 1 → closed (raw T p x.1) ≡ true
         → bodies_from (given edition U u) ws bodies (to p) ≡ Ok (x.0, to x.1)
@@ -175,12 +184,15 @@ module _ {edition : Edition} {T U : List ℕ} {a M : ℕ} {to : ℕ → ℕ} {li
 
     -- ---- a state, elsewhere
 
+    -- the state, at its place in the other text
     abbrev pub over : State → State
     over s = record { at = to s.at; waiting = s.waiting; bodies = s.bodies }
 
+    -- the state after the bodies that were found
     abbrev after_bodies : Row Span × ℕ → State
     after_bodies x = record { at = x.1; waiting = []; bodies = x.0 }
 
+    -- bodies of which the last byte is a newline change the state there as they do here
     read_there : (s t : State) → a ≤ s.at → t.at ≤ M + 1 → (s.at < t.at → slice_get T (t.at - 1) ≡ Some 10) →
         (x : Result (Row Span × ℕ) Fault) → bodies_from (given edition T o) s.waiting s.bodies s.at ≡ x →
         state_by x ≡ Ok t
@@ -203,6 +215,7 @@ module _ {edition : Edition} {T U : List ℕ} {a M : ℕ} {to : ℕ → ℕ} {li
         read_there s t from (omega (arith, at)) (λ lt. ap (slice_get T) last ∙ E.byte ∙ ap (λ (b : ℕ). Some b) ten)
         (bodies_from (given edition T o) s.waiting s.bodies s.at) refl is
 
+    -- by what the bodies give
     good_by : (s t : State) → a ≤ s.at → Good T a M t.at → (x : Result (Row Span × ℕ) Fault) →
         bodies_from (given edition T o) s.waiting s.bodies s.at ≡ x → state_by x ≡ Ok t
         → Good T a M s.at × (changed bodies_here (given edition U u) (over s) ≡ Ok (over t))
@@ -240,6 +253,7 @@ module _ {edition : Edition} {T U : List ℕ} {a M : ℕ} {to : ℕ → ℕ} {li
     abbrev pub moved_to : State → State
     moved_to s = state_from (o + a) (u + to a) (to s.at) s
 
+    -- an offset that is moved twice is moved at once
     first_shift : (x : ℕ) → shifted (a + to a) (u + to a) (shifted (o + a) (to a + a) x) ≡ shifted (o + a) (u + to a) x
     first_shift x = omega arith
 
@@ -267,6 +281,7 @@ module _ {edition : Edition} {T U : List ℕ} {a M : ℕ} {to : ℕ → ℕ} {li
         ∙ three ∙ ap (λ (bs : Row Span). Ok (bs, to x.1))
         (twice_spans (o + a) (to a + a) (a + to a) (u + to a) f first_shift x.0)
 
+    -- by what the bodies give
     moved_by : (s t : State) → a ≤ s.at → Good T a M t.at → (x : Result (Row Span × ℕ) Fault) →
         bodies_from (given edition T o) s.waiting s.bodies s.at ≡ x → state_by x ≡ Ok t
         → changed bodies_here (given edition U u) (moved_to s) ≡ Ok (moved_to t)
@@ -281,6 +296,7 @@ module _ {edition : Edition} {T U : List ℕ} {a M : ℕ} {to : ℕ → ℕ} {li
         ∙ ap (λ v. Ok (moved_to v)) same
     moved_by s t from good (Err f) read is = absurd cc
 
+    -- what bodies up to a good place change they change there
     pub bodies_over : (s t : State) → a ≤ s.at → Good T a M t.at → changed bodies_here (given edition T o) s ≡ Ok t →
         changed bodies_here (given edition U u) (moved_to s) ≡ Ok (moved_to t)
     bodies_over s t from good is =

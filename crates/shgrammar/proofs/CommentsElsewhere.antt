@@ -16,6 +16,7 @@ use Rattle.shgrammar.proofs.SameLine.{get_take}
 
 -- ---- bytes that stand somewhere else
 
+-- a byte of xs, and the one after them
 get_front : (xs ys : List ℕ) (k : ℕ) → k < length xs → slice_get (xs ++ ys) k ≡ slice_get xs k
 get_front [] ys k lt = absurd (omega arith)
 get_front (x ∷ xs) ys zero lt = refl
@@ -39,11 +40,13 @@ module _ (U : List ℕ) (q : ℕ) (w zs : List ℕ) (is : drop q U ≡ w ++ zs) 
 pub stretch_length : (T : List ℕ) (p n : ℕ) → p + n ≤ length T → length (take n (drop p T)) ≡ n
 stretch_length T p n le = length-take-le n (drop p T) (omega (arith, le, length-drop p T))
 
+-- and each is that of the text
 pub stretch_byte : (T : List ℕ) (p n i : ℕ) → i < n → slice_get (take n (drop p T)) i ≡ slice_get T (p + i)
 stretch_byte T p n i lt = get_take n (drop p T) i lt ∙ get_drop p T i
 
 -- ---- comments
 
+-- where a test tells a comment it holds, and the comment is this one
 comment_by : (b : Bool) (z c : Span) → cond b (Some z) None ≡ Some c → (b ≡ true) × (c ≡ z)
 comment_by true z c is = let e : z ≡ c = cc in (refl, sym e)
 comment_by false z c is = absurd cc
@@ -70,6 +73,7 @@ before_is T p (suc q) lt clear =
     (λ (e : raw_in is_blank T q ≡ false). let back : suc q - 1 ≡ q = omega arith in rw e (lt, (omega arith, rw back e)))
     (cases_Bool (raw_in is_blank T q))
 
+-- a `#` is no blank and no newline
 sharp_in : (x : Option ℕ) → is_byte x number_sign ≡ true → (passes is_blank x ≡ false)
     × ((passes (λ b. not (b == newline_char)) x ≡ true) × (x ≡ Some 35))
 sharp_in None e = absurd cc
@@ -84,12 +88,14 @@ pub record CommentAnywhere (c : List ℕ) : Type 0 where
 
 -- a comment that stands at p, up to e, and before a newline at q in another text
 module _ (T : List ℕ) (p : ℕ) (sharp : raw_stands T p number_sign ≡ true) where
+  -- where its line ends, and where the comment does
   abbrev newline : ℕ
   newline = next_newline T p
 
   abbrev last : ℕ
   last = before_blanks T newline
 
+  -- its first byte is a `#`, which stands in the text and before the end of the line
   first : (passes is_blank (slice_get T p) ≡ false)
       × ((passes (λ b. not (b == newline_char)) (slice_get T p) ≡ true) × (slice_get T p ≡ Some 35))
   unfolding raw_stands
@@ -106,10 +112,12 @@ module _ (T : List ℕ) (p : ℕ) (sharp : raw_stands T p number_sign ≡ true) 
     raw_past_low (λ b. not (b == newline_char)) T (p + 1),
   )
 
+  -- it is not empty, does not go past its line, and ends with no blank
   ended : (p < last) × ((last ≤ newline) × (raw_in is_blank T (last - 1) ≡ false))
   unfolding raw_in
   ended = before_is T p newline line_some first.0
 
+  -- its bytes, and how many they are
   abbrev text : List ℕ
   text = take (last - p) (drop p T)
 
@@ -118,6 +126,7 @@ module _ (T : List ℕ) (p : ℕ) (sharp : raw_stands T p number_sign ≡ true) 
       stretch_length T p (last - p) (omega (arith, e.0, e.1.0, next_newline_high T p (omega (arith, within))))
 
   module _ (U : List ℕ) (o q : ℕ) (zs : List ℕ) (is : drop q U ≡ text ++ 10 ∷ zs) where
+    -- the same bytes stand at q, and pass the same tests
     same_byte : (i : ℕ) → i < last - p → slice_get U (q + i) ≡ slice_get T (p + i)
     same_byte i lt = byte_in U q text (10 ∷ zs) is i (omega (arith, lt, text_length)) ∙ stretch_byte T p (last - p) i lt
 
@@ -125,6 +134,7 @@ module _ (T : List ℕ) (p : ℕ) (sharp : raw_stands T p number_sign ≡ true) 
     unfolding raw_in
     same_in test i lt = ap (passes test) (same_byte i lt)
 
+    -- after them is a newline
     newline_there : slice_get U (q + (last - p)) ≡ Some 10
     newline_there = ap (λ n. slice_get U (q + n)) (sym text_length) ∙ byte_after U q text (10 ∷ zs) is
 
@@ -132,12 +142,14 @@ module _ (T : List ℕ) (p : ℕ) (sharp : raw_stands T p number_sign ≡ true) 
     unfolding raw_in
     at_after = ap (passes (λ b. not (b == newline_char))) newline_there
 
+    -- the first of them is `#`
     sharp_there : slice_get U q ≡ Some 35
     sharp_there =
         let here : q + 0 ≡ q = omega arith in
         let there : p + 0 ≡ p = omega arith in
         ap (slice_get U) (sym here) ∙ same_byte 0 (omega (arith, ended.0)) ∙ ap (slice_get T) there ∙ first.1.1
 
+    -- their line ends after them
     line_end : next_newline U q ≡ q + (last - p)
     line_end =
         raw_is (λ b. not (b == newline_char)) U q (last - p)
@@ -148,6 +160,7 @@ module _ (T : List ℕ) (p : ℕ) (sharp : raw_stands T p number_sign ≡ true) 
         ∙ raw_past_all (λ b. not (b == newline_char)) T p (p + i) (omega arith) (omega (arith, low, lt, ended.1.0))))
         at_after
 
+    -- the last of them is no blank
     no_blank_last : raw_in is_blank U (q + (last - p) - 1) ≡ false
     no_blank_last =
         let e = ended in
@@ -157,6 +170,7 @@ module _ (T : List ℕ) (p : ℕ) (sharp : raw_stands T p number_sign ≡ true) 
         ap (raw_in is_blank U) (sym there) ∙ same_in is_blank i (omega (arith, e.0)) ∙ ap (raw_in is_blank T) here
         ∙ e.1.1
 
+    -- at q stands no continuation and no blank, and `#` is read there
     is_sharp : raw_stands U q number_sign ≡ true
     unfolding raw_stands
     is_sharp = rw sharp_there refl
@@ -172,6 +186,7 @@ module _ (T : List ℕ) (p : ℕ) (sharp : raw_stands T p number_sign ≡ true) 
     unfolding stands_in
     no_blank = ap (passes is_blank) byte_is
 
+    -- the comment at q has their span, and ends where they do
     end_is : q + (last - p) ≡ q + length text
     end_is = ap (λ n. q + n) (sym text_length)
 
@@ -186,6 +201,7 @@ module _ (T : List ℕ) (p : ℕ) (sharp : raw_stands T p number_sign ≡ true) 
     unfolding past_comment
     past_there = rw is_sharp (line_end ∙ end_is)
 
+  -- so it is wherever they stand before a newline
   anywhere : CommentAnywhere text
   anywhere = record {
     some = omega (arith, text_length, ended.0);

@@ -9,6 +9,7 @@ use Rattle.shgrammar.specs.Sights.{Given, Waiting}
 use Rattle.shgrammar.specs.HereDocuments.{rest_of_line, past_line, is_delimiter, takes_newline, delimiter_below, delimiter_on, delimiter_from, body_by, bodies_from}
 use Rattle.shgrammar.proofs.Places.{not_end_low, next_newline_low}
 
+-- what a test picks is the same if it is where the test fails
 same_else : {A : Type 0} (b : Bool) (x y z : A) → (b ≡ false → y ≡ z) → cond b x y ≡ cond b x z
 same_else true x y z same = refl
 same_else false x y z same = same refl
@@ -40,6 +41,7 @@ module _ (T : List ℕ) where
 
     -- ---- a line of the body, as a loop goes on
 
+    -- none is found at the end of the text, the line at p is it, or it is looked for from the next line on
     pub none_at_end : (taken : Bool) (p : ℕ) → at_end T p ≡ true → delimiter_on T w taken p ≡ None
     unfolding delimiter_on delimiter_below
     none_at_end taken p end = rw end refl
@@ -58,9 +60,11 @@ module _ (T : List ℕ) where
 
     -- ---- where the delimiter's line begins
 
+    -- at p or past it, and in the text
     abbrev Between : ℕ → ℕ → Type 0
     Between p q = (p ≤ q) × (q < length T)
 
+    -- by what the line at p is, and by how many lines may be looked at
     between_step : (p q : ℕ) (rest : Option ℕ) → (at_end T p ≡ false → rest ≡ Some q → Between p q) → (b : Bool) →
         at_end T p ≡ b → (c : Bool)
         → cond b None (cond c (Some p) rest) ≡ Some q → Between p q
@@ -91,6 +95,7 @@ module _ (g : Given) where
   abbrev pub Go : Row Waiting → Row Span → ℕ → Row Span × ℕ → Type 0
   Go ws bodies p x = (p ≤ x.1) × (x.1 ≤ length g.text) × (length x.0 ≡ length bodies + length ws)
 
+  -- one more body, by where the line of its delimiter begins
   bodies_step : (w : Waiting) (ws : Row Waiting) (bodies : Row Span) (p : ℕ) (x : Row Span × ℕ)
       → ((bs : Row Span) (q : ℕ) → bodies_from g ws bs q ≡ Ok x → q ≤ length g.text → Go ws bs q x)
       → (o : Option ℕ) → delimiter_from g.text w p ≡ o → body_by (bodies_from g ws) g w bodies p o ≡ Ok x →
@@ -114,6 +119,7 @@ module _ (g : Given) where
       let r = more (bodies ++ span g.offset p q ∷ []) (past_line g.text q) read in
       omega (arith, one.0, one.1, r, next_newline_low g.text q)
 
+  -- so no bodies go back, and from a place in the text on all this holds of them
   pub bodies_low : (ws : Row Waiting) (bodies : Row Span) (p : ℕ) (x : Row Span × ℕ) → bodies_from g ws bodies p ≡ Ok x
       → p ≤ x.1
   unfolding bodies_from

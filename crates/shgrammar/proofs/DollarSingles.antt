@@ -16,6 +16,7 @@ turn q second b rest later = cond (is_live q 92 b) (has_dollar_single q second l
     || has_dollar_single q (not second && stands rest 0 dollar_sign) rest)
     (has_dollar_single q second rest)))
 
+-- so it goes on from a byte, where one more stands after it
 turns : (q : Quoting) (second : Bool) (b c : ℕ) (bs : List ℕ) →
     has_dollar_single q second (b ∷ c ∷ bs) ≡ turn q second b (c ∷ bs) bs
 unfolding has_dollar_single
@@ -25,6 +26,7 @@ module _ (q : Quoting) (second : Bool) (word : List ℕ) (at : ℕ) (lt : at + 1
   next : at + 1 + 1 ≡ at + 2
   next = omega arith
 
+  -- the same at a place in a word
   here : has_dollar_single q second (drop at word)
       ≡ turn q second (get_or word at 0) (drop (at + 1) word) (drop (at + 2) word)
   here =
@@ -34,6 +36,7 @@ module _ (q : Quoting) (second : Bool) (word : List ℕ) (at : ℕ) (lt : at + 1
       ∙ ap (λ l. turn q second (get_or word at 0) l (drop (at + 1 + 1) word)) (sym (drop_more word (at + 1) 0 lt))
       ∙ ap (λ n. turn q second (get_or word at 0) (drop (at + 1) word) (drop n word)) next
 
+  -- by the byte: a backslash, a quote, a `$` that begins such text, another `$`, and any other
   pub has_escape : is_live q 92 (get_or word at 0) ≡ true →
       has_dollar_single q second (drop at word) ≡ has_dollar_single q second (drop (at + 2) word)
   has_escape is = here ∙ rw is refl
@@ -69,6 +72,7 @@ few q second [] le = refl
 few q second (b ∷ []) le = refl
 few q second (b ∷ c ∷ bs) le = absurd (omega (arith, le))
 
+-- at the last byte of a word, or past it, no such text begins
 pub has_none : (q : Quoting) (second : Bool) (word : List ℕ) (at : ℕ) → length word ≤ at + 1 →
     has_dollar_single q second (drop at word) ≡ false
 has_none q second word at le = few q second (drop at word) (omega (arith, le, length-drop at word))

@@ -13,6 +13,7 @@ use Rattle.shast.proofs.Reach.{span_fits_more}
 -- ---- no span above a limit, and an item in each simple command: each kind of part, and rows of them
 
 module _ (limit : ℕ) where
+  -- spans in a row, one that may be missing, and the body of a here-document
   abbrev pub AreIn : Row Span → Type 0
   AreIn cs = All (IsSpanWithin limit) cs
 
@@ -22,6 +23,7 @@ module _ (limit : ℕ) where
   abbrev pub HereIn : Option AHere → Type 0
   HereIn d = OfHere (IsSpanWithin limit) d
 
+  -- a substitution, a word, an item, a command, a pipeline and an and-or list
   abbrev pub SubstIn : ASubst → Type 0
   SubstIn s = InSubst (IsSpanWithin limit) IsSome s
 
@@ -47,12 +49,14 @@ module _ (limit : ℕ) where
   abbrev pub PartIn : AnAndOrPart → Type 0
   PartIn p = AreIn p.join.comments × PipelineIn p.pipeline
 
+  -- an entry, and a list
   abbrev pub EntryIn : AnEntry → Type 0
   EntryIn e = InEntry (IsSpanWithin limit) IsSome e
 
   abbrev pub EntriesIn : Entries → Type 0
   EntriesIn es = Throughout (IsSpanWithin limit) IsSome es
 
+  -- the parts of a compound command
   abbrev pub FormIn : AForm → Type 0
   FormIn m = InForm (IsSpanWithin limit) IsSome m
 
@@ -68,6 +72,7 @@ module _ (limit : ℕ) where
   abbrev pub CaseIn : ACaseItem → Type 0
   CaseIn c = InCase (IsSpanWithin limit) IsSome c
 
+  -- what holds of each in a row holds of the row as a tree has it: of spans, substitutions, items, words
   pub spans_in : (cs : Row Span) → AreIn cs → OfEach (IsSpanWithin limit) cs
   spans_in [] all = tt
   spans_in (c ∷ cs) all = (All-head (IsSpanWithin limit) c cs all, spans_in cs (All-tail (IsSpanWithin limit) c cs all))
@@ -84,6 +89,7 @@ module _ (limit : ℕ) where
   words_in [] all = tt
   words_in (w ∷ ws) all = (All-head WordIn w ws all, words_in ws (All-tail WordIn w ws all))
 
+  -- the same of the items of a `case`, and of branches
   pub cases_in : (cs : Row ACaseItem) → All CaseIn cs → InCases (IsSpanWithin limit) IsSome (cases_of cs)
   cases_in [] all = tt
   cases_in (c ∷ cs) all = (All-head CaseIn c cs all, cases_in cs (All-tail CaseIn c cs all))
@@ -92,6 +98,7 @@ module _ (limit : ℕ) where
   branches_in [] all = tt
   branches_in (b ∷ bs) all = (All-head BranchIn b bs all, branches_in bs (All-tail BranchIn b bs all))
 
+  -- the same of the commands of a pipeline, the pipelines of an and-or list, and entries
   pub pipes_in : (ps : Row APipelinePart) → All PipeIn ps → InPipes (IsSpanWithin limit) IsSome (pipeline_parts_of ps)
   pipes_in [] all = tt
   pipes_in (p ∷ ps) all =
@@ -117,6 +124,7 @@ some_pushed (h ∷ is) i = tt
 
 module _ (P R : Span → Type 0) (Q S : Items → Type 0) (p : (s : Span) → P s → R s)
     (q : (items : Items) → Q items → S items) where
+  -- where R follows from P, it does of a span that may be missing, of a row, and of a body
   some_so : (c : Option Span) → OfSome P c → OfSome R c
   some_so None so = tt
   some_so (Some s) so = p s so
@@ -129,6 +137,7 @@ module _ (P R : Span → Type 0) (Q S : Items → Type 0) (p : (s : Span) → P 
   here_so None so = tt
   here_so (Some d) so = p d.body so
 
+  -- where S follows from Q too, both do throughout a list, and in each part of it
   mutual
     pub throughout_so : (es : Entries) → Throughout P Q es → Throughout R S es
     throughout_so no_entry so = tt
@@ -149,6 +158,7 @@ module _ (P R : Span → Type 0) (Q S : Items → Type 0) (p : (s : Span) → P 
     and_or_parts_so (more_and_or operator join one ps) so =
         (each_so join.comments so.0, pipeline_so one so.1, and_or_parts_so ps so.2)
 
+    -- in a pipeline and a command
     pipeline_so : (l : APipeline) → InPipeline P Q l → InPipeline R S l
     pipeline_so (pipeline bang first rest) so = (some_so bang so.0, command_so first so.1, pipes_so rest so.2)
 
@@ -161,6 +171,7 @@ module _ (P R : Span → Type 0) (Q S : Items → Type 0) (p : (s : Span) → P 
     command_so (compound c) so = compound_so c so
     command_so (function name comments body) so = (p name so.0, each_so comments so.1, compound_so body so.2)
 
+    -- in a compound command, by its form
     compound_so : (c : ACompound) → InCompound P Q c → InCompound R S c
     compound_so (formed form span redirects) so = (form_so form so.0, p span so.1, items_so redirects so.2)
 
@@ -184,6 +195,7 @@ module _ (P R : Span → Type 0) (Q S : Items → Type 0) (p : (s : Span) → P 
     else_so no_else so = tt
     else_so (otherwise es) so = throughout_so es so
 
+    -- in the words of a `for`, and in the items of a `case`
     for_words_so : (ws : ForWords) → InForWords P Q ws → InForWords R S ws
     for_words_so no_in so = tt
     for_words_so (in_words items) so = items_so items so
@@ -200,6 +212,7 @@ module _ (P R : Span → Type 0) (Q S : Items → Type 0) (p : (s : Span) → P 
     patterns_so no_pattern so = tt
     patterns_so (more_patterns w ws) so = (word_so w so.0, patterns_so ws so.1)
 
+    -- in items, words and substitutions
     items_so : (items : Items) → InItems P Q items → InItems R S items
     items_so no_item so = tt
     items_so (more_items i is) so = (item_so i so.0, items_so is so.1)
@@ -237,6 +250,7 @@ module _ (P : Span → Type 0) (Q : Items → Type 0)
   abbrev Kept : {X : Type 0} → (X → Type 0) → X × Row Span → Type 0
   Kept In x = In x.0 × All P x.1
 
+  -- where P holds of a part and of bodies, it holds of the part with its own, and of those that are left
   fills_here : (d : Option AHere) (ts : Row Span) → OfHere P d → All P ts → Kept (OfHere P) (fill_here d ts)
   fills_here None ts so all = (tt, all)
   fills_here (Some d) [] so all = (so, all)
@@ -259,6 +273,7 @@ module _ (P : Span → Type 0) (Q : Items → Type 0)
       let y = fills_items is (fill_item i ts).1 so.1 x.1 in
       ((x.0, y.0), y.1)
 
+  -- the same throughout a list, and in each part of it
   mutual
     unfolding fill_entries fill_entry fill_content fill_and_or fill_and_or_parts fill_pipeline fill_pipes fill_command
         fill_compound fill_form fill_branch fill_branches fill_else fill_cases fill_case
@@ -294,6 +309,7 @@ module _ (P : Span → Type 0) (Q : Items → Type 0)
         let y = fills_and_or_parts ps (fill_pipeline p ts).1 so.2 x.1 in
         ((so.0, x.0, y.0), y.1)
 
+    -- in a pipeline and a command
     fills_pipeline : (p : APipeline) (ts : Row Span) → InPipeline P Q p → All P ts →
         Kept (InPipeline P Q) (fill_pipeline p ts)
     fills_pipeline (pipeline bang first rest) ts so all =
@@ -319,6 +335,7 @@ module _ (P : Span → Type 0) (Q : Items → Type 0)
         let x = fills_compound body ts so.2 all in
         ((so.0, so.1, x.0), x.1)
 
+    -- in a compound command, by its form
     fills_compound : (c : ACompound) (ts : Row Span) → InCompound P Q c → All P ts →
         Kept (InCompound P Q) (fill_compound c ts)
     fills_compound (formed form span redirects) ts so all =
@@ -343,6 +360,7 @@ module _ (P : Span → Type 0) (Q : Items → Type 0)
         let x = fills_cases cases ts so.1 all in
         ((so.0, x.0, so.2), x.1)
 
+    -- in branches, in `else`, and in the items of a `case`
     fills_branch : (b : ABranch) (ts : Row Span) → InBranch P Q b → All P ts → Kept (InBranch P Q) (fill_branch b ts)
     fills_branch (branch condition body) ts so all =
         let x = fills condition ts so.0 all in
@@ -373,6 +391,7 @@ module _ (P : Span → Type 0) (Q : Items → Type 0)
         let x = fills body ts so.2 all in
         ((so.0, so.1, x.0, so.3), x.1)
 
+  -- so it holds throughout a list that has the bodies of its level
   pub throughout_filled : (ts : Row Span) (es : Entries) → All P ts → Throughout P Q es → Throughout P Q (filled ts es)
   unfolding filled
   throughout_filled [] es all so = so
@@ -401,6 +420,7 @@ have_items limit es so = throughout_so (IsSpanWithin limit) (λ s. Unit {0}) IsS
 -- ---- where the last command of a list ends
 
 module _ (limit : ℕ) where
+  -- no word, no item and no row of items ends above the limit
   word_ends : (w : AWord) → WordIn limit w → (word_span w).«end» ≤ limit
   word_ends (word span substs) so = so.0.1
 
@@ -418,6 +438,7 @@ module _ (limit : ℕ) where
   items_end no_item so = omega arith
   items_end (more_items i is) so = last_item_ends (item_span i) is (item_ends i so.0) so.1
 
+  -- nor does a compound command, or a command
   compound_ends : (c : ACompound) → InCompound (IsSpanWithin limit) IsSome c → (compound_span c).«end» ≤ limit
   compound_ends (formed form span redirects) so = last_item_ends span redirects so.1.1 so.2
 
@@ -426,6 +447,7 @@ module _ (limit : ℕ) where
   command_ends (compound c) so = compound_ends c so
   command_ends (function name comments body) so = compound_ends body so.2
 
+  -- nor do the commands of a pipeline, or the pipelines of an and-or list
   last_command_ends : (before : Span) (cs : PipelineParts) → before.«end» ≤ limit →
       InPipes (IsSpanWithin limit) IsSome cs → (last_command before cs).«end» ≤ limit
   last_command_ends before no_pipe low so = low
@@ -445,6 +467,7 @@ module _ (limit : ℕ) where
   and_or_ends : (a : AnAndOr) → AndOrIn limit a → (and_or_span a).«end» ≤ limit
   and_or_ends (and_or first rest) so = last_pipeline_ends (pipeline_span first) rest (pipeline_ends first so.0) so.1
 
+  -- nor does the last and-or list of a list, or what stands before that where it has none
   pub commands_end_low : (before : ℕ) (es : Entries) → before ≤ limit → EntriesIn limit es →
       commands_end before es ≤ limit
   commands_end_low before no_entry low so = low

@@ -29,15 +29,18 @@ use Rattle.shgrammar.specs.Tokens.{begins_assignment, first_word, is_number, nex
 
 -- ---- tokens
 
+-- a choice of two tokens is that of the two which the edition has for them
 either : (c : Bool) (x y z w : Token) → token_in Y2017 x ≡ z → token_in Y2017 y ≡ w →
     token_in Y2017 (cond c x y) ≡ cond c z w
 either true x y z w one two = one
 either false x y z w one two = two
 
+-- in the place of a `;&` it has a `;`
 neither : (c : Bool) → token_in Y2017 (cond c tokens.SemicolonAmpersand tokens.Semicolon) ≡ tokens.Semicolon
 neither true = refl
 neither false = refl
 
+-- a word is the same token, in whatever position
 word_same : (b : Bool) → token_in Y2017 (word_of b) ≡ word_of b
 word_same true = refl
 word_same false = refl
@@ -51,6 +54,7 @@ by_position Command T p = first_same (begins_assignment T p) (reserved_at T p)
 by_position Prefix T p = word_same (begins_assignment T p)
 by_position Suffix T p = refl
 
+-- so by the byte here it has the token that its own definition says
 pub tokens_same : (position : Position) (T : List ℕ) (p : ℕ) (x : Option ℕ) →
     token_in Y2017 (token_of position T p x) ≡ token_2017 position T p x
 tokens_same position T p None = refl
@@ -69,16 +73,19 @@ tokens_same position T p (Some b) =
 
 -- ---- what a `$` begins
 
+-- a choice of two pieces is that of the two which the edition has for them
 in_mode : (mode : Mode) (c : Bool) (x y z w : Piece) → piece_in Y2017 mode x ≡ z → piece_in Y2017 mode y ≡ w →
     piece_in Y2017 mode (cond c x y) ≡ cond c z w
 in_mode mode true x y z w one two = one
 in_mode mode false x y z w one two = two
 
+-- in the place of a `$'` it has an ordinary byte
 plain_dollar : (mode : Mode) (c : Bool) →
     piece_in Y2017 mode (cond c pieces.DollarSingle pieces.Ordinary) ≡ pieces.Ordinary
 plain_dollar mode true = refl
 plain_dollar mode false = refl
 
+-- so by the byte after a `$` it has the piece that its own definition says
 pub dollars_same : (mode : Mode) (T : List ℕ) (q : ℕ) (x : Option ℕ) →
     piece_in Y2017 mode (dollar_by T q x) ≡ dollar_2017 T q x
 dollars_same mode T q None = refl
@@ -90,6 +97,7 @@ dollars_same mode T q (Some b) =
 
 -- ---- pieces
 
+-- the same at a `)` in arithmetic, at other bytes than `\`, a backquote and `$`, and at the end
 bracket_same : (n : ℕ) (two : Bool) → piece_in Y2017 Arith (bracket_by n two) ≡ bracket_by n two
 bracket_same zero true = refl
 bracket_same zero false = refl
@@ -114,6 +122,7 @@ end_same Brace = refl
 end_same DoubleBrace = refl
 end_same Arith = refl
 
+-- so by the byte here it has the piece that its own definition says
 piece_by_same : (mode : Mode) (T : List ℕ) (n p : ℕ) (x : Option ℕ) →
     piece_in Y2017 mode (piece_by T p mode n x) ≡ piece_by_2017 T p mode n x
 unfolding dollar_at
@@ -126,6 +135,7 @@ piece_by_same mode T n p (Some b) =
 
 -- ---- what a row sees
 
+-- no token of the edition ends an item of a `case` so that the next one is run too
 no_falling : (t : Token) → falls_through (token_in Y2017 t) ≡ false
 no_falling tokens.End = refl
 no_falling tokens.Newline = refl
@@ -145,6 +155,7 @@ no_falling (tokens.Reserved r) = refl
 no_falling tokens.Assignment = refl
 no_falling tokens.Word = refl
 
+-- a token, a piece and a delimiter are seen as its own definitions say
 pub token_seen : (position : Position) (g : Given) (s : State) → g.edition ≡ Y2017 →
     seen (the_token position) g s ≡ next_2017 position g.text s.at
 unfolding token_at
@@ -160,6 +171,7 @@ pub delimiter_seen : (bytes : List ℕ) (g : Given) (s : State) → g.edition �
     seen (the_delimiter bytes) g s ≡ delimiter_of bytes
 delimiter_seen bytes g s by = rw by refl
 
+-- and no token that falls through is seen
 pub none_falls : (position : Position) (g : Given) (s : State) → g.edition ≡ Y2017 →
     falls_through (seen (the_token position) g s).token ≡ false
 none_falls position g s by = rw by (no_falling (token_at position g.text (past_blanks g.text s.at)))

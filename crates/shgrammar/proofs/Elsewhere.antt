@@ -47,6 +47,7 @@ use Rattle.shgrammar.specs.declared.edition.Edition.{Edition}
 abbrev Plainly : (ℕ → Bool) → Type 0
 Plainly test = (b : ℕ) → test b ≡ true → is_plain Plain b ≡ true
 
+-- so are the tests of a letter, of a digit, of a byte of a name, and of one ordinary byte
 plain_letter : Plainly is_letter
 plain_letter b e = grind (arith, nat_tests)
 
@@ -64,6 +65,7 @@ none_passes : (test : ℕ → Bool) → Plainly test → (x : Option ℕ) → en
 none_passes test plain None e = refl
 none_passes test plain (Some b) e = must_fail (test b) (λ f. both_ways (ends (Some b)) (plain_stays b (plain b f)) e)
 
+-- whether a byte is c is a test of it, and so is whether c is read at a place
 byte_passes : (x : Option ℕ) (c : ℕ) → is_byte x c ≡ passes (λ b. b == c) x
 byte_passes None c = refl
 byte_passes (Some b) c = refl
@@ -94,6 +96,7 @@ held P y x t is so = subst (Holds P) is so
 
 module _ {edition : Edition} {T U : List ℕ} {a L : ℕ} {to : ℕ → ℕ} (K : Kept edition T U a L to) (W : WordEnds T U L to)
     (o room : ℕ) where
+  -- bytes in which each text stands from the offset o on
   abbrev B : List ℕ
   B = padded o T
 
@@ -115,6 +118,7 @@ module _ {edition : Edition} {T U : List ℕ} {a L : ℕ} {to : ℕ → ℕ} (K 
   abbrev Begins : ℕ → {X : Type 0} → X → State → Type 0
   Begins p x t = t.at ≡ L → Goes p
 
+  -- so they do from where a word is read that ends at the limit
   word_begins : (p : ℕ) → a ≤ p → Holds (Begins p) (does (a_word (level room)) Whole (given edition T o) (standing p))
   unfolding a_word contents many
   word_begins p low =
@@ -156,10 +160,12 @@ module _ {edition : Edition} {T U : List ℕ} {a L : ℕ} {to : ℕ → ℕ} (K 
       ((everywhere room).local edition T U a L to K o o B C (padded_is o T) (padded_is o U) W.there (λ e. W.closed))
       w.opener w.start (standing r) w.low) w.there)
 
+  -- where no word ends, the byte that is read at r is before the limit, and the same
   inside_of : {r : ℕ} → Goes r → ends (byte_at T r) ≡ false → Here T U a L to r
   inside_of w e = ⊎_elim (λ i. i)
       (λ at. absurd (both_ways (ends (byte_at T L)) (subst (λ r. ends (byte_at T r) ≡ false) at e) W.here)) (place_of w)
 
+  -- a word ends there in both texts, or in neither
   same_ends : {r : ℕ} → Goes r → ends (byte_at U (to r)) ≡ ends (byte_at T r)
   same_ends w = ⊎_elim (λ i. ap ends (here_byte K i))
       (λ at. subst (λ r. ends (byte_at U (to r)) ≡ ends (byte_at T r)) (sym at) (W.there ∙ sym W.here)) (place_of w)
@@ -172,6 +178,7 @@ module _ {edition : Edition} {T U : List ℕ} {a L : ℕ} {to : ℕ → ℕ} (K 
   ordinary_turn r b opener c is plain = rw (is, ordinary_by T r Plain c.nested b plain) refl
 
   module _ (test : ℕ → Bool) (plain : Plainly test) where
+    -- the byte there passes such a test in both texts, or in neither
     same_test : {r : ℕ} → Goes r → stands_in test U (to r) ≡ stands_in test T r
     unfolding stands_in
     same_test w =
@@ -180,6 +187,7 @@ module _ {edition : Edition} {T U : List ℕ} {a L : ℕ} {to : ℕ → ℕ} (K 
         (none_passes test plain (byte_at U (to L)) W.there ∙ sym (none_passes test plain (byte_at T L) W.here)))
         (place_of w)
 
+    -- by the byte that is read at r
     next_by : {r : ℕ} → Goes r → (x : Option ℕ) → byte_at T r ≡ x → passes test x ≡ true → Goes (past_byte T r)
         × (past_byte U (to r) ≡ to (past_byte T r))
     next_by w None is e = absurd cc
@@ -210,6 +218,7 @@ module _ {edition : Edition} {T U : List ℕ} {a L : ℕ} {to : ℕ → ℕ} (K 
     unfolding stands_in
     next_goes {r = r} w e = next_by w (byte_at T r) refl e
 
+    -- by how many bytes are left
     past_below : (n r : ℕ) → length T - r < n → Goes r → Goes (past test T r)
         × (past test U (to r) ≡ to (past test T r))
     past_below zero r few w = absurd (omega arith)
@@ -230,10 +239,12 @@ module _ {edition : Edition} {T U : List ℕ} {a L : ℕ} {to : ℕ → ℕ} (K 
     past_goes : {r : ℕ} → Goes r → Goes (past test T r) × (past test U (to r) ≡ to (past test T r))
     past_goes {r = r} w = past_below (suc (length T - r)) r (omega arith) w
 
+  -- an ordinary byte is read there in both texts, or in neither
   same_stands : {r : ℕ} (c : ℕ) → is_plain Plain c ≡ true → Goes r → stands U (to r) c ≡ stands T r c
   same_stands {r = r} c plain w = stands_one U (to r) c ∙ same_test (λ b. b == c) (plain_one c plain) w
       ∙ sym (stands_one T r c)
 
+  -- a word of ordinary bytes stands there in both texts, or in neither
   same_spelled : (word : List ℕ) (r : ℕ) → all_plain word ≡ true → Goes r →
       is_word_at U (to r) word ≡ is_word_at T r word
   same_spelled [] r e w = spelled_none U (to r) ∙ same_ends w ∙ sym (spelled_none T r)
@@ -245,6 +256,7 @@ module _ {edition : Edition} {T U : List ℕ} {a L : ℕ} {to : ℕ → ℕ} (K 
       ap (λ q. is_word_at U q xs) next.1 ∙ same_spelled xs (past_byte T r) plain.1 next.0)
       ∙ sym (spelled_more T r x xs)
 
+  -- the first of some words that stands there is the same, and so is the reserved word
   same_words : (ws : Row Spelling) (r : ℕ) → all_spelled ws ≡ true → Goes r →
       first_of_words U (to r) ws ≡ first_of_words T r ws
   unfolding first_of_words
@@ -256,6 +268,7 @@ module _ {edition : Edition} {T U : List ℕ} {a L : ℕ} {to : ℕ → ℕ} (K 
   unfolding reserved_words
   same_reserved {r = r} w = same_words _ r refl w
 
+  -- an assignment or a NAME begins there in both texts, or in neither; and a word is the same token
   same_assignment : {r : ℕ} → Goes r → begins_assignment U (to r) ≡ begins_assignment T r
   unfolding begins_assignment
   same_assignment w = let p = past_goes is_name plain_name w in
@@ -274,6 +287,7 @@ module _ {edition : Edition} {T U : List ℕ} {a L : ℕ} {to : ℕ → ℕ} (K 
   -- digits before the limit, which no `<` or `>` follows there
   module _ (no_less : is_byte (byte_at U (to L)) less_than_sign ≡ false)
       (no_greater : is_byte (byte_at U (to L)) greater_than_sign ≡ false) where
+    -- where neither is read here neither is there, and what is no number here is none there
     no_sign : {r : ℕ} → Goes r → (stands T r less_than_sign || stands T r greater_than_sign) ≡ false →
         (stands U (to r) less_than_sign || stands U (to r) greater_than_sign) ≡ false
     unfolding stands
@@ -337,6 +351,7 @@ pub record ItemByte (b : ℕ) : Type 0 where
   greater : (b == greater_than_sign) ≡ false
   sharp : (b == number_sign) ≡ false
 
+-- an item that a test picks is the second token where the first is none; of two that are none it picks none
 item_else : (c : Bool) (x y : Token) → (Item x → ⊥) → Item (cond c x y) → (c ≡ false) × Item y
 item_else true x y other so = absurd (other so)
 item_else false x y other so = (refl, so)
@@ -345,6 +360,7 @@ neither : (c : Bool) (x y : Token) → (Item x → ⊥) → (Item y → ⊥) →
 neither true x y one two so = one so
 neither false x y one two so = two so
 
+-- where the token is an item, its first byte is such a one, and no number stands there
 pub item_byte : (position : Position) (T : List ℕ) (p b : ℕ) → Item (token_of position T p (Some b)) → ItemByte b
     × (is_number T p ≡ false)
 item_byte position T p b so =
@@ -376,6 +392,7 @@ item_byte position T p b so =
       number.0,
     )
 
+-- where such a byte begins a token that is no number, the token is told as that of a word
 pub item_token : (position : Position) (T : List ℕ) (p b : ℕ) → ItemByte b → is_number T p ≡ false →
     token_of position T p (Some b) ≡ word_by position T p
 item_token position T p b i none =
@@ -389,6 +406,7 @@ record Begun (T : List ℕ) (p : ℕ) : Type 0 where
   no_number : is_number T p ≡ false
   no_end : ends (Some byte) ≡ false
 
+-- so it is where the token is an item and no blank stands
 begun_by : (position : Position) (T : List ℕ) (p : ℕ) (x : Option ℕ) → byte_at T p ≡ x → Item (token_of position T p x)
     → passes is_blank x ≡ false → Begun T p
 begun_by position T p None is so no_blank = absurd cc
@@ -435,6 +453,7 @@ record Follower (zs : List ℕ) : Type 0 where
   no_less : (byte == less_than_sign) ≡ false
   no_greater : (byte == greater_than_sign) ≡ false
 
+-- such a byte is what may stand after an item
 follower : (zs : List ℕ) → follows zs ≡ true → Follower zs
 follower [] e = absurd cc
 follower (c ∷ cs) e =
@@ -473,12 +492,14 @@ NameAnywhere w = (T : List ℕ) (q : ℕ) (zs : List ℕ) → drop q T ≡ w ++ 
 module _ (room : ℕ) (position : Position) (g : Given) (p n : ℕ) (word : ReadsWord room g p n)
     (place : past_continuations g.text p ≡ p) (no_blank : stands_in is_blank g.text p ≡ false)
     (item : Item (token_at position g.text p)) where
+  -- the bytes of the word, and the first that is read of them
   abbrev w : List ℕ
   w = take n (drop p g.text)
 
   here : Begun g.text p
   here = begun position g.text p item no_blank
 
+  -- a word ends after these n bytes and none ends before them, so that there is one at least
   ended : (p + n ≤ length g.text) × (ends_word g.text (p + n) ≡ true)
   ended = let lt = slice_get_within g.text (past_continuations g.text p) here.byte here.is in
       word_ends room g p n word (omega (arith, lt, place))
@@ -494,6 +515,7 @@ module _ (room : ℕ) (position : Position) (g : Given) (p n : ℕ) (word : Read
   has_byte = omega (arith, size, word_longer g.text p (p + n) (omega arith) no_end ended.1)
 
   module _ (h : Given) (q : ℕ) (zs : List ℕ) (is_there : drop q h.text ≡ w ++ zs) (following : follows zs ≡ true) where
+    -- the byte that follows there, as it stands and as it is read
     next : Follower zs
     next = follower zs following
 
@@ -506,12 +528,14 @@ module _ (room : ℕ) (position : Position) (g : Given) (p n : ℕ) (word : Read
         (raw_stays h.text (q + n) (ap (λ x. is_byte x backslash) next_raw ∙ next.no_backslash))
         ∙ next_raw
 
+    -- the same bytes stand at q
     same : take n (drop q h.text) ≡ w
     same = ap (take n) is_there ∙ take_at w zs n size
 
     K : Kept g.edition g.text h.text p (p + n) (from_to p q)
     K = kept g.edition g.text h.text p q n same
 
+    -- the byte at the limit is the one that follows, and ends a word there
     limit_byte : byte_at h.text (from_to p q (p + n)) ≡ Some next.byte
     limit_byte = let end : from_to p q (p + n) ≡ q + n = omega arith in ap (byte_at h.text) end ∙ next_byte
 
@@ -523,12 +547,14 @@ module _ (room : ℕ) (position : Position) (g : Given) (p n : ℕ) (word : Read
       closed = ap (λ x. is_byte x left_parenthesis) limit_byte ∙ next.no_open;
     }
 
+    -- the pieces go on from p, and the byte that is read there is the same
     goes : Goes K W g.offset room p
     goes = word_goes K W g.offset room p n (omega arith) refl word
 
     inside : Here g.text h.text p (p + n) (from_to p q) p
     inside = inside_of K W g.offset room goes no_end
 
+    -- so is the token
     same_token : token_at position h.text (from_to p q p) ≡ token_at position g.text p
     unfolding token_at
     same_token =
@@ -540,6 +566,7 @@ module _ (room : ℕ) (position : Position) (g : Given) (p n : ℕ) (word : Read
         ∙ sym (item_token position g.text p here.byte here.first here.no_number)
         ∙ ap (token_of position g.text p) (sym here.is)
 
+    -- p goes to q, and where a NAME stands at p one stands there
     begin : from_to p q p ≡ q
     begin = omega arith
 
@@ -549,6 +576,7 @@ module _ (room : ℕ) (position : Position) (g : Given) (p n : ℕ) (word : Read
     -- over the bytes B it has this shape
     module _ (B : List ℕ) (stands_in_B : g.text ≡ drop g.offset B) (ss : Shape SubstsOf)
         (shape : shape_of_word B word.0 ≡ shape_word w ss) where
+      -- a word of that shape is read there, whatever bytes the other text stands in
       word_there : (C : List ℕ) → h.text ≡ drop h.offset C →
           WordOf room (given g.edition h.text h.offset) q n C (shape_word w ss)
       unfolding ends_word stands
@@ -557,6 +585,7 @@ module _ (room : ℕ) (position : Position) (g : Given) (p n : ℕ) (word : Read
           (ap (λ x. is_byte x left_parenthesis) next_byte ∙ next.no_open) B C stands_in_B stands_in_C in
           (v.0, (v.1.0, v.1.1 ∙ shape))
 
+      -- and all else holds that is said of an item
       read_at : ReadAt room position (token_at position g.text p) w ss (given g.edition h.text h.offset) q
       read_at = record {
         place = subst (λ r. past_continuations h.text r ≡ r) begin (inside.there ∙ ap (from_to p q) place);
@@ -566,6 +595,7 @@ module _ (room : ℕ) (position : Position) (g : Given) (p n : ℕ) (word : Read
             (sym size) (word_there C stands_in_C);
       }
 
+  -- so it is wherever these bytes stand, and of a NAME too
   item_there : (B : List ℕ) → g.text ≡ drop g.offset B → (ss : Shape SubstsOf) →
       shape_of_word B word.0 ≡ shape_word w ss → ItemAnywhere g.edition room position (token_at position g.text p) w ss
   item_there B stands_in_B ss shape =

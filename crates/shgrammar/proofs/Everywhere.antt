@@ -38,6 +38,7 @@ module _ {g : Given} {limit : ℕ} where
   module _ {inner : Inner} (fine : Fine g limit inner) where
     -- ---- compound commands
 
+    -- what ends by the limit has no span above it: a reserved word or a bracket, a closer, a branch
     reserved_or_paren_in : (text : Spelled) (paren : Bool) (position : Position) (s : State) →
         UpTo g limit (reserved_or_paren text paren position) (λ x. IsSpanWithin limit x.0) s
     unfolding reserved_or_paren
@@ -52,9 +53,11 @@ module _ {g : Given} {limit : ℕ} where
     branch_in n s = first (list_in fine n s)
         (λ c t one. after (λ k u. first (list_in fine k.1 u) (λ b v two. gives (one, two))))
 
+    -- the branches so far
     abbrev BranchesIn : BranchesSoFar → Type 0
     BranchesIn b = All (BranchIn limit) b.branches
 
+    -- one more branch after an `elif`, and `else` with what it runs, or none of them
     elif_in : (b : BranchesSoFar) (s : State) → BranchesIn b → UpTo g limit (elif_turn inner b) (Stepped BranchesIn) s
     unfolding elif_turn
     elif_in b s so =
@@ -71,6 +74,7 @@ module _ {g : Given} {limit : ℕ} where
     abbrev ClosedIn : {X : Type 0} → (X → Type 0) → Closed X → Type 0
     ClosedIn P x = P x.what × IsSpanWithin limit x.closer
 
+    -- an `if`, a loop and a group, from just after their openers
     if_in : (n : Next) (s : State) → UpTo g limit (an_if inner n) (ClosedIn (FormIn limit)) s
     unfolding an_if
     if_in n s =
@@ -92,6 +96,7 @@ module _ {g : Given} {limit : ℕ} where
     unfolding a_group
     group_in c n s = first (list_in fine n s) (λ l t so. first (closing_in c l.1 t) (λ k u last. gives (so, last)))
 
+    -- the word after `for`, and the comments of its head up to `do`
     for_name_in : (n : Next) (s : State) → UpTo g limit (a_for_name inner n) (λ x. WordIn limit x.0) s
     unfolding a_for_name
     for_name_in n s =
@@ -105,9 +110,11 @@ module _ {g : Given} {limit : ℕ} where
     sequential_sep_in cs n s all = after (λ x t. first (linebreak_in cs x.1 t all)
         (λ l u so. picks _ (gives so) (stopped inner l.next)))
 
+    -- the words and the comments of that head
     abbrev HeadIn : Headed → Type 0
     HeadIn h = ForWordsIn limit h.words × AreIn limit h.comments
 
+    -- one more word after `in`, all of them, and the head
     word_turn_in : (i : ItemsSoFar) (s : State) → ItemsIn limit i →
         UpTo g limit (word_turn inner i) (Stepped (ItemsIn limit)) s
     unfolding word_turn
@@ -128,12 +135,14 @@ module _ {g : Given} {limit : ℕ} where
     for_head_in n s = after (λ x t. first (linebreak_in [] x.1 t (All-nil (IsSpanWithin limit)))
         (λ l u so. picks _ (for_words_in l.join.comments u so) (gives (tt, so))))
 
+    -- a list with comments before it, as its first entries
     remarks_in : (cs : Row Span) (es : Entries) → AreIn limit cs → EntriesIn limit es →
         EntriesIn limit (after_remarks cs es)
     remarks_in [] es all so = so
     remarks_in (c ∷ cs) es all so =
         ((All-head (IsSpanWithin limit) c cs all, tt), remarks_in cs es (All-tail (IsSpanWithin limit) c cs all) so)
 
+    -- a `for`, the comments of its head in its body
     for_in : (n : Next) (s : State) → UpTo g limit (a_for inner n) (ClosedIn (FormIn limit)) s
     unfolding a_for
     for_in n s =
@@ -143,14 +152,17 @@ module _ {g : Given} {limit : ℕ} where
 
     -- ---- `case`
 
+    -- the word after `case`
     case_word_in : (n : Next) (s : State) → UpTo g limit (a_case_word inner n) (λ x. WordIn limit x.0) s
     unfolding a_case_word
     case_word_in n s = picks (begins_word n.token) (first (word_in fine s) (λ w t one. after (λ m u. gives one)))
         (stopped inner n)
 
+    -- the patterns so far
     abbrev PatternsIn : PatternsSoFar → Type 0
     PatternsIn p = All (WordIn limit) p.patterns
 
+    -- a pattern, one more after a `|`, a turn over them, and all patterns of an item
     pattern_in : (ws : Row AWord) (s : State) → All (WordIn limit) ws → UpTo g limit (a_pattern inner ws) PatternsIn s
     unfolding a_pattern
     pattern_in ws s all = first (word_in fine s)
@@ -175,10 +187,12 @@ module _ {g : Given} {limit : ℕ} where
         (first (pattern_in [] s (All-nil (WordIn limit)))
         (λ p t so. repeats PatternsIn (pattern_turn inner) pattern_turn_in p t so)) (stopped inner n)
 
+    -- the body of an item, which may hold no command
     body_in : (n : Next) (s : State) → UpTo g limit (a_body inner n) (ListIn limit) s
     unfolding a_body
     body_in n s = lines_in fine n s
 
+    -- the last token of a body, or what stands before it, ends at most at the limit
     parted_or : (parted : Option ℕ) (other : ℕ) → PartedIn limit parted → other ≤ limit → unwrap_or parted other ≤ limit
     parted_or (Some p) other so low = so
     parted_or None other so low = low
@@ -189,9 +203,11 @@ module _ {g : Given} {limit : ℕ} where
         parted_or l.parted _ part (commands_end_low limit before (entries_of l.entries) low
         (entries_in limit l.entries all))
 
+    -- where an item ends, and the comments after it
     abbrev ItemEndIn : ItemEnd → Type 0
     ItemEndIn e = (e.at ≤ limit) × AreIn limit e.comments
 
+    -- `;;` or `;&`, and the end of an item, which may have neither
     ender_in : (b : Bool) (s : State) → UpTo g limit (an_ender b) ItemEndIn s
     unfolding an_ender
     ender_in b s =
@@ -209,6 +225,7 @@ module _ {g : Given} {limit : ℕ} where
     abbrev CasesIn : CasesSoFar → Type 0
     CasesIn c = All (CaseIn limit) c.items × AreIn limit c.comments
 
+    -- one more item, or none before an `esac`
     one_case_in : (c : CasesSoFar) (s : State) → CasesIn c → UpTo g limit (one_case inner c) (Stepped CasesIn) s
     unfolding one_case
     one_case_in c s so =
@@ -228,6 +245,7 @@ module _ {g : Given} {limit : ℕ} where
     unfolding case_turn
     case_turn_in c s so = picks (is_closing closings.Esac c.next.token) (gives so) (one_case_in c s so)
 
+    -- a `case` up to its `in` and the comments after it, and as a whole
     case_head_in : (n : Next) (s : State) →
         UpTo g limit (a_case_head inner n) (λ h. WordIn limit h.0 × AreIn limit h.1) s
     unfolding a_case_head
@@ -243,6 +261,7 @@ module _ {g : Given} {limit : ℕ} where
         (λ c u all. first (closing_in closings.Esac c.next u)
         (λ e v last. gives ((one.0, cases_in limit c.items all.0, spans_in limit c.comments all.1), last))))
 
+    -- what an opener opens, from just after it
     form_in : (o : Opener) (n : Next) (s : State) → UpTo g limit (a_form inner o n) (ClosedIn (FormIn limit)) s
     form_in openers.Brace n s = first (group_in closings.Brace n s) (λ l t so. gives so)
     form_in openers.Paren n s = first (group_in closings.Paren n s) (λ l t so. gives so)
@@ -263,6 +282,7 @@ module _ {g : Given} {limit : ℕ} where
 
     -- ---- substitutions
 
+    -- what stands in a command substitution, up to its `)`
     substitution_list_in : (s : State) → UpTo g limit (substitution_list inner) (EntriesIn limit) s
     unfolding substitution_list
     substitution_list_in s =
@@ -270,6 +290,7 @@ module _ {g : Given} {limit : ℕ} where
         (λ l u all. picks (is_closing closings.Paren l.next.token)
         (after (λ w z. after (λ x v. gives (entries_in limit l.list.entries all.0)))) (stopped inner l.next)))
 
+    -- the substitutions so far and one more, with the bodies of its here-documents
     substitution_in : (b : ℕ) (ss : Row ASubst) (s : State) → b ≤ g.offset + s.at → All (SubstIn limit) ss →
         UpTo g limit (a_substitution inner b ss) (All (SubstIn limit)) s
     unfolding a_substitution one_substitution
@@ -280,12 +301,14 @@ module _ {g : Given} {limit : ℕ} where
 
     -- ---- functions
 
+    -- a compound command under a name, with the comments before it
     under_in : (name : Span) (cs : Row Span) (c : ACommand) → IsSpanWithin limit name → AreIn limit cs →
         CommandIn limit c → CommandIn limit (under_name name cs c)
     under_in name cs (simple items) one all so = so
     under_in name cs (compound body) one all so = (one, spans_in limit cs all, so)
     under_in name cs (function other ds body) one all so = so
 
+    -- a function, from just after its name on
     function_in : (name : Span) (s : State) → IsSpanWithin limit name →
         UpTo g limit (a_function inner name) (λ c. CommandIn limit c.0) s
     unfolding a_function
@@ -296,6 +319,7 @@ module _ {g : Given} {limit : ℕ} where
 
     -- ---- lines
 
+    -- the entries of a line, without the bodies of its here-documents and with them
     open_line_in : (blank : Bool) (s : State) → UpTo g limit (an_open_line inner blank) (λ x. All (EntryIn limit) x.0) s
     unfolding an_open_line
     open_line_in blank s = after (λ n t. first
@@ -312,6 +336,7 @@ module _ {g : Given} {limit : ℕ} where
 -- ---- where so many constructs may be open
 
 module _ (g : Given) (limit : ℕ) where
+  -- what may be opened, by how many more may be
   pub level_in : (room : ℕ) → Fine g limit (level room)
   unfolding level
   level_in zero = record {
@@ -340,6 +365,7 @@ line_throughout edition T o blank newline es t is limit le =
     subst (Holds (λ (x : Row AnEntry × Bool) (u : State). o + u.at ≤ limit →
     Throughout (IsSpanWithin limit) IsSome (entries_of x.0))) is told le
 
+-- the same of the kind of a line that has these entries
 kind_everywhere : (limit : ℕ) (es : Row AnEntry) (newline : Bool) →
     Throughout (IsSpanWithin limit) IsSome (entries_of es) → EntrySpansWithin limit (kind_of es newline)
 kind_everywhere limit [] true so = tt

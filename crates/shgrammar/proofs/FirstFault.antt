@@ -20,6 +20,7 @@ module _ (edition : Edition) (B : List ℕ) where
   module _ (f h : LinesSoFar → ℕ → AScript) (so to : LinesSoFar) (p : ℕ)
       (rest : (es fs : Row AnEntry) (t : State) →
       (f (with_line so es) (p + t.at)).fault ≡ (h (with_line to fs) (p + t.at)).fault) where
+    -- where a line goes the same way twice, and what follows has the same fault, the fault is the same
     same_by : (x y z : Read (Row AnEntry × Bool)) → Like SameEnd x z → Like SameEnd y z →
         (script_by f so p x).fault ≡ (script_by h to p y).fault
     same_by (Ok ((es, true), s)) (Ok ((fs, true), t)) (Ok ((gs, c), u)) one two =
@@ -57,6 +58,7 @@ module _ (edition : Edition) (B : List ℕ) where
   beyond_kept p es t is = ap (λ (y : AScript). y.fault)
       (line_more edition B nothing_yet p false refl es t (with_line nothing_yet es) is refl) ∙ whatever_on _ _ _
 
+  -- the same of a line that is read without its tree
   beyond_by : (p : ℕ) (t : State) (x z : Read (Row AnEntry × Bool)) (fs : Row AnEntry) →
       line_from edition B Whole false p ≡ x → z ≡ Ok ((fs, true), t) → Like SameEnd x z →
       first_fault_from edition B p ≡ first_fault_from edition B (p + t.at)
@@ -102,6 +104,7 @@ module _ (edition : Edition) (B : List ℕ) where
   here p f is = here_by p f (line_from edition B Whole false p) (line_from edition B Nothing false p) refl is
       (like false p)
 
+  -- and it stands at most at the end of the script
   pub here_within : (p : ℕ) (f : Fault) → p ≤ length B → line_from edition B Nothing false p ≡ Err f →
       f.at ≤ p + length (drop p B) → (first_fault_from edition B p ≡ Some f) × (f.at ≤ length B)
   here_within p f within is high = (here p f is, omega (arith, high, within, length-drop p B))

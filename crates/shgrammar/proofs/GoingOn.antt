@@ -28,6 +28,7 @@ use Rattle.shgrammar.specs.declared.edition.Edition.{Edition}
 
 module _ {edition : Edition} {T U : List ℕ} {a M : ℕ} {to : ℕ → ℕ} {limit : ℕ} (E : ListEnds edition T U a M to limit)
     (o o2 : ℕ) (B B2 : List ℕ) (stands : T ≡ drop o B) (stands_there : U ≡ drop o2 B2) where
+  -- good places, and what is given of the two texts
   abbrev G : ℕ → Type 0
   G p = Good T a M p
 
@@ -46,6 +47,7 @@ module _ {edition : Edition} {T U : List ℕ} {a M : ℕ} {to : ℕ → ℕ} {li
   same_texts p q low from le = sym (raw_at B g stands p q) ∙ sym (same_raw E p q low from le)
       ∙ raw_at B2 h stands_there (to p) (to q)
 
+  -- two places are as far from each other there
   apart : (p q : ℕ) → a ≤ p → p ≤ q → to q ≡ to p + (q - p)
   apart p q from le = let is : p + (q - p) ≡ q = omega (arith, le) in ap to (sym is) ∙ on E p (q - p) from
 
@@ -55,9 +57,11 @@ module _ {edition : Edition} {T U : List ℕ} {a M : ℕ} {to : ℕ → ℕ} {li
 
   -- ---- what ends at a good place began at one
 
+  -- the end is at a or past it; if it is good the start is, and bodies of the same texts stay such
   abbrev pub Back : {X : Type 0} → State → X → State → Type 0
   Back s x t = (a ≤ t.at) × (G t.at → G s.at) × (G t.at → SameBodies s.bodies → SameBodies t.bodies)
 
+  -- the span of two places, in the other text
   span_there : (p q : ℕ) → a ≤ p → p ≤ q → move_span E o o2 (span o p q) ≡ span o2 (to p) (to q)
   span_there p q from le =
       let one : to p ≡ to a + (p - a) = apart a p (omega arith) from in
@@ -76,6 +80,7 @@ module _ {edition : Edition} {T U : List ℕ} {a M : ℕ} {to : ℕ → ℕ} {li
       ∙ sym (ap (map (text_at B2)) (map-append (move_span E o o2) bs (span o p q ∷ []))
       ∙ map-append (text_at B2) (map (move_span E o o2) bs) (move_span E o o2 (span o p q) ∷ []))
 
+  -- by where the line of a document's delimiter begins
   one_same : (w : Waiting) (ws : Row Waiting) (bodies : Row Span) (p : ℕ) (x : Row Span × ℕ) → a ≤ p → x.1 ≤ M →
       ((bs : Row Span) (q : ℕ) → a ≤ q → bodies_from g ws bs q ≡ Ok x → SameBodies bs → SameBodies x.0)
       → (d : Option ℕ) → delimiter_from T w p ≡ d → body_by (bodies_from g ws) g w bodies p d ≡ Ok x → SameBodies bodies
@@ -88,6 +93,7 @@ module _ {edition : Edition} {T U : List ℕ} {a M : ℕ} {to : ℕ → ℕ} {li
       more (bodies ++ span o p q ∷ []) (past_line T q) (omega (arith, from, one.0, le)) read
       (more_same bodies p q from one.0 (omega (arith, le, onward, high_x)) same)
 
+  -- so after all bodies that are read, and after each change
   bodies_same : (ws : Row Waiting) (bodies : Row Span) (p : ℕ) (x : Row Span × ℕ) → a ≤ p → x.1 ≤ M →
       bodies_from g ws bodies p ≡ Ok x → SameBodies bodies → SameBodies x.0
   unfolding bodies_from
@@ -113,6 +119,7 @@ module _ {edition : Edition} {T U : List ℕ} {a M : ℕ} {to : ℕ → ℕ} {li
   change_same bodies_here s t from is high_t same =
       state_same s t from high_t (bodies_from g s.waiting s.bodies s.at) refl is same
 
+  -- all this holds of each form
   pub good : {X : Type 0} (r : Form X) (s : State) → a ≤ s.at → Tells Whole g r (Back s) s
   good (give x) s from = record { told = (from, λ e. e, λ e same. same) }
   good (see l) s from = record { told = (from, λ e. e, λ e same. same) }
@@ -155,12 +162,15 @@ module _ {edition : Edition} {T U : List ℕ} {a M : ℕ} {to : ℕ → ℕ} {li
   abbrev pub Found : {X Y : Type 0} → (X → Y → Type 0) → Form Y → State → X → State → Type 0
   Found {Y = Y} S q s x t = G t.at → (y : Y) × ((does q Whole h (over s) ≡ Ok (y, over t)) × S x y)
 
+  -- so it is from each state at a or past it
   pub record Goes {X Y : Type 0} (S : X → Y → Type 0) (r : Form X) (q : Form Y) : Type 0 where
     pub go : (s : State) → a ≤ s.at → Holds (Found S q s) (does r Whole g s)
 
+  -- whatever was read
   abbrev pub All : {X Y : Type 0} → X → Y → Type 0
   All x y = Unit {0}
 
+  -- what is given, one more element, and a fault
   pub go_give : {X Y : Type 0} {S : X → Y → Type 0} {x : X} {y : Y} → S x y → Goes S (give x) (give y)
   go_give {y = y} so = record { go = λ s from. λ e. (y, (refl, so)) }
 
@@ -180,6 +190,7 @@ module _ {edition : Edition} {T U : List ℕ} {a M : ℕ} {to : ℕ → ℕ} {li
   pub go_any : {X : Type 0} {l : Sight X} → Goes All (see l) (see l)
   go_any {l = l} = record { go = λ s from. λ e. (seen l h (over s), (refl, tt)) }
 
+  -- a move
   pub go_move : {m : Move} → Goes All (move m) (move m)
   go_move {m = m} = record {
     go =
@@ -216,6 +227,7 @@ module _ {edition : Edition} {T U : List ℕ} {a M : ℕ} {to : ℕ → ℕ} {li
   module _ {X Y V W : Type 0} {S : X → Y → Type 0} {R : V → W → Type 0} {r : Form X} {q : Form Y} {f : X → Form V}
       {k : Y → Form W} (first : Goes S r q) (rest : (x : X) (y : Y) → S x y → Goes R (f x) (k y))
       (s : State) (from : a ≤ s.at) where
+    -- by what the first form gives, and what the second does
     then_last : (x : X) (t : State) → a ≤ t.at →
         (G t.at → (y : Y) × ((does q Whole h (over s) ≡ Ok (y, over t)) × S x y)) → (z : Read V) →
         does (f x) Whole g t ≡ z → Holds (Back t) z
@@ -347,16 +359,19 @@ module _ {edition : Edition} {T U : List ℕ} {a M : ℕ} {to : ℕ → ℕ} {li
 
   module _ {A C : Type 0} (S : A → C → Type 0) (turn : A → Form (Step A)) (turn2 : C → Form (Step C))
       (each : (x : A) (y : C) → S x y → Goes (SameStep S) (turn x) (turn2 y)) where
+    -- a turn in each text
     abbrev one : A → State → Read (Step A)
     one x s = does (turn x) Whole g s
 
     abbrev two : C → State → Read (Step C)
     two y s = does (turn2 y) Whole h s
 
+    -- what the turns give up to a good place, the others give there, and S holds of the two
     abbrev Looped : C → State → A → State → Type 0
     Looped y s v u = G u.at → (z : C) × ((turns h two y (over s) ≡ Ok (z, over u)) × S v z)
 
     module _ (y : C) (s t : State) (b : A) where
+      -- by what the turn gives there: the last, one that does not lead on, or one before others
       last_there : (z : Step C) → two y (over s) ≡ Ok (z, over t) → SameStep S (done b) z → (c : C)
           × ((turns h two y (over s) ≡ Ok (c, over t)) × S b c)
       last_there (again c) is so = absurd so
@@ -376,6 +391,7 @@ module _ {edition : Edition} {T U : List ℕ} {a M : ℕ} {to : ℕ → ℕ} {li
       more_there v u on (done c) is so rest = absurd so
 
     module _ (x : A) (y : C) (s : State) (from : a ≤ s.at) where
+      -- a turn that leads on with those after it, and any turn
       more_by : (b : A) (t : State) → s.at ≤ t.at → leads_on g s t ≡ true →
           Holds (Found (SameStep S) (turn2 y) s) (Ok (again b, t)) →
           ((c : C) → S b c → Holds (Looped c t) (turns g one b t))
@@ -406,6 +422,7 @@ module _ {edition : Edition} {T U : List ℕ} {a M : ℕ} {to : ℕ → ℕ} {li
               (λ e. let w = found e in rest_there y s t b
               (same_leads E.kept o o2 s t from onward (omega (arith, high E e)) ∙ on) w.0 w.1.0 w.1.1)
 
+    -- by how many bytes are left
     all_turns : (n : ℕ) (x : A) (y : C) (s : State) → length T - s.at < n → a ≤ s.at → S x y →
         Holds (Looped y s) (turns g one x s)
     all_turns zero x y s few from so = absurd (omega (arith, few))
@@ -413,6 +430,7 @@ module _ {edition : Edition} {T U : List ℕ} {a M : ℕ} {to : ℕ → ℕ} {li
         turn_by x y s from (one x s) refl (good (turn x) s from).told (no_form_goes_back (turn x) Whole g s).told
         ((each x y so).go s from) (λ b c t on less same. all_turns n b c t (omega (arith, less, few)) on same)
 
+    -- a repetition
     pub go_many : (x : A) (y : C) → S x y → Goes S (many turn x) (many turn2 y)
     unfolding many
     go_many x y so = record { go = λ s from. all_turns (suc (length T - s.at)) x y s (omega arith) from so }

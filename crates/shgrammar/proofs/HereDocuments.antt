@@ -13,16 +13,19 @@ use Rattle.shgrammar.specs.HereDocuments.{ADelimiter, delimiter_of, unquoted, de
 
 -- ---- delimiters
 
+-- the delimiter of this text, of a word of which no part is quoted, and of one that has a quoted part
 abbrev plain : List ℕ → Option ADelimiter
 plain text = Some (record { text = text; literal = false })
 
 abbrev quoted : List ℕ → Option ADelimiter
 quoted text = Some (record { text = text; literal = true })
 
+-- a continuation is no part of a delimiter, and does not quote
 pub bare_word : delimiter_of (codes "E\\\nND") ≡ plain (codes "END")
 unfolding unquoted stands past_continuations count_joined bare
 bare_word = refl
 
+-- what quotes is left out: a backslash, quotes around nothing, and quotes around other quotes
 pub escaped : delimiter_of (codes "\\E\\$(") ≡ quoted (codes "E$(")
 unfolding unquoted stands past_continuations count_joined bare
 escaped = refl
@@ -35,6 +38,7 @@ pub in_quotes : delimiter_of (codes "a\"b'c\"'d\"e\\'\"\"f") ≡ quoted (codes "
 unfolding unquoted stands past_continuations count_joined bare
 in_quotes = refl
 
+-- in double quotes a backslash stays before some bytes; in single quotes all bytes stay
 pub in_double_quotes : delimiter_of (codes "\"\\$\\a\\\n\\\"\\\\\\`\"") ≡ quoted (codes "$\\a\"\\`")
 unfolding unquoted stands past_continuations count_joined bare
 in_double_quotes = refl
@@ -43,6 +47,7 @@ pub in_single_quotes : delimiter_of (codes "'$(a)`\\\n${'") ≡ quoted (codes "$
 unfolding unquoted stands past_continuations count_joined bare
 in_single_quotes = refl
 
+-- a `$` before a name is a part of a delimiter, and so is `$$`, whatever follows that
 pub parameters : delimiter_of (codes "$x$$\\\n$$a") ≡ plain (codes "$x$$$$a")
 unfolding unquoted stands past_continuations count_joined bare
 parameters = refl
@@ -51,10 +56,12 @@ pub pid : delimiter_of (codes "\"$\\\n$(a)\"") ≡ quoted (codes "$$(a)")
 unfolding unquoted stands past_continuations count_joined bare
 pid = refl
 
+-- after `$$` a `$(` opens a substitution, and a word with one is no delimiter
 pub after_pid : delimiter_of (codes "\"$$$(a)\"") ≡ None
 unfolding unquoted stands past_continuations count_joined bare
 after_pid = refl
 
+-- nor is one with an expansion, or with text in backquotes
 pub expansion : delimiter_of (codes "a$\\\n{b}") ≡ None
 unfolding unquoted stands past_continuations count_joined bare
 expansion = refl
@@ -65,10 +72,12 @@ backquotes = refl
 
 -- ---- bodies
 
+-- a document that waits: whether it is literal, whether tabs are taken off, its operator and delimiter
 abbrev waits : Bool → Bool → ℕ → List ℕ → Waiting
 waits literal strip operator delimiter =
     record { operator = operator; delimiter = delimiter; literal = literal; strip = strip }
 
+-- the first line may be that of the delimiter
 pub first_line : delimiter_from (codes "E\nE\n") (waits false false 0 (codes "E")) 0 ≡ Some 0
 unfolding delimiter_on delimiter_below at_end raw_past count_front
 first_line = refl
@@ -86,6 +95,7 @@ pub literal : delimiter_from (codes "a\\\nE\nE\n") (waits true false 0 (codes "E
 unfolding delimiter_on delimiter_below at_end raw_past count_front
 literal = refl
 
+-- tabs before a delimiter are taken off only after `<<-`, and a space never is
 pub tabs : delimiter_from (codes "\tE\n") (waits false false 0 (codes "E")) 0 ≡ None
 unfolding delimiter_on delimiter_below at_end raw_past count_front
 tabs = refl
@@ -99,6 +109,7 @@ pub no_line : delimiter_from (codes "a\n") (waits true false 0 []) 0 ≡ None
 unfolding delimiter_on delimiter_below at_end raw_past count_front
 no_line = refl
 
+-- an empty line is that of an empty delimiter
 pub empty_line : delimiter_from (codes "a\n\n") (waits true false 0 []) 0 ≡ Some 2
 unfolding delimiter_on delimiter_below at_end raw_past count_front
 empty_line = refl
@@ -111,6 +122,7 @@ pub two_bodies :
 unfolding bodies_from delimiter_on delimiter_below at_end raw_past count_front
 two_bodies = refl
 
+-- where the second has no line of its delimiter, the fault stands at its operator
 pub second_unclosed :
     bodies_from (given Y2017 (codes "<<E <<F\na\nE\n") 100)
     (waits false false 100 (codes "E") ∷ waits false false 104 (codes "F") ∷ []) [] 8

@@ -67,6 +67,7 @@ module _ (keep : Keep) (g : Given) where
             (λ a t so. (rest a t so).told);
       }
 
+  -- one outcome or the other, by a test
   when_by : {X : Type 0} (P : X → State → Type 0) (test : Bool) (x y : Read X) → Holds P x → Holds P y →
       Holds P (cond test x y)
   when_by P true x y one two = one
@@ -77,6 +78,7 @@ module _ (keep : Keep) (g : Given) where
       Tells q P s → Tells (when f r q) P s
   tells_when {P = P} {f = f} {s = s} one two = record { told = when_by P (seen f g s) _ _ one.told two.told }
 
+  -- what was read, with its span
   token_by : {X : Type 0} (P : X → State → Type 0) (Q : X × Span → State → Type 0) (s : State) (x : Read X) → Holds P x
       → ((a : X) (t : State) → P a t → Q (a, span g.offset s.at t.at) t) →
       Holds Q (x ▸ λ a t. Ok ((a, span g.offset s.at t.at), t))
@@ -150,9 +152,11 @@ module _ (keep : Keep) (g : Given) where
   module _ {A : Type 0} (turn : A → Form (Step A)) (P R Q : A → State → Type 0)
       (each : (a : A) (s : State) → P a s → Tells (turn a) (Stepped R Q) s)
       (goes : (a : A) (s : State) → R a s → P a s) (ends : (a : A) (s : State) → R a s → Q a s) where
+    -- what a turn gives
     f : A → State → Read (Step A)
     f a s = does (turn a) keep g s
 
+    -- Q holds at the end, by what the first turn gives, and then of all turns
     turn_by : (a : A) (s : State) (x : Read (Step A)) → f a s ≡ x → Holds (Stepped R Q) x
         → ((b : A) (t : State) → length g.text - t.at < length g.text - s.at → P b t → Holds Q (turns g f b t)) →
         Holds Q (turns g f a s)
@@ -266,6 +270,7 @@ module _ {g : Given} where
 
 -- ---- no form goes back
 
+-- past what closes a construct, past a byte that is taken, and past a comment
 closer_low : (mode : Mode) (T : List ℕ) (p : ℕ) → p ≤ past_closer T mode p
 closer_low Plain T p = omega arith
 closer_low Double T p = omega (arith, after_low T p)
@@ -281,6 +286,7 @@ comment_low : (T : List ℕ) (p : ℕ) → p ≤ past_comment T p
 unfolding past_comment
 comment_low T p = cond_both (raw_stands T p number_sign) _ _ (λ n. p ≤ n) (λ e. next_newline_low T p) (λ e. omega arith)
 
+-- so no move goes back
 pub move_low : (m : Move) (T : List ℕ) (p : ℕ) → p ≤ to m T p
 move_low one_byte T p = omega (arith, after_low T p)
 move_low continuations T p = place_low T p
@@ -294,6 +300,7 @@ move_low a_comment_on T p = comment_low T p
 move_low the_reserved T p = reserved_low T p
 move_low the_digits T p = digits_low T p
 
+-- the state after bodies does not go back, where their end does not
 state_low : (s t : State) (x : Result (Row Span × ℕ) Fault) → ((y : Row Span × ℕ) → x ≡ Ok y → s.at ≤ y.1) →
     state_by x ≡ Ok t → s.at ≤ t.at
 state_low s t (Ok y) low is = let same : record { at = y.1; waiting = []; bodies = y.0 } ≡ t = cc in
@@ -311,6 +318,7 @@ change_low bodies_here g s t is =
 abbrev pub AtOrAfter : {X : Type 0} → State → X → State → Type 0
 AtOrAfter s x t = s.at ≤ t.at
 
+-- so it is of each form
 pub no_form_goes_back : {X : Type 0} (r : Form X) (keep : Keep) (g : Given) (s : State) → Tells keep g r (AtOrAfter s) s
 no_form_goes_back (give x) keep g s = record { told = omega arith }
 no_form_goes_back (see f) keep g s = record { told = omega arith }

@@ -27,6 +27,7 @@ use Rattle.shgrammar.proofs.Ahead.{past_byte_is}
 use Rattle.shgrammar.proofs.NoFurther.{less_same}
 use Rattle.shgrammar.specs.declared.edition.Edition.{Edition}
 
+-- one byte is taken, or a backslash and the next one
 taken_one : (T : List ℕ) (q : ℕ) → raw_stands T q backslash ≡ false → past_taken T q ≡ q + 1
 unfolding past_taken
 taken_one T q e = rw e refl
@@ -48,6 +49,7 @@ module _ {edition : Edition} {T U : List ℕ} {a L : ℕ} {to : ℕ → ℕ} (K 
   abbrev pub Clear : ℕ → Type 0
   Clear p = is_byte (byte_at T p) backslash ≡ false
 
+  -- what is read at p before the limit, and is no backslash, is read there too
   raw_clear : (p : ℕ) → Clear p → raw_stands T (past_continuations T p) backslash ≡ true → ⊥
   unfolding raw_stands
   raw_clear p e f = both_ways _ e f
@@ -62,11 +64,13 @@ module _ {edition : Edition} {T U : List ℕ} {a L : ℕ} {to : ℕ → ℕ} (K 
       let le = place_low T (past_byte T p) in
       here K p from (omega (arith, lt, le, past_byte_is T p)) (λ f. omega (arith, lt, le, past_byte_is T p))
 
+  -- where a byte before the limit is read, the place is not past it
   pub high : {p : ℕ} → In p → p ≤ L
   high {p = p} i = let lt = i.inside in let le = place_low T p in omega (arith, lt, le)
 
   -- ---- a byte as it stands, and the one after a backslash
 
+  -- the place after it is the same there, and so is whether the text ends
   pub same_taken : (q : ℕ) → a ≤ q → q < L → past_taken U (to q) ≡ to (past_taken T q)
   unfolding past_taken
   same_taken q from lt =
@@ -78,6 +82,7 @@ module _ {edition : Edition} {T U : List ℕ} {a L : ℕ} {to : ℕ → ℕ} (K 
   unfolding at_end
   same_end q from lt = ap is_none (K.same q from lt)
 
+  -- what is no last backslash here is none there
   same_last : (q : ℕ) → a ≤ q → past_taken T q ≤ L → is_last_backslash T q ≡ false → is_last_backslash U (to q) ≡ false
   same_last q from le e =
       ⊎_elim
@@ -96,6 +101,7 @@ module _ {edition : Edition} {T U : List ℕ} {a L : ℕ} {to : ℕ → ℕ} (K 
 
   -- ---- parameters
 
+  -- a stretch ends at the same place where a byte before the limit is read at its end
   stretch_of : (test : ℕ → Bool) → (n p : ℕ) → length T - p < n → a ≤ p → In (past test T p) → In p
       × (past test U (to p) ≡ to (past test T p))
   stretch_of test zero p few from i = absurd (omega arith)
@@ -118,6 +124,7 @@ module _ {edition : Edition} {T U : List ℕ} {a L : ℕ} {to : ℕ → ℕ} (K 
   stretch_in : (test : ℕ → Bool) (p : ℕ) → a ≤ p → In (past test T p) → In p × (past test U (to p) ≡ to (past test T p))
   stretch_in test p from i = stretch_of test (suc (length T - p)) p (omega arith) from i
 
+  -- so does a parameter
   pub parameter_in : (p : ℕ) → a ≤ p → In (past_parameter T p) → In p
       × (past_parameter U (to p) ≡ to (past_parameter T p))
   unfolding past_parameter
@@ -143,11 +150,13 @@ module _ {edition : Edition} {T U : List ℕ} {a L : ℕ} {to : ℕ → ℕ} (K 
       (cases_Bool (stands_in is_digit T p)))
       (cases_Bool (stands_in is_letter T p))
 
+  -- the rest of an expansion is read in the same mode
   pub rest_in : (mode : Mode) (p : ℕ) → In p → rest_mode U mode (to p) ≡ rest_mode T mode p
   unfolding rest_mode
   rest_in mode p i = rw (here_stands K i number_sign, here_stands K i percent_sign) refl
 
 module _ {edition : Edition} {T U : List ℕ} {a L : ℕ} {to : ℕ → ℕ} (K : Kept edition T U a L to) (o o2 : ℕ) where
+  -- what is given of the two texts
   abbrev pub g : Given
   g = given edition T o
 
@@ -162,17 +171,20 @@ module _ {edition : Edition} {T U : List ℕ} {a L : ℕ} {to : ℕ → ℕ} (K 
   abbrev pub there_at : ℕ → State → State
   there_at p s = state_from (o + a) (o2 + to a) p s
 
+  -- the state at another place, in the same text
   abbrev pub at : ℕ → State → State
   at p s = record { at = p; waiting = s.waiting; bodies = s.bodies }
 
   -- ---- whether a turn leads on
 
+  -- a place before the limit is in both texts, or in neither
   within : (r : ℕ) → a ≤ r → r < L → r < length T → to r < length U
   within r from lt some = slice_get_within U (to r) _ (K.same r from lt ∙ slice_get-get_or T r 0 some)
 
   within_back : (r : ℕ) → a ≤ r → r < L → to r < length U → r < length T
   within_back r from lt some = slice_get_within T r _ (sym (K.same r from lt) ∙ slice_get-get_or U (to r) 0 some)
 
+  -- a turn leads on in both texts, or in neither
   pub same_leads : (s t : State) → a ≤ s.at → s.at ≤ t.at → t.at ≤ L → leads_on h (there s) (there t) ≡ leads_on g s t
   same_leads s t from onward le =
       let apart : to t.at ≡ to s.at + (t.at - s.at) =
@@ -192,15 +204,18 @@ module _ {edition : Edition} {T U : List ℕ} {a L : ℕ} {to : ℕ → ℕ} (K 
     Goal s (again c) t = (t.at ≤ L) × (leads_on g s t ≡ true → From t.at)
     Goal s (done c) t = Last t.at
 
+    -- what is found is something of which P holds, in the state t elsewhere
     abbrev pub Finds : {X : Type 0} → Read X → (X → Type 0) → State → Type 0
     Finds {X = X} x P t = (y : X) × ((x ≡ Ok (y, there t)) × P y)
 
+    -- a turn in each text
     abbrev pub one : A → State → Read (Step A)
     one c s = does (turn c) Whole g s
 
     abbrev pub two : A → State → Read (Step A)
     two d s = does (turn2 d) Whole h s
 
+    -- a turn that reaches its goal started as asked, and the other finds the same there; and so all turns
     abbrev pub Turned : A → State → Step A → State → Type 0
     Turned c s x t = Goal s x t → From s.at × ((d : A) → S c d → Finds (two d (there s)) (SameStep S x) t)
 
@@ -209,6 +224,7 @@ module _ {edition : Edition} {T U : List ℕ} {a L : ℕ} {to : ℕ → ℕ} (K 
 
     module _ (from_high : (p : ℕ) → From p → p ≤ L) (last_high : (p : ℕ) → Last p → p ≤ L)
         (each : (c : A) (s : State) → a ≤ s.at → Holds (Turned c s) (one c s)) where
+      -- by what a turn finds there: the last, one before others, or one that does not lead on
       last_turn : (d : A) (s t : State) (c : A) → Finds (two d (there s)) (SameStep S (done c)) t →
           Finds (turns h two d (there s)) (S c) t
       last_turn d s t c (again y, w) = absurd w.1
@@ -226,6 +242,7 @@ module _ {edition : Edition} {T U : List ℕ} {a L : ℕ} {to : ℕ → ℕ} (K 
       rest_turn d s t c (again y, w) off = (y, (turns_rest h two d y (there s) (there t) w.0 off, w.1))
       rest_turn d s t c (done y, w) off = absurd w.1
 
+      -- by what a turn gives here
       by_turn : (c : A) (s : State) → a ≤ s.at → (x : Read (Step A)) → one c s ≡ x → Holds (Turned c s) x →
           Holds (AtOrAfter s) x
           → ((z : A) (t : State) → a ≤ t.at → length T - t.at < length T - s.at → Holds (Looped z t) (turns g one z t))
@@ -248,12 +265,14 @@ module _ {edition : Edition} {T U : List ℕ} {a L : ℕ} {to : ℕ → ℕ} (K 
               (λ end. let w = good (last_high _ end, λ f. absurd (both_ways _ e f)) in
               (w.0, λ d so. rest_turn d s t z (w.1 d so) (same_leads s t from onward (last_high _ end) ∙ e)))
 
+      -- by how many bytes are left
       all_turns : (n : ℕ) (c : A) (s : State) → length T - s.at < n → a ≤ s.at → Holds (Looped c s) (turns g one c s)
       all_turns zero c s few from = absurd (omega arith)
       all_turns (suc n) c s few from =
           by_turn c s from (one c s) refl (each c s from) (no_form_goes_back (turn c) Whole g s).told
           (λ z t on less. all_turns n z t (omega (arith, less, few)) on)
 
+      -- a repetition
       pub looped : (c : A) (s : State) → a ≤ s.at → Holds (Looped c s) (does (loop turn c) Whole g s)
       looped c s from = all_turns (suc (length T - s.at)) c s (omega arith) from
 
@@ -292,6 +311,7 @@ module _ {edition : Edition} {T U : List ℕ} {a L : ℕ} {to : ℕ → ℕ} (K 
             ),
           )
 
+  -- before the limit, and no further than it
   abbrev Below : ℕ → Type 0
   Below p = p < L
 
@@ -299,6 +319,7 @@ module _ {edition : Edition} {T U : List ℕ} {a L : ℕ} {to : ℕ → ℕ} (K 
   UpTo p = p ≤ L
 
   module _ (how : Escaping) (b b2 : ℕ) where
+    -- one turn of a text in which a backslash takes one byte
     abbrev EscapedTurn : Unit {0} → State → Step (Unit {0}) → State → Type 0
     EscapedTurn c s x t = Turned (λ (c d : Unit {0}). Unit {0}) (escaped_turn how b)
         (escaped_turn how b2) Below UpTo c s x t
@@ -348,6 +369,7 @@ module _ {edition : Edition} {T U : List ℕ} {a L : ℕ} {to : ℕ → ℕ} (K 
               ),
             )
 
+  -- text in backquotes
   pub backquotes_in : (s : State) → a ≤ s.at → Clear K s.at →
       Holds (Ends backquoted_text (In K) s) (does backquoted_text Whole g s)
   unfolding backquoted_text many

@@ -20,6 +20,7 @@ use Rattle.shgrammar.specs.declared.edition.Edition.{Edition}
 
 -- ---- rows and lists
 
+-- a list is moved, made blank and told to have an entry as the row of its entries is
 rows_moved : (p : ℕ) (es : Row AnEntry) → moved p (entries_of es) ≡ entries_of (map (moved_entry p) es)
 rows_moved p [] = refl
 rows_moved p (e ∷ es) = ap (more_entries (moved_entry p e)) (rows_moved p es)
@@ -60,6 +61,7 @@ module _ (edition : Edition) (B : List ℕ) where
   abbrev Joins : ℕ → LinesSoFar → Row ALine → Type 0
   Joins p so ls = script_on edition B so p ≡ lines_joined ls (entries_of so.entries) so.gap p
 
+  -- whatever the lines before gave
   abbrev Rest : ℕ → Row ALine → Type 0
   Rest q ls = (so : LinesSoFar) → Joins q so ls
 
@@ -70,10 +72,12 @@ module _ (edition : Edition) (B : List ℕ) where
   line_on p so [] rest y is = is ∙ ap (λ es. rest (entries_of es) true) (append-nil so.entries)
   line_on p so (e ∷ es) rest y is = is ∙ ap (λ es. rest es false) (sym (added p so (e ∷ es)))
 
+  -- a line has an entry there where it has one by itself
   empty_there : (p : ℕ) (blank : Bool) (es : Row AnEntry) → is_empty (there p blank es) ≡ is_empty es
   empty_there p blank [] = refl
   empty_there p blank (e ∷ es) = refl
 
+  -- a line that no newline token ended
   line_at_last : (p : ℕ) (so : LinesSoFar) (es : Row AnEntry) (q : ℕ)
       → record { entries = entries_of (so.entries ++ there p (is_blank_line so) es); fault = None }
       ≡ line_joined_by (λ es gap. lines_joined [] es gap q) (kind_of es false) (entries_of so.entries) so.gap p
@@ -81,6 +85,7 @@ module _ (edition : Edition) (B : List ℕ) where
   line_at_last p so (e ∷ es) q = ap (λ es. record { entries = es; fault = None }) (sym (added p so (e ∷ es)))
 
   module _ (p : ℕ) (so : LinesSoFar) where
+    -- whether the first entry of the next line is blank
     abbrev blank : Bool
     blank = is_blank_line so
 
@@ -97,6 +102,7 @@ module _ (edition : Edition) (B : List ℕ) where
         ∙ ap (λ q. script_on edition B next (p + q)) at_is in
         line_on p so fs (λ es gap. lines_joined ls es gap (p + u.at)) (script_on edition B so p) (on ∙ rest next)
 
+    -- the line is the last one
     ends : (fs : Row AnEntry) (u : State) (es : Row AnEntry) (t : State) → es ≡ there p blank fs →
         line_from edition B Whole blank p ≡ Ok ((es, false), t) → (q : ℕ)
         → script_on edition B so p ≡ line_joined_by (λ es gap. lines_joined [] es gap q) (kind_of fs false)
@@ -138,11 +144,13 @@ module _ (edition : Edition) (B : List ℕ) where
 
   -- ---- all lines
 
+  -- what is a line of a text is what is computed of it
   line_is_read : (p : ℕ) (l : ALine) → IsLine edition (drop p B) l →
       l ≡ as_line (drop p B) (line_told edition B Whole false p 0)
   unfolding line_of_text
   line_is_read p l is = line_only edition (drop p B) l is
 
+  -- all lines from p on, whatever those before gave
   lines_join : (p : ℕ) (ls : Row ALine) → AreLines edition B p ls → Rest p ls
   lines_join p ls (last_of l is not_ended whole) so =
       let same = line_is_read p l is in
@@ -156,6 +164,7 @@ module _ (edition : Edition) (B : List ℕ) where
       (ap (λ (z : ALine). z.ended) (sym same) ∙ ended) rest
       (λ then. subst (λ (z : ALine). Joins (p + z.next) then rest) same (lines_join (p + l.next) rest on then)))
 
+  -- so it is of a script
   pub script_joined : (ls : Row ALine) → AreLines edition B 0 ls → Outcome edition B (lines_joined ls no_entry false 0)
   unfolding script_at
   script_joined ls are = subst (Outcome edition B) (lines_join 0 ls are nothing_yet) (script_is edition B)

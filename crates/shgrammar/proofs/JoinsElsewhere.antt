@@ -80,6 +80,7 @@ module _ (B B2 : List ℕ) where
   join_step true j k same = same
   join_step false j k same = same
 
+  -- so with a newline that follows, or none
   join_steps : (l m : Bool × Next) → l ≡ m → (broken pale : Bool) → broken ≡ pale → (cs ds : Row Span) →
       SameComments cs ds
       → SameStep SameJoin (step_if l.0 (join_so_far (a_join_of (broken || l.0) cs) l.1))
@@ -94,6 +95,7 @@ module _ (B B2 : List ℕ) where
   or_same : (b c : Bool) (x y : Option Span) → b ≡ c → SameText x y → (b || is_some x) ≡ (c || is_some y)
   or_same b c x y one two = rw (one, some_same (text_at B) (text_at B2) x y two) refl
 
+  -- so the joins have the same shape
   joins_same : (j k : JoinSoFar) → SameJoin j k → SameJoined (j.join, j.next) (k.join, k.next)
   joins_same j k same = (rw (same.0, same.1.0) refl, same.1.1)
 
@@ -146,6 +148,7 @@ module _ {edition : Edition} {T U : List ℕ} {a M : ℕ} {to : ℕ → ℕ} {li
       (token how (move m))
   marks = go_so E o o2 B B2 stands stands_there (go_token E o o2 B B2 stands stands_there moves_on) (λ x y so. tt)
 
+  -- one of two moves
   pub two_marks : {how : Telling} {m k : Move} →
       Goes E o o2 B B2 stands stands_there (λ x y. Unit {0}) (token how (move m >> move k))
       (token how (move m >> move k))
@@ -179,12 +182,15 @@ module _ {edition : Edition} {T U : List ℕ} {a M : ℕ} {to : ℕ → ℕ} {li
 module _ {edition : Edition} {T U : List ℕ} {a M : ℕ} {to : ℕ → ℕ} {limit : ℕ}
     (E : ListEnds edition T U a M to limit) (o o2 : ℕ) (B B2 : List ℕ) (stands : T ≡ drop o B)
     (stands_there : U ≡ drop o2 B2) where
+  -- `Goes` of these two texts and places
   abbrev Goes2 : {X Y : Type 0} → (X → Y → Type 0) → Form X → Form Y → Type 0
   Goes2 S r q = Goes E o o2 B B2 stands stands_there S r q
 
+  -- what is looked for ahead from p on is found before M, or at it
   abbrev G : ℕ → Type 0
   G p = Good T a M p
 
+  -- what is given of both texts, and the state in the second
   abbrev g : Given
   g = given edition T o
 
@@ -200,6 +206,7 @@ module _ {edition : Edition} {T U : List ℕ} {a M : ℕ} {to : ℕ → ℕ} {li
   comment_after n c d same = then moves_on (λ x y all. then (next Command) (λ m k so. gives (ap Some same, so)))
 
   module _ (n : Next) (s : State) (from : a ≤ s.at) where
+    -- the place of the reading, and that the second text has the same comment there, or none
     abbrev p : ℕ
     p = s.at
 
@@ -214,6 +221,7 @@ module _ {edition : Edition} {T U : List ℕ} {a M : ℕ} {to : ℕ → ℕ} {li
         (let no : ◌≡◌ {A = Option Span} (Some (span o p (before_blanks T (next_newline T p)))) None = rw e at is in cc)
     no_comment false e is = e
 
+    -- so none is told there either
     none_there : comment_at T o p ≡ None → FoundThere (None, n) s
     unfolding a_comment comment_at
     none_there is = λ e. let none = no_comment (raw_stands T p number_sign) refl is in
@@ -242,6 +250,7 @@ module _ {edition : Edition} {T U : List ℕ} {a M : ℕ} {to : ℕ → ℕ} {li
     comment_is e = rw e refl
 
     module _ (c : Span) (is : comment_at T o p ≡ Some c) where
+      -- the state after the comment
       abbrev on : State
       on = record { at = past_comment T p; waiting = s.waiting; bodies = s.bodies }
 
@@ -278,6 +287,7 @@ module _ {edition : Edition} {T U : List ℕ} {a M : ℕ} {to : ℕ → ℕ} {li
           blanks_near q le = omega (arith, le, before_blanks_low T q)
       some_there (Err f) at back back_on = tt
 
+    -- by the comment, or none, of the first text
     comment_there : (c : Option Span) → comment_at T o p ≡ c → Holds FoundThere (does (comment_by n c) Whole g s)
     comment_there None is = none_there is
     comment_there (Some c) is =
@@ -294,6 +304,7 @@ module _ {edition : Edition} {T U : List ℕ} {a M : ℕ} {to : ℕ → ℕ} {li
 module _ {edition : Edition} {T U : List ℕ} {a M : ℕ} {to : ℕ → ℕ} {limit : ℕ}
     {E : ListEnds edition T U a M to limit} {o o2 : ℕ} {B B2 : List ℕ} {stands : T ≡ drop o B}
     {stands_there : U ≡ drop o2 B2} where
+  -- the same where the token is
   pub comment_at_same : (n m : Next) → n ≡ m → Goes E o o2 B B2 stands stands_there (SameRemark B B2) (a_comment n)
       (a_comment m)
   comment_at_same n m same = at_same a_comment a_comment (comment E o o2 B B2 stands stands_there) n m same
@@ -302,6 +313,7 @@ module _ {edition : Edition} {T U : List ℕ} {a M : ℕ} {to : ℕ → ℕ} {li
 
   -- Newlines, with the bodies after them, separators and joins: as many, with the same comments.
 
+  -- a newline, with the bodies after it, or a `;` stands in both texts, or in none
   pub newline : (n m : Next) → n ≡ m → Goes E o o2 B B2 stands stands_there (λ x y. x ≡ y) (a_newline n) (a_newline m)
   unfolding a_newline
   newline n m same = at_same a_newline a_newline one n m same
@@ -322,6 +334,7 @@ module _ {edition : Edition} {T U : List ℕ} {a M : ℕ} {to : ℕ → ℕ} {li
       one n = picks (is_semicolon n.token) _ refl
           (then moves_on (λ x y all. then (next Command) (λ m k same. gives (ap (λ z. (true, z)) same)))) (gives refl)
 
+  -- a separator of the same kind, or none in both
   separator_by_same : (n : Next) (s : Option Separator) →
       Goes E o o2 B B2 stands stands_there SameSeparator (separator_by n s) (separator_by n s)
   separator_by_same n (Some s) =
@@ -348,6 +361,7 @@ module _ {edition : Edition} {T U : List ℕ} {a M : ℕ} {to : ℕ → ℕ} {li
   kept cs ds (Some c) None all one = absurd cc
   kept cs ds (Some c) (Some d) all one = pushes (rows_more (text_at B) (text_at B2) cs c ds d all cc)
 
+  -- one more comment or newline of a join, and the join
   join_on : (j k : JoinSoFar) → SameJoin B B2 j k → Goes E o o2 B B2 stands stands_there (SameStep (SameJoin B B2))
       (join_turn j) (join_turn k)
   unfolding join_turn
@@ -366,6 +380,7 @@ module _ {edition : Edition} {T U : List ℕ} {a M : ℕ} {to : ℕ → ℕ} {li
       then (repeats (SameJoin B B2) join_turn join_turn join_on _ _ (both_broken broken pale n m is same, (refl, same)))
       (λ j k so. gives (joins_same B B2 j k so)))
 
+  -- newlines and comments, after comments of the same texts
   pub linebreak : (cs ds : Row Span) (n m : Next) → SameComments B B2 cs ds → n ≡ m →
       Goes E o o2 B B2 stands stands_there (SameJoin B B2) (a_linebreak cs n) (a_linebreak ds m)
   unfolding a_linebreak

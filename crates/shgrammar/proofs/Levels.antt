@@ -25,12 +25,14 @@ pub subst_left : (keep : Bool) (ss : Row ASubst) (x : ASubst) → keep ≡ false
 subst_left keep ss x is = rw is refl
 
 module _ (keep : Keep) (g : Given) (s : State) where
+  -- where more may be opened, a construct is its pieces, with room for one less
   pub level_below : (room : ℕ) (mode : Mode) (b : ℕ) (ss : Row ASubst) → 0 < room
       → does ((level room).construct mode b ss) keep g s ≡ does (contents (level (room - 1)) mode b ss) keep g s
   unfolding level
   level_below zero mode b ss lt = absurd (omega arith)
   level_below (suc room) mode b ss lt = rw sub-one refl
 
+  -- where none may be, a construct and a command substitution are a fault where they begin
   pub level_closed : (room : ℕ) (mode : Mode) (b : ℕ) (ss : Row ASubst) → room ≡ 0 →
       does ((level room).construct mode b ss) keep g s ≡ Err (record { kind = TooDeep; at = b })
   unfolding level
@@ -56,6 +58,7 @@ module _ (keep : Keep) (g : Given) (s : State) where
   unfolding a_line
   line_read inner blank newline es t is = rw is refl
 
+  -- a compound command: what it is where more may be opened, and a fault where none may be
   pub compound_below : (room : ℕ) (o : Opener) → 0 < room →
       does ((level room).compound o) keep g s ≡ does (a_compound (level (room - 1)) o) keep g s
   unfolding level
@@ -67,6 +70,7 @@ module _ (keep : Keep) (g : Given) (s : State) where
   unfolding level
   compound_closed room o e = rw e refl
 
+  -- a function: the same, with a fault at its name
   pub function_below : (room : ℕ) (name : Span) → 0 < room →
       does ((level room).function name) keep g s ≡ does (a_function (level (room - 1)) name) keep g s
   unfolding level

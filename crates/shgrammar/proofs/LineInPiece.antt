@@ -23,6 +23,7 @@ use Rattle.shgrammar.specs.declared.edition.Edition.{Edition}
 
 -- ---- texts
 
+-- the text of a span in the first n bytes is a part of these
 text_part : (T : List ℕ) (n : ℕ) (s : Span) → IsSpanWithin n s →
     text_at T s ≡ drop s.start (take (s.start + (s.«end» - s.start)) (take n T))
 text_part T n s within =
@@ -36,6 +37,7 @@ text_front n T D s same within =
     text_part T n s within ∙ ap (λ (xs : List ℕ). drop s.start (take (s.start + (s.«end» - s.start)) xs)) same
     ∙ sym (text_part D n s within)
 
+-- a span, or a body, that is moved by n has the text that it has by itself in the rest from n on
 text_moved : (n : ℕ) (S : List ℕ) (s : Span) → text_at S (placed_span n s) ≡ text_at (drop n S) s
 text_moved n S s =
     let size : n + s.«end» - (n + s.start) ≡ s.«end» - s.start = omega arith in
@@ -50,6 +52,7 @@ body_moved n S s (suc m) is = text_moved n S s
 -- ---- rows of entries
 
 module _ (B C : List ℕ) (f h : Span → Span) where
+  -- entries whose spans have the same texts there have the same shapes, the first one blank or not
   row_same : (es : Row AnEntry) → Throughout (SameText B C f h) IsSome (entries_of es) →
       shape_of B (entries_of (map (carried_entry f h true) es)) ≡ shape_of C (entries_of es)
   row_same [] so = refl
@@ -87,6 +90,7 @@ pub record There (edition : Edition) (H S : List ℕ) (q n : ℕ) (blank newline
   pub shape : shape_of S (entries_of (blanked_row blank (map (moved_entry n) es)))
       ≡ shape_of H (entries_of (blanked_row blank (map (moved_entry q) es)))
 
+-- by what the line is, read by itself
 alone_by : (edition : Edition) →
     (deep : Bool) (H : List ℕ) (q : ℕ) (blank newline : Bool) (es : Row AnEntry) (t : State)
     (z : Read (Row AnEntry × Bool)) → line_told edition H Whole false q 0 ≡ z →
@@ -117,6 +121,7 @@ outer_alone edition H q blank newline es t read =
     (subst (λ (y : Read (Row AnEntry × Bool)). SameBy false q blank y (line_told edition H Whole false q 0)) read
     (line_outer edition H q blank))
 
+-- by what is read of the line at n
 there_by : (edition : Edition) →
     (H S : List ℕ) (q n : ℕ) (blank newline : Bool) (es : Row AnEntry) (t : State) (x z : Read (Row AnEntry × Bool)) →
     line_from edition S Whole blank n ≡ x → z ≡ Ok ((es, newline), t) → Same n blank x z
@@ -147,6 +152,7 @@ stands_there edition H S q n blank newline es t read same again =
 
 -- ---- its fault
 
+-- by what is read of the line further on
 fault_by : (edition : Edition) → (S : List ℕ) (p q : ℕ) (blank : Bool) (f : Fault) (x y z : Read (Row AnEntry × Bool)) →
     line_from edition S Whole blank (p + q) ≡ x → Same (p + q) blank x z → Same q blank (Err f) y → z ≡ y
     → line_from edition S Whole blank (p + q) ≡ Err (moved_fault p f)

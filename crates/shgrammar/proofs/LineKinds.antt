@@ -14,6 +14,7 @@ use Rattle.shgrammar.specs.Lists.{entry_turn, a_remark, on_line}
 use Rattle.shgrammar.specs.Scripts.{line_of_text, script_at, script_below, script_on}
 use Rattle.shgrammar.specs.declared.edition.Edition.{Edition}
 
+-- a line without entries is blank where it has a newline, or the end; one that has some is told by them
 pub kind_of_none : {X : Type 0} (view : X → AnEntry) (xs : List X) (newline : Bool) → length xs ≡ 0 →
     kind_of (map view xs) newline ≡ cond newline blank_line end_line
 kind_of_none view [] true e = refl
@@ -25,6 +26,7 @@ pub kind_of_some : {X : Type 0} (view : X → AnEntry) (xs : List X) (newline : 
 kind_of_some view [] newline lt = absurd (omega arith)
 kind_of_some view (x ∷ xs) newline lt = refl
 
+-- a line that is told by its entries has no fault
 none_within : (limit : ℕ) (es : List AnEntry) (newline : Bool) → FaultWithin limit (kind_of es newline)
 none_within limit [] true = tt
 none_within limit [] false = tt
@@ -35,6 +37,7 @@ pub no_fault_within : (limit : ℕ) (kind : AKind) (es : List AnEntry) (newline 
     FaultWithin limit kind
 no_fault_within limit kind es newline is = subst (FaultWithin limit) (sym is) (none_within limit es newline)
 
+-- a text without a byte has the line of its end
 nothing : (edition : Edition) → line_of_text edition [] ≡ record { kind = end_line; next = 0; ended = false }
 unfolding line_of_text a_line an_open_line nothing_waits filled_row next_token on_line many turns turns_below entry_turn
     a_remark a_comment end_of_line token_at comment_at raw_stands past count_front past_blanks past_continuations
@@ -46,6 +49,7 @@ pub nothing_left : (edition : Edition) → (B : List ℕ) (at : ℕ) → at ≡ 
     line_of_text edition (drop at B) ≡ record { kind = end_line; next = 0; ended = false }
 nothing_left edition B at e = rw (e, drop-length B) (nothing edition)
 
+-- the empty text is the script without entries
 nothing_at_all : (edition : Edition) → script_at edition [] ≡ record { entries = entries_of []; fault = None }
 unfolding script_at script_on script_below a_line an_open_line nothing_waits filled_row next_token on_line many turns
     turns_below entry_turn a_remark a_comment end_of_line token_at comment_at raw_stands past count_front past_blanks

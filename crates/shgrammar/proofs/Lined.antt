@@ -32,6 +32,7 @@ use Rattle.shgrammar.specs.declared.edition.Edition.{Edition}
 abbrev pub Ended : State → Bool → State → Type 0
 Ended s newline t = newline ≡ true → s.at < t.at
 
+-- so does the end of a line, where that is a newline and not the end of the text
 ended_by : (inner : Inner) (keep : Keep) (g : Given) (s : State) (newline end : Bool) (n : Next) →
     Holds (Ended s) (does (line_end_by inner newline end n) keep g s)
 unfolding nothing_waits
@@ -62,6 +63,7 @@ pub end_ended : (inner : Inner) (keep : Keep) (g : Given) (s : State) (n : Next)
 unfolding end_of_line
 end_ended inner keep g s n = record { told = ended_by inner keep g s (is_newline_token n.token) (is_end n.token) n }
 
+-- the same of a line
 abbrev LineEnded : State → Row AnEntry × Bool → State → Type 0
 LineEnded s x t = x.1 ≡ true → s.at < t.at
 
@@ -70,6 +72,7 @@ further : (keep : Keep) (g : Given) {X : Type 0} (r : Form X) (s t : State) → 
     Tells keep g r (AtOrAfter s) t
 further keep g r s t on = tells_so keep g (no_form_goes_back r keep g t) (λ x u more. omega (arith, on, more))
 
+-- each line leads on that a newline ends, without its level and with it
 open_ended_low : (inner : Inner) (blank : Bool) (keep : Keep) (g : Given) (s : State) →
     Tells keep g (an_open_line inner blank) (LineEnded s) s
 unfolding an_open_line
@@ -95,6 +98,7 @@ unfolding a_line an_open_line nothing_waits filled_row next_token on_line many t
     past_below
 nothing edition blank keep o = refl
 
+-- a line that a newline ended is no line that the text ended
 flag : Read (Row AnEntry × Bool) → Bool
 flag (Ok ((es, newline), t)) = newline
 flag (Err f) = false
@@ -104,6 +108,7 @@ clash : {X : Type 0} (es : Row AnEntry) (t u : State) →
 unfolding flag
 clash es t u e = let no : false ≡ true = ap flag e in absurd cc
 
+-- where such a line is read the text goes on, and the line is not empty
 some_text : (edition : Edition) → (B : List ℕ) (keep : Keep) (blank : Bool) (p : ℕ) (es : Row AnEntry) (t : State) →
     line_from edition B keep blank p ≡ Ok ((es, true), t) → p < length B
 some_text edition B keep blank p es t is =
@@ -127,6 +132,7 @@ leaves_less edition B keep blank p es t is =
 
 -- ---- the lines from a place on
 
+-- the lines from p on are the same if those after the next line are
 same_by : (B : List ℕ) (f h : LinesSoFar → ℕ → AScript) (so : LinesSoFar) (p : ℕ) (x : Read (Row AnEntry × Bool))
     → ((es : Row AnEntry) (t : State) → x ≡ Ok ((es, true), t) →
     f (with_line so es) (p + t.at) ≡ h (with_line so es) (p + t.at)) → script_by f so p x ≡ script_by h so p x
@@ -149,6 +155,7 @@ enough edition B (suc n) (suc m) so p low_n low_m =
 -- by what the next line gives, where the first entry of a line may be blank by the flag
 module _ (edition : Edition) (B : List ℕ) (so : LinesSoFar) (p : ℕ) (blank : Bool)
     (is_blank : blank ≡ is_blank_line so) where
+  -- with the flag the same line is read
   the_next : (x : Read (Row AnEntry × Bool)) → line_from edition B Whole blank p ≡ x →
       line_from edition B Whole (is_blank_line so) p ≡ x
   the_next x is = ap (λ b. line_from edition B Whole b p) (sym is_blank) ∙ is
@@ -164,6 +171,7 @@ module _ (edition : Edition) (B : List ℕ) (so : LinesSoFar) (p : ℕ) (blank :
       rw here (enough edition B (length B - p) (suc (length B - (p + t.at))) (with_line so es) (p + t.at) less
       (omega arith) ∙ ap (λ z. script_below edition B (suc (length B - (p + t.at))) z (p + t.at)) (sym same))
 
+  -- a line that the text ends, and one with a fault
   pub line_last : (es : Row AnEntry) (t : State) (then : LinesSoFar) →
       line_from edition B Whole blank p ≡ Ok ((es, false), t) → then ≡ with_line so es →
       script_on edition B so p ≡ record { entries = entries_of then.entries; fault = None }

@@ -53,6 +53,7 @@ module _ (B B2 : List ℕ) where
   SameListed l m = (map (shape_of_entry B) l.entries ≡ map (shape_of_entry B2) m.entries)
       × ((l.blank ≡ m.blank) × ((l.begun ≡ m.begun) × (l.commands ≡ m.commands)))
 
+  -- and the same token after them
   abbrev pub SameList : ListSoFar → ListSoFar → Type 0
   SameList l m = SameListed l.list m.list × (l.next ≡ m.next)
 
@@ -66,6 +67,7 @@ module _ {edition : Edition} {T U : List ℕ} {a M : ℕ} {to : ℕ → ℕ} {li
     {E : ListEnds edition T U a M to limit} {o o2 : ℕ} {B B2 : List ℕ} {stands : T ≡ drop o B}
     {stands_there : U ≡ drop o2 B2}
     {inner : Inner} (fine : Fine E o o2 B B2 stands stands_there inner) where
+  -- what r reads up to a good place q reads in the other text, and S holds of the two
   abbrev Goes2 : {X Y : Type 0} → (X → Y → Type 0) → Form X → Form Y → Type 0
   Goes2 S r q = Goes E o o2 B B2 stands stands_there S r q
 
@@ -73,9 +75,11 @@ module _ {edition : Edition} {T U : List ℕ} {a M : ℕ} {to : ℕ → ℕ} {li
 
   -- Each turn adds entries of the same shape, and goes on or ends in both texts.
 
+  -- entries of the same shapes
   abbrev SameEntries : Row AnEntry → Row AnEntry → Type 0
   SameEntries es fs = map (shape_of_entry B) es ≡ map (shape_of_entry B2) fs
 
+  -- the next entry is blank in both texts, or in neither
   blank_same : (l m : Listed) → SameListed B B2 l m → is_blank_next l ≡ is_blank_next m
   blank_same l m same = rw (same.1.0, same.1.1.0) refl
 
@@ -87,6 +91,7 @@ module _ {edition : Edition} {T U : List ℕ} {a M : ℕ} {to : ℕ → ℕ} {li
   list_step false true l m is same = absurd cc
   list_step false false l m is same = same
 
+  -- one more entry, or none
   one_more_entry : (l m : ListSoFar) → SameList B B2 l m →
       Goes2 (SameStep (SameList B B2)) (one_entry inner l) (one_entry inner m)
   unfolding one_entry
@@ -106,6 +111,7 @@ module _ {edition : Edition} {T U : List ℕ} {a M : ℕ} {to : ℕ → ℕ} {li
   entry_on l m same = picks _ _ (ap (λ (n : Next). begins_pipeline n.token) same.1) (one_more_entry l m same)
       (gives same)
 
+  -- a comment on a line of its own, or none
   remark_same : (l m : ListSoFar) (x y : Option Span × Next) → SameListed B B2 l.list m.list → SameRemark B B2 x y →
       Goes2 (SameList B B2) (remark_by l x) (remark_by m y)
   remark_same l m (None, n) (None, k) same so = gives (same, so.1)
@@ -123,6 +129,7 @@ module _ {edition : Edition} {T U : List ℕ} {a M : ℕ} {to : ℕ → ℕ} {li
           shape_of_entry B (entry (remark c) false b None) ≡ shape_of_entry B2 (entry (remark d) false z None)
       remarks_same c d b z text is = let one : text_at B c ≡ text_at B2 d = cc in rw (one, is) refl
 
+  -- all that stands on a line
   on_line_same : (l m : ListSoFar) → SameList B B2 l m → Goes2 (SameList B B2) (on_line inner l) (on_line inner m)
   unfolding on_line a_remark
   on_line_same l m same =
@@ -139,6 +146,7 @@ module _ {edition : Edition} {T U : List ℕ} {a M : ℕ} {to : ℕ → ℕ} {li
     ),
   )
 
+  -- one more line, or the last
   line_on : (l m : ListSoFar) → SameList B B2 l m →
       Goes2 (SameStep (SameList B B2)) (list_turn inner l) (list_turn inner m)
   unfolding list_turn
@@ -154,9 +162,11 @@ module _ {edition : Edition} {T U : List ℕ} {a M : ℕ} {to : ℕ → ℕ} {li
   lines n m same = repeats (SameList B B2) (list_turn inner) (list_turn inner) line_on _ _
       ((refl, (refl, (refl, refl))), same)
 
+  -- lists of the same shape, and the same token after them
   abbrev SameEnd : Entries × Next → Entries × Next → Type 0
   SameEnd x y = (shape_of B x.0 ≡ shape_of B2 y.0) × (x.1 ≡ y.1)
 
+  -- a list, which has a command in both texts or in neither
   list_same : (n m : Next) → n ≡ m → Goes2 SameEnd (a_list inner n) (a_list inner m)
   unfolding a_list
   list_same n m same = then (lines n m same)
@@ -178,6 +188,7 @@ module _ {edition : Edition} {T U : List ℕ} {a M : ℕ} {to : ℕ → ℕ} {li
       (λ n. picks (is_closing c n.token) _ refl (reserved_or_paren_same _ (is_close_paren c) _) (stopped inner n)) n m
       same
 
+  -- a condition and what it runs
   abbrev SameBranch : ABranch × Next → ABranch × Next → Type 0
   SameBranch x y = (shape_of_branch B x.0 ≡ shape_of_branch B2 y.0) × (x.1 ≡ y.1)
 
@@ -188,6 +199,7 @@ module _ {edition : Edition} {T U : List ℕ} {a M : ℕ} {to : ℕ → ℕ} {li
       then (closing_same closings.Then c.1 d.1 so.1)
       (λ t u is. then (list_same t.1 u.1 is) (λ b e two. gives (rw (so.0, two.0) refl, two.1))))
 
+  -- those of each `elif` so far, and one more or none
   abbrev SameBranches : BranchesSoFar → BranchesSoFar → Type 0
   SameBranches b c = (map (shape_of_branch B) b.branches ≡ map (shape_of_branch B2) c.branches) × (b.next ≡ c.next)
 
@@ -202,6 +214,7 @@ module _ {edition : Edition} {T U : List ℕ} {a M : ℕ} {to : ℕ → ℕ} {li
       (λ bs cs all. gives (all, is.1)))))
       (gives same)
 
+  -- `else` and what it runs, or nothing
   else_same : (n m : Next) → n ≡ m →
       Goes2 (λ x y. (shape_of_else B x.0 ≡ shape_of_else B2 y.0) × (x.1 ≡ y.1)) (an_else inner n) (an_else inner m)
   unfolding an_else
@@ -210,9 +223,11 @@ module _ {edition : Edition} {T U : List ℕ} {a M : ℕ} {to : ℕ → ℕ} {li
       (then (reserved_or_paren_same _ false _)
       (λ k l so. then (list_same k.1 l.1 so) (λ x y is. gives (rw is.0 refl, is.1)))) (gives (refl, same))
 
+  -- forms of the same shape, and the same token after them
   abbrev SameForm : Closed AForm → Closed AForm → Type 0
   SameForm x y = (shape_of_form B x.what ≡ shape_of_form B2 y.what) × (x.next ≡ y.next)
 
+  -- the whole of `if`, of `while` and `until`, and a list up to what closes it
   if_same : (n : Next) → Goes2 SameForm (an_if inner n) (an_if inner n)
   unfolding an_if
   if_same n =
@@ -244,6 +259,7 @@ module _ {edition : Edition} {T U : List ℕ} {a M : ℕ} {to : ℕ → ℕ} {li
   group_same c n m same = then (list_same n m same)
       (λ l k so. then (closing_same c l.1 k.1 so.1) (λ x y last. gives (so.0, last)))
 
+  -- the word after `for`, which is a NAME in both texts or in neither
   for_name_same : (n : Next) → Goes2 (λ x y. SameWord B B2 x.0 y.0 × (x.1 ≡ y.1)) (a_for_name inner n)
       (a_for_name inner n)
   unfolding a_for_name
@@ -256,6 +272,7 @@ module _ {edition : Edition} {T U : List ℕ} {a M : ℕ} {to : ℕ → ℕ} {li
       (go_stop E o o2 B B2 stands stands_there)))))
       (stopped inner n)
 
+  -- a `;` or a newline, and the comments after it
   sequential_sep_same : (cs ds : Row Span) (n m : Next) → SameComments B B2 cs ds → n ≡ m →
       Goes2 (SameJoin B B2) (a_sequential_sep inner cs n) (a_sequential_sep inner ds m)
   unfolding a_sequential_sep
@@ -264,10 +281,12 @@ module _ {edition : Edition} {T U : List ℕ} {a M : ℕ} {to : ℕ → ℕ} {li
       (λ l k is. picks (s.0 || l.join.broken) (z.0 || k.join.broken) (rw (so, is.0) refl) (gives is)
       (stopped inner l.next)))
 
+  -- the same words of a `for`, comments of the same texts, and the same token after them
   abbrev SameHead : Headed → Headed → Type 0
   SameHead x y = (shape_of_for_words B x.words ≡ shape_of_for_words B2 y.words)
       × (SameComments B B2 x.comments y.comments × (x.next ≡ y.next))
 
+  -- one more word after `in` or none, and all of them
   word_on : (i j : ItemsSoFar) → SameItems B B2 i j →
       Goes2 (SameStep (SameItems B B2)) (word_turn inner i) (word_turn inner j)
   unfolding word_turn
@@ -284,6 +303,7 @@ module _ {edition : Edition} {T U : List ℕ} {a M : ℕ} {to : ℕ → ℕ} {li
       (λ ws vs same. then (sequential_sep_same cs ds ws.next vs.next all same.1.1)
       (λ l k is. gives (rw (items_same B B2 ws vs same) refl, is.1))))
 
+  -- what stands between the name and `do`, with `in` or without
   for_head_same : (n m : Next) → n ≡ m → Goes2 SameHead (a_for_head inner n) (a_for_head inner m)
   unfolding a_for_head
   for_head_same n m same =
@@ -303,6 +323,7 @@ module _ {edition : Edition} {T U : List ℕ} {a M : ℕ} {to : ℕ → ℕ} {li
       let rest : SameComments B B2 cs ds = cc in
       rw (one, remarks_shape cs ds es fs rest same) refl
 
+  -- the whole of `for`
   for_same : (n : Next) → Goes2 SameForm (a_for inner n) (a_for inner n)
   unfolding a_for
   for_same n =
@@ -319,18 +340,21 @@ module _ {edition : Edition} {T U : List ℕ} {a M : ℕ} {to : ℕ → ℕ} {li
 
   -- Patterns, items and the comments between them: as many, of the same shapes.
 
+  -- the word after `case`
   case_word_same : (n : Next) →
       Goes2 (λ x y. SameWord B B2 x.0 y.0 × (x.1 ≡ y.1)) (a_case_word inner n) (a_case_word inner n)
   unfolding a_case_word
   case_word_same n = picks (begins_word n.token) _ refl
       (then fine.word (λ w v so. then (next Command) (λ m k same. gives (so, same)))) (stopped inner n)
 
+  -- patterns of the same shapes, and the same token after them
   abbrev SameWords : Row AWord → Row AWord → Type 0
   SameWords ws vs = map (shape_of_word B) ws ≡ map (shape_of_word B2) vs
 
   abbrev SamePatterns : PatternsSoFar → PatternsSoFar → Type 0
   SamePatterns p q = SameWords p.patterns q.patterns × (p.next ≡ q.next)
 
+  -- a pattern, one more after `|` or none, and all of them
   pattern_same : (ws vs : Row AWord) → SameWords ws vs → Goes2 SamePatterns (a_pattern inner ws) (a_pattern inner vs)
   unfolding a_pattern
   pattern_same ws vs same =
@@ -360,6 +384,7 @@ module _ {edition : Edition} {T U : List ℕ} {a M : ℕ} {to : ℕ → ℕ} {li
       (λ p q so. repeats SamePatterns (pattern_turn inner) (pattern_turn inner) pattern_on p q so))
       (stopped inner n)
 
+  -- the `(` before them, or none
   open_same : (n m : Next) → n ≡ m → Goes2 (λ x y. x ≡ y) (an_open_bracket n) (an_open_bracket m)
   unfolding an_open_bracket
   open_same n m same = picks _ _ (ap (λ (k : Next). is_paren k.token) same) (then moves_on (λ x y all. next Command))
@@ -369,6 +394,7 @@ module _ {edition : Edition} {T U : List ℕ} {a M : ℕ} {to : ℕ → ℕ} {li
   abbrev SameItemEnd : ItemEnd → ItemEnd → Type 0
   SameItemEnd e d = SameComments B B2 e.comments d.comments × (e.next ≡ d.next)
 
+  -- a `;;` or `;&` with the comments after it, or nothing before `esac`
   ender_same : (b : Bool) → Goes2 SameItemEnd (an_ender b) (an_ender b)
   unfolding an_ender
   ender_same b =
@@ -383,6 +409,7 @@ module _ {edition : Edition} {T U : List ℕ} {a M : ℕ} {to : ℕ → ℕ} {li
       (ap (λ (k : Next). falls_through k.token) same) (ender_same (falls_through n.token)))
       (picks _ _ (ap (λ (k : Next). is_closing closings.Esac k.token) same) (gives (refl, same)) (stopped inner n))
 
+  -- an item of such parts has the same shape
   case_shape : (cs ds : Row Span) (p q : PatternsSoFar) (l m : ListSoFar) (s z : ACaseMark) → s.falls ≡ z.falls →
       SameComments B B2 cs ds → SamePatterns p q → SameList B B2 l m
       → shape_of_case B (case_item cs (patterns_of p.patterns) (entries_of l.list.entries) s)
@@ -391,10 +418,12 @@ module _ {edition : Edition} {T U : List ℕ} {a M : ℕ} {to : ℕ → ℕ} {li
       let patterns = patterns_shape B p.patterns ∙ ap patterns_of two.0 ∙ sym (patterns_shape B2 q.patterns) in
       rw (one, patterns, list_shape B B2 l m three, falling) refl
 
+  -- items of the same shapes, with comments of the same texts and the same token after them
   abbrev SameCases : CasesSoFar → CasesSoFar → Type 0
   SameCases c d = (map (shape_of_case B) c.items ≡ map (shape_of_case B2) d.items)
       × (SameComments B B2 c.comments d.comments × (c.next ≡ d.next))
 
+  -- one more item, or none before `esac`
   one_more_case : (c d : CasesSoFar) → SameCases c d → Goes2 (SameStep SameCases) (one_case inner c) (one_case inner d)
   unfolding one_case a_body
   one_more_case c d same =
@@ -415,6 +444,7 @@ module _ {edition : Edition} {T U : List ℕ} {a M : ℕ} {to : ℕ → ℕ} {li
   case_on c d same = picks _ _ (ap (λ (n : Next). is_closing closings.Esac n.token) same.1.1) (gives same)
       (one_more_case c d same)
 
+  -- what stands between `case` and its items
   case_head_same : (n : Next) →
       Goes2 (λ x y. SameWord B B2 x.0 y.0 × (SameComments B B2 x.1 y.1 × (x.2 ≡ y.2))) (a_case_head inner n)
       (a_case_head inner n)
@@ -425,6 +455,7 @@ module _ {edition : Edition} {T U : List ℕ} {a M : ℕ} {to : ℕ → ℕ} {li
       (λ i j three. then (linebreak l.join.comments k.join.comments i.1 j.1 two.1.0 three)
       (λ h m so. gives (one.0, so.1)))))
 
+  -- the whole of `case`
   case_same : (n : Next) → Goes2 SameForm (a_case inner n) (a_case inner n)
   unfolding a_case
   case_same n =
@@ -438,6 +469,7 @@ module _ {edition : Edition} {T U : List ℕ} {a M : ℕ} {to : ℕ → ℕ} {li
           shape_of_cases B (cases_of c.items) ≡ shape_of_cases B2 (cases_of d.items)
       cases_same c d same = cases_shape B c.items ∙ ap cases_of same.0 ∙ sym (cases_shape B2 d.items)
 
+  -- each form, by its opener
   form_same : (c : Opener) (n m : Next) → n ≡ m → Goes2 SameForm (a_form inner c n) (a_form inner c m)
   form_same c n m same = at_same (a_form inner c) (a_form inner c) (one c) n m same
     where
@@ -458,11 +490,13 @@ module _ {edition : Edition} {T U : List ℕ} {a M : ℕ} {to : ℕ → ℕ} {li
   apart_same (c ∷ cs) [] same = absurd cc
   apart_same (c ∷ cs) (d ∷ ds) same = cc
 
+  -- forms of the same shape make compound commands of the same shape, without redirections
   forms_same : (f k : AForm) (s z : Span) → shape_of_form B f ≡ shape_of_form B2 k →
       map (shape_of_command B) (compound (formed f s no_item) ∷ [])
       ≡ map (shape_of_command B2) (compound (formed k z no_item) ∷ [])
   forms_same f k s z is = rw is refl
 
+  -- a compound command, from its opener on
   pub compound_same : (c : Opener) → Goes2 (SameCommand B B2) (a_compound inner c) (a_compound inner c)
   unfolding a_compound
   compound_same c =

@@ -36,6 +36,7 @@ pub record Place : Type 0 where
   -- whether the trees in command substitutions are kept there
   pub deep : Bool
 
+-- what is given of it where it stands by itself, and where it stands elsewhere
 abbrev pub by_itself : Place → Given
 by_itself z = given z.edition z.text z.offset
 
@@ -47,18 +48,21 @@ abbrev pub kept : Bool → Keep
 kept true = Whole
 kept false = Outer
 
+-- with these trees or without, rows of the tree grow there
 pub kept_grows : (deep : Bool) → grows (kept deep) ≡ true
 kept_grows true = refl
 kept_grows false = refl
 
 -- ---- how what is read is moved
 
+-- nothing more is known, and nothing is moved
 abbrev pub Any : {X : Type 0} → X → Type 0
 Any x = Unit {0}
 
 abbrev pub same : {X : Type 0} → X → X
 same x = x
 
+-- both parts of a pair are moved, or the first alone; and what is known of that
 abbrev pub each : {X Y : Type 0} → (X → X) → (Y → Y) → X × Y → X × Y
 each c d x = (c x.0, d x.1)
 
@@ -68,6 +72,7 @@ first c x = (c x.0, x.1)
 abbrev pub of_first : {X Y : Type 0} → (X → Type 0) → X × Y → Type 0
 of_first P x = P x.0
 
+-- the same of what a turn gives
 abbrev pub step : {A : Type 0} → (A → A) → Step A → Step A
 step c (again a) = again (c a)
 step c (done a) = done (c a)
@@ -76,6 +81,7 @@ abbrev pub of_step : {A : Type 0} → (A → Type 0) → Step A → Type 0
 of_step P (again a) = P a
 of_step P (done a) = P a
 
+-- the second gives c of what the first gives, in its state moved; or it stops with its fault moved
 abbrev pub Like : {X : Type 0} → ℕ → (X → X) → (X → Type 0) → Read X → Read X → Type 0
 Like k c P (Ok (x, s)) (Ok (y, t)) = (y ≡ c x) × (t ≡ moved_state k s) × P x
 Like k c P (Ok (x, s)) (Err f) = ⊥
@@ -89,6 +95,7 @@ pub record Moves (z : Place) {X : Type 0} (c : X → X) (P : X → Type 0) (r q 
 
 -- ---- the laws
 
+-- what is given, a move, and a fault
 pub moves_give : {z : Place} {X : Type 0} {c : X → X} {P : X → Type 0} {x y : X} → y ≡ c x → P x →
     Moves z c P (give x) (give y)
 moves_give is so = record { like = λ s. (is, refl, so) }
@@ -117,6 +124,7 @@ moves_so {z = z} {c = c} {P = P} {Q = Q} {r = r} {q = q} so one =
 
 module _ {z : Place} {X Y : Type 0} (c : X → X) (P : X → Type 0) (d : Y → Y) (Q : Y → Type 0) (f h : X → Form Y)
     (rest : (x : X) → P x → Moves z d Q (f x) (h (c x))) where
+  -- what follows, after what was read by itself and elsewhere
   then_like : (x y : Read X) → Like z.base c P x y
       → Like z.base d Q (x ▸ λ a t. does (f a) Whole (by_itself z) t)
       (y ▸ λ b t. does (h b) (kept z.deep) (elsewhere z) t)
@@ -169,6 +177,7 @@ pub moves_byte : {z : Place} {Y : Type 0} {d : Y → Y} {Q : Y → Type 0} {f h 
     ((p : ℕ) → Moves z d Q (f p) (h (z.base + p))) → Moves z d Q (both (see the_byte) f) (both (see the_byte) h)
 moves_byte {z = z} rest = moves_seen (λ (p : ℕ). z.base + p) (λ s. add_all z.base z.offset _) rest
 
+-- a span is moved with the text, and so is that of a comment that is seen
 span_moved : (k o p q : ℕ) → placed_span k (span o p q) ≡ span (k + o) p q
 span_moved k o p q = rw (add_all k o p, add_all k o q) refl
 
@@ -187,6 +196,7 @@ pub moves_see_comment : {z : Place} {Y : Type 0} {d : Y → Y} {Q : Y → Type 0
 moves_see_comment {z = z} rest =
     moves_seen (option_map (placed_span z.base)) (λ s. comment_moved z.text z.base z.offset s.at) rest
 
+-- so is the operator of the first document that waits
 first_moved : (k : ℕ) (s : State) → option_map (λ (p : ℕ). k + p) (first_waiting s) ≡ first_waiting (moved_state k s)
 first_moved k s = by s.waiting
   where
@@ -214,6 +224,7 @@ module _ {A : Type 0} (c : A → A) where
       let all = map-append c xs (x ∷ []) in
       record { like = λ s. rw (kept_grows z.deep, rows, is, ← all) (rest.like s) }
 
+  -- one more element, as all that is read
   pub moves_push : {z : Place} {P : Row A → Type 0} {xs ys : Row A} {x y : A} → ys ≡ map c xs → y ≡ c x →
       P (xs ++ x ∷ []) → Moves z (map c) P (push xs x) (push ys y)
   moves_push {z = z} {xs = xs} {x = x} rows is so =
@@ -230,6 +241,7 @@ pub moves_pick : {z : Place} {X : Type 0} {c : X → X} {P : X → Type 0} {r u 
     Moves z c P u v → Moves z c P (pick b r u) (pick b q v)
 moves_pick b one two = moves_pick_by b (λ e. one) (λ e. two)
 
+-- one form or the other by what is seen, which tells no offset
 when_like : {X : Type 0} (k : ℕ) (c : X → X) (P : X → Type 0) (a b : Bool) → a ≡ b → (x u y v : Read X) → Like k c P x y
     → Like k c P u v → Like k c P (cond a x u) (cond b y v)
 when_like k c P true true is x u y v one two = one
@@ -243,6 +255,7 @@ pub moves_when : {z : Place} {X : Type 0} {c : X → X} {P : X → Type 0} {l : 
 moves_when {z = z} {c = c} {P = P} still one two =
     record { like = λ s. when_like z.base c P _ _ (still s) _ _ _ _ (one.like s) (two.like s) }
 
+-- one token, with its span
 token_like : {X : Type 0} (k o : ℕ) (c : X → X) (P : X → Type 0) (s : State) (x y : Read X) → Like k c P x y
     → Like k (each c (placed_span k)) (of_first P) (x ▸ λ a t. Ok ((a, span o s.at t.at), t))
     (y ▸ λ b t. Ok ((b, span (k + o) s.at t.at), t))
@@ -261,6 +274,7 @@ moves_token {z = z} {c = c} {P = P} {r = r} {q = q} one =
           (does q (kept z.deep) (elsewhere z) (moved_state z.base s)) (one.like s);
     }
 
+-- what is read, with the same bytes
 bytes_like : {X : Type 0} (T : List ℕ) (k : ℕ) (c : X → X) (P : X → Type 0) (s : State) (x y : Read X) → Like k c P x y
     → Like k (first {Y = Spelled} c) (of_first P) (x ▸ λ a t. Ok ((a, raw T s.at t.at), t))
     (y ▸ λ b t. Ok ((b, raw T s.at t.at), t))
@@ -277,6 +291,7 @@ moves_with_bytes {z = z} {c = c} {P = P} {r = r} {q = q} one =
           (does q (kept z.deep) (elsewhere z) (moved_state z.base s)) (one.like s);
     }
 
+-- what is read in a level of its own, or its fault
 level_like : {X : Type 0} (k : ℕ) (c : X → X) (P : X → Type 0) (s : State) (x y : Read X) → Like k c P x y
     → Like k (each c (map (placed_body k))) (of_first P) (x ▸ λ a t. Ok ((a, t.bodies), outer_level s t))
     (y ▸ λ b t. Ok ((b, t.bodies), outer_level (moved_state k s) t))
@@ -294,6 +309,7 @@ moves_level {z = z} {c = c} {P = P} {r = r} {q = q} one =
           (does q (kept z.deep) (elsewhere z) (own_level (moved_state z.base s))) (one.like (own_level s));
     }
 
+-- what is another fault where the text ends in it
 ended_moved : (kind : FaultKind) (k at p : ℕ) (what : FaultKind) →
     ended_by kind (k + at) (k + p) what ≡ moved_fault k (ended_by kind at p what)
 ended_moved kind k at p UnexpectedEnd = refl
@@ -318,6 +334,7 @@ moves_ending {z = z} {c = c} {P = P} {kind = kind} {at = at} {r = r} {q = q} one
 
 module _ {z : Place} {A : Type 0} (c : A → A) (S R : A → Type 0) (turn turn2 : A → Form (Step A))
     (starts : (a : A) → S a → Moves z (step c) (of_step R) (turn a) (turn2 (c a))) (goes_on : (a : A) → R a → S a) where
+  -- what is given and what a turn reads, by itself and elsewhere
   abbrev g : Given
   g = by_itself z
 
@@ -330,6 +347,7 @@ module _ {z : Place} {A : Type 0} (c : A → A) (S R : A → Type 0) (turn turn2
   two : A → State → Read (Step A)
   two a s = does (turn2 a) (kept z.deep) h s
 
+  -- one turn, and those after it
   turn_like : (a : A) (s : State) (x y : Read (Step A)) → one a s ≡ x → two (c a) (moved_state z.base s) ≡ y →
       Like z.base (step c) (of_step R) x y
       → ((b : A) (t : State) → length z.text - t.at < length z.text - s.at → R b →
@@ -361,6 +379,7 @@ module _ {z : Place} {A : Type 0} (c : A → A) (S R : A → Type 0) (turn turn2
   turn_like a s (Err e) (Err f) is is2 like rest =
       rw (turns_fault g one a s e is, turns_fault h two (c a) (moved_state z.base s) f is2) like
 
+  -- by how many bytes are left
   loop_like : (n : ℕ) (a : A) (s : State) → length z.text - s.at < n → S a →
       Like z.base c R (turns g one a s) (turns h two (c a) (moved_state z.base s))
   unfolding one two
@@ -369,6 +388,7 @@ module _ {z : Place} {A : Type 0} (c : A → A) (S R : A → Type 0) (turn turn2
       turn_like a s (one a s) (two (c a) (moved_state z.base s)) refl refl ((starts a so).like s)
       (λ b t less known. loop_like n b t (omega (arith, less, low)) (goes_on b known))
 
+  -- a repetition
   pub moves_many : (a : A) → S a → Moves z c R (many turn a) (many turn2 (c a))
   unfolding many one two
   moves_many a so = record { like = λ s. loop_like (suc (length z.text - s.at)) a s (omega arith) so }
@@ -404,6 +424,7 @@ same_from k T w p = same_below k _ T w _ p
 body_moved : (k : ℕ) (s : Span) (n : ℕ) → s.«end» ≡ suc n → placed_body k s ≡ placed_span k s
 body_moved k s n is = rw is refl
 
+-- the bodies that are found and the place after them, or a fault; and these, moved
 abbrev Bodies : Type 0
 Bodies = Result (Row Span × ℕ) Fault
 
@@ -412,6 +433,7 @@ moved_bodies k (Ok x) = Ok (map (placed_body k) x.0, x.1)
 moved_bodies k (Err f) = Err (moved_fault k f)
 
 module _ (edition : Edition) (T : List ℕ) (k o : ℕ) where
+  -- one more body, by where the line of its delimiter begins
   body_step : (w : Waiting) (ws : Row Waiting) (bodies : Row Span) (p : ℕ) → 1 ≤ p
       → ((bs : Row Span) (q : ℕ) → 1 ≤ q →
       bodies_from (given edition T (k + o)) (map (moved_waiting k) ws) (map (placed_body k) bs) q
@@ -444,6 +466,7 @@ module _ (edition : Edition) (T : List ℕ) (k o : ℕ) where
 
 module _ {z : Place} {Y : Type 0} (d : Y → Y) (Q : Y → Type 0) (f h : Unit {0} → Form Y)
     (rest : Moves z d Q (f tt) (h tt)) where
+  -- what follows the bodies that are found, or their fault
   change_like : (x y : Bodies) → y ≡ moved_bodies z.base x
       → Like z.base d Q (nothing_read (state_by x) ▸ λ u t. does (f u) Whole (by_itself z) t)
       (nothing_read (state_by y) ▸ λ u t. does (h u) (kept z.deep) (elsewhere z) t)

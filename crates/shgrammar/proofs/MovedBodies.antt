@@ -7,9 +7,11 @@ use Rattle.shast.specs.Bodies.{fill_item_content, fill_item, fill_items, fill_en
 use Rattle.shast.specs.Moved.{carried, carried_entry, carried_content, carried_and_or, carried_and_or_parts, carried_pipeline, carried_pipes, carried_command, carried_compound, carried_form, carried_branch, carried_branches, carried_else, carried_cases, carried_case, carried_items, carried_item, carried_item_content}
 
 module _ (f h : Span → Span) (deep : Bool) where
+  -- the bodies, moved
   abbrev bodies : Row Span → Row Span
   bodies bs = map h bs
 
+  -- an item and a row of items, and the bodies that are left after them
   item_content_fill : (c : AnItemContent) (bs : Row Span) →
       fill_item_content (carried_item_content f h deep c) (bodies bs)
       ≡ (carried_item_content f h deep (fill_item_content c bs).0, bodies (fill_item_content c bs).1)
@@ -33,6 +35,7 @@ module _ (f h : Span → Span) (deep : Bool) where
   items_fill no_item bs = refl
   items_fill (more_items i is) bs = rw (item_fill i bs, items_fill is (fill_item i bs).1) refl
 
+  -- a list and each part of it, and the bodies that are left after it
   mutual
     unfolding fill_entries fill_entry fill_content fill_and_or fill_and_or_parts fill_pipeline fill_pipes fill_command
         fill_compound fill_form fill_branch fill_branches fill_else fill_cases fill_case
@@ -67,6 +70,7 @@ module _ (f h : Span → Span) (deep : Bool) where
     and_or_parts_fill (more_and_or operator join p ps) bs =
         rw (pipeline_fill p bs, and_or_parts_fill ps (fill_pipeline p bs).1) refl
 
+    -- a pipeline, and the commands in it
     pipeline_fill : (p : APipeline) (bs : Row Span) →
         fill_pipeline (carried_pipeline f h deep p) (bodies bs)
         ≡ (carried_pipeline f h deep (fill_pipeline p bs).0, bodies (fill_pipeline p bs).1)
@@ -92,6 +96,7 @@ module _ (f h : Span → Span) (deep : Bool) where
     compound_fill (formed form span redirects) bs =
         rw (form_fill form bs, items_fill redirects (fill_form form bs).1) refl
 
+    -- a compound command without its redirections, and the branches of an `if`
     form_fill : (m : AForm) (bs : Row Span) →
         fill_form (carried_form f h deep m) (bodies bs)
         ≡ (carried_form f h deep (fill_form m bs).0, bodies (fill_form m bs).1)
@@ -118,6 +123,7 @@ module _ (f h : Span → Span) (deep : Bool) where
     branches_fill no_branch bs = refl
     branches_fill (more_branches b rs) bs = rw (branch_fill b bs, branches_fill rs (fill_branch b bs).1) refl
 
+    -- what stands after `else`, and the items of a `case`
     else_fill : (o : Otherwise) (bs : Row Span) →
         fill_else (carried_else f h deep o) (bodies bs)
         ≡ (carried_else f h deep (fill_else o bs).0, bodies (fill_else o bs).1)
@@ -135,12 +141,14 @@ module _ (f h : Span → Span) (deep : Bool) where
         ≡ (carried_case f h deep (fill_case c bs).0, bodies (fill_case c bs).1)
     case_fill (case_item comments patterns body span) bs = rw (entries_fill body bs) refl
 
+  -- a list with all its bodies, or as it was where none was read
   pub filled_moved : (bs : Row Span) (es : Entries) →
       filled (map h bs) (carried f h deep es) ≡ carried f h deep (filled bs es)
   unfolding filled
   filled_moved [] es = refl
   filled_moved (b ∷ bs) es = ap (λ (r : Entries × Row Span). r.0) (entries_fill es (b ∷ bs))
 
+  -- the same of a row of entries
   row_fill : (es : Row AnEntry) (bs : Row Span) →
       fill_row (map (carried_entry f h deep) es) (map h bs)
       ≡ (map (carried_entry f h deep) (fill_row es bs).0, map h (fill_row es bs).1)

@@ -21,10 +21,12 @@ use Rattle.shgrammar.proofs.Moved.{Place, Any, same, each, first, of_first, step
 use Rattle.shgrammar.proofs.MovedTrees.{is_empty_map, pushed_some, span_to, join_to, here_to, word_to, item_to, command_to, pipe_to, pipeline_to, part_to, and_or_to, items_row, pipes_row, parts_row, redirects_to, word_span_to, CommandEnds, simple_ends, redirects_end, PipeEnds, PipelineEnds, pipeline_ends, PartEnds, AndOrEnds, and_or_ends}
 use Rattle.shgrammar.proofs.MovedWords.{Fits, moves_next, moves_mark, moves_comment, moves_word, moves_unexpected}
 
+-- that something is there does not change where it is moved
 pub is_some_map : {A B : Type 0} (c : A → B) (o : Option A) → is_some (option_map c o) ≡ is_some o
 is_some_map c None = refl
 is_some_map c (Some x) = refl
 
+-- a step that goes on by a test moves, where the test is the same there
 pub moves_if : {z : Place} {A : Type 0} {c : A → A} {P : A → Type 0} (b d : Bool) → d ≡ b → (x y : A) → y ≡ c x → P x →
     Moves z (step c) (of_step P) (give (step_if b x)) (give (step_if d y))
 moves_if true true alike x y is so = moves_give (ap (λ v. again v) is) so
@@ -32,6 +34,7 @@ moves_if true false alike x y is so = absurd cc
 moves_if false true alike x y is so = absurd cc
 moves_if false false alike x y is so = moves_give (ap (λ v. done v) is) so
 
+-- where nothing is asked of a step, whatever is known of it is enough
 pub of_any : {A : Type 0} (P : A → Type 0) (x : Step A) → of_step P x → of_step Any x
 of_any P (again a) so = tt
 of_any P (done a) so = tt
@@ -45,6 +48,7 @@ begun_none true None true so is none = absurd cc
 begun_none true (Some p) r so is none = absurd cc
 
 module _ (z : Place) where
+  -- how much further the text stands there, and whether the trees in command substitutions are kept
   abbrev k : ℕ
   k = z.base
 
@@ -53,6 +57,7 @@ module _ (z : Place) where
 
   -- ---- items
 
+  -- the items so far, moved, and that there are some
   abbrev pub items_to : ItemsSoFar → ItemsSoFar
   items_to i = items_so_far (map (item_to k deep) i.items) i.position i.next
 
@@ -63,12 +68,14 @@ module _ (z : Place) where
   abbrev Begun : ItemsSoFar → Type 0
   Begun i = (not (is_empty i.items) || begins_simple i.next.token) ≡ true
 
+  -- where there are items they are begun; a continuation breaks them there as it does here
   some_begun : (i : ItemsSoFar) → SomeItems i → Begun i
   some_begun i some = ap (λ e. not e || begins_simple i.next.token) some
 
   breaks_to : (i : ItemsSoFar) → breaks (items_to i) ≡ breaks i
   breaks_to i = ap (λ e. not e && i.next.broken) (is_empty_map (item_to k deep) i.items)
 
+  -- an item that is a word, moved
   as_item_to : (b c : Bool) → b ≡ c → (position : Position) (w : AWord) →
       item b (as_item position (word_to k deep w)) ≡ item_to k deep (item c (as_item position w))
   as_item_to b c is Prefix w = ap (λ e. item e (assign (word_to k deep w))) is
@@ -77,6 +84,7 @@ module _ (z : Place) where
 
   -- ---- newlines, `;`, and joins
 
+  -- a newline with the bodies after it, and a `;`
   pub moves_line_end : (n : Next) → Moves z same Any (a_newline n) (a_newline n)
   unfolding a_newline
   moves_line_end n = moves_pick _
@@ -87,6 +95,7 @@ module _ (z : Place) where
   moves_semicolon n = moves_pick _ (moves_on (moves_then (moves_next z _) (λ m so. moves_give refl tt)))
       (moves_give refl tt)
 
+  -- that no here-document waits, or the fault where one does
   moves_none_waits : (w : Option ℕ) → Moves z same Any (none_waits w) (none_waits (option_map (λ (p : ℕ). k + p) w))
   moves_none_waits (Some b) = moves_stop
   moves_none_waits None = moves_give refl tt
@@ -95,11 +104,13 @@ module _ (z : Place) where
   unfolding nothing_waits
   moves_nothing_waits = moves_see_waiting (λ w. moves_none_waits w)
 
+  -- the comments so far, with one more where one stands
   moves_with : (cs : Row Span) (c : Option Span) →
       Moves z (map (span_to k)) Any (with_comment cs c) (with_comment (map (span_to k) cs) (option_map (span_to k) c))
   moves_with cs (Some c) = moves_push (span_to k) refl refl tt
   moves_with cs None = moves_give refl tt
 
+  -- a join so far, moved; its turns, and a whole join
   abbrev pub join_so_far_to : JoinSoFar → JoinSoFar
   join_so_far_to j = join_so_far (join_to k j.join) j.next
 
@@ -130,6 +141,7 @@ module _ (z : Place) where
 
   -- ---- redirections
 
+  -- the number of a redirection, where it has one, and its operator
   moves_number : (n : Next) → Moves z (first {Y = Next} (option_map (span_to k))) Any (a_number n) (a_number n)
   unfolding a_number
   moves_number n = moves_pick _
@@ -148,6 +160,7 @@ module _ (z : Place) where
   moves_operator_by p (Some o) = moves_then (moves_operator o) (λ x so. moves_give refl tt)
   moves_operator_by p None = moves_stop
 
+  -- the here-document of an operator, by where that and the word stand
   moves_document_by : (b p : ℕ) (strip : Bool) (d : Option ADelimiter) →
       Moves z (option_map (here_to k)) Any (document_by b p strip d) (document_by (k + b) (k + p) strip d)
   moves_document_by b p strip (Some d) = moves_then (moves_waits (document b strip d)) (λ u so. moves_give refl tt)
@@ -168,6 +181,7 @@ module _ (z : Place) where
       (moves_document o.0 o.1.start (word_span w.0).start w.1)
 
   module _ (inner : Inner) (fits : Fits z inner) where
+    -- the target of a redirection, and one more redirection with all its parts
     moves_target : Moves z (first {Y = Spelled} (word_to k deep)) Any (a_target inner) (a_target inner)
     unfolding a_target
     moves_target = moves_then (moves_next z _)
@@ -188,6 +202,7 @@ module _ (z : Place) where
 
     -- ---- simple commands
 
+    -- one more item, and a simple command
     pub moves_item : (i : ItemsSoFar) (position : Position) →
         Moves z (step items_to) (of_step SomeItems) (an_item inner i position) (an_item inner (items_to i) position)
     unfolding an_item
@@ -223,6 +238,7 @@ module _ (z : Place) where
 
     -- ---- compound commands with their redirections, functions
 
+    -- one more redirection, all of them, and a compound command by what opens it
     moves_redirect_turn : (i : ItemsSoFar) →
         Moves z (step items_to) (of_step Any) (redirect_turn inner i) (redirect_turn inner (items_to i))
     unfolding redirect_turn
@@ -247,6 +263,7 @@ module _ (z : Place) where
     moves_compound_by n (Some o) = moves_then (fits.compound o) (λ c ends. moves_with_redirect_list c ends)
     moves_compound_by n None = moves_unexpected z inner fits n
 
+    -- a function under a name, a command that begins with a word, and any command
     moves_named_function : (good : Bool) (w : AWord) →
         Moves z (first {Y = Next} (command_to k deep)) (of_first (CommandEnds k deep))
         (named_function inner good (word_span w)) (named_function inner good (word_span (word_to k deep w)))
@@ -274,17 +291,20 @@ module _ (z : Place) where
 
     -- ---- pipelines
 
+    -- a `!`, where one stands
     moves_bang : (n : Next) → Moves z (first {Y = Next} (option_map (span_to k))) Any (a_bang n) (a_bang n)
     unfolding a_bang
     moves_bang n = moves_pick _ (moves_then (moves_mark z)
         (λ x so. moves_then (moves_next z _) (λ m all. moves_give refl tt))) (moves_give refl tt)
 
+    -- the commands after the first one so far, moved, and that where they end is moved too
     abbrev pipes_so_far_to : PipesSoFar → PipesSoFar
     pipes_so_far_to p = pipes_so_far (map (pipe_to k deep) p.parts) p.next
 
     abbrev PipesEnd : PipesSoFar → Type 0
     PipesEnd p = All (PipeEnds k deep) p.parts
 
+    -- one more command, and a whole pipeline
     moves_one_command : (p : PipesSoFar) → PipesEnd p →
         Moves z (step pipes_so_far_to) (of_step PipesEnd) (one_command inner p) (one_command inner (pipes_so_far_to p))
     unfolding one_command
@@ -313,12 +333,14 @@ module _ (z : Place) where
 
     -- ---- and-or lists
 
+    -- the pipelines after the first one so far, moved, and that where they end is moved too
     abbrev and_or_so_far_to : AndOrSoFar → AndOrSoFar
     and_or_so_far_to a = and_or_so_far (map (part_to k deep) a.parts) a.next
 
     abbrev AndOrEnd : AndOrSoFar → Type 0
     AndOrEnd a = All (PartEnds k deep) a.parts
 
+    -- one more pipeline, and a whole and-or list
     moves_one_pipeline : (a : AndOrSoFar) (o : AndOrOperator) → AndOrEnd a →
         Moves z (step and_or_so_far_to) (of_step AndOrEnd) (one_pipeline inner a o)
         (one_pipeline inner (and_or_so_far_to a) o)
@@ -355,9 +377,11 @@ module _ (z : Place) where
 
   -- ---- what parts entries
 
+  -- a separator with the offset after it, moved
   abbrev pub parted_to : Option ASeparator → Option ASeparator
   parted_to s = option_map (λ (x : ASeparator). (x.0, k + x.1)) s
 
+  -- a separator, where one stands
   moves_separator_by : (n : Next) (s : Option Separator) →
       Moves z (first {Y = Next} parted_to) Any (separator_by n s) (separator_by n s)
   moves_separator_by n (Some s) =

@@ -34,6 +34,7 @@ use Rattle.shgrammar.specs.declared.edition.Edition.{Edition}
 abbrev BlankIs : Bool → AnEntry → Type 0
 BlankIs blank (entry what background b comment) = b ≡ blank
 
+-- a row takes the bodies of its level alike, whether its first entry is blank or not
 blanked_fill : (pale : Bool) (bs : Row Span) (es : Row AnEntry) →
     filled_row bs (blanked_row pale es) ≡ blanked_row pale (filled_row bs es)
 unfolding filled_row fill_row fill_entry
@@ -49,6 +50,7 @@ module _ (k : ℕ) (deep : Bool) where
       ap (λ (c : Bool). entry (carried_content (span_to k) (body_to k) deep what) background c
       (option_map (span_to k) comment)) (and-false pale ∙ sym (is ∙ and-false blank))
 
+  -- a row that was moved, with one more entry, of which only the first may be blank
   row_pushed : (pale blank begun : Bool) (xs : Row AnEntry) (e : AnEntry) → begun ≡ not (is_empty xs) →
       BlankIs (blank && not begun) e
       → blanked_row pale (map (entry_to k deep) xs) ++ blanked_entry (pale && not begun) (entry_to k deep e) ∷ []
@@ -69,12 +71,14 @@ push_on : {z : Place} {A Y : Type 0} {d : Y → Y} {Q : Y → Type 0} {xs ys : R
 push_on {z = z} rest = record { like = λ s. rw (kept_grows z.deep) (rest.like s) }
 
 module _ (z : Place) (inner : Inner) (fits : Fits z inner) where
+  -- how far things move, and whether the trees in command substitutions are kept
   abbrev k : ℕ
   k = z.base
 
   abbrev deep : Bool
   deep = z.deep
 
+  -- the end of a line is read there as it is by itself
   moves_end : (n : Next) → Moves z same Any (end_of_line inner n) (end_of_line inner n)
   unfolding end_of_line
   moves_end n =
@@ -84,6 +88,7 @@ module _ (z : Place) (inner : Inner) (fits : Fits z inner) where
   -- ---- a line elsewhere, where its first entry may be blank
 
   module _ (pale : Bool) where
+    -- an entry that was read, moved, and blank or not
     abbrev entered_as : Bool → Entered → Entered
     entered_as b e = record {
       entry = blanked_entry b (entry_to k deep e.entry);
@@ -91,6 +96,7 @@ module _ (z : Place) (inner : Inner) (fits : Fits z inner) where
       next = e.next;
     }
 
+    -- so one is made of parts that were moved
     entered_is : (a : AnAndOr) (s : Option ASeparator) (blank b : Bool) (c : Option Span) (n : Next)
         → record {
           entry = entry (command (and_or_to k deep a)) (is_background (parted_to z s)) b
@@ -120,6 +126,7 @@ module _ (z : Place) (inner : Inner) (fits : Fits z inner) where
         by_kind Semicolon = refl
         by_kind Ampersand = refl
 
+    -- an entry is read there as it is by itself, moved, and blank where that is told
     entry_as : (blank b : Bool) (n : Next) →
         Moves z (entered_as b) (λ e. BlankIs blank e.entry) (an_entry inner blank n) (an_entry inner b n)
     unfolding an_entry
@@ -128,6 +135,7 @@ module _ (z : Place) (inner : Inner) (fits : Fits z inner) where
         (λ a ends. moves_then (moves_separator z a.1)
         (λ s so. moves_then (moves_comment z s.1) (λ c all. moves_give (entered_is a.0 s.0 blank b c.0 c.1) refl)))
 
+    -- the entries so far, moved, the first of them blank or not
     abbrev listed_as : Listed → Listed
     listed_as l = record {
       entries = blanked_row pale (map (entry_to k deep) l.entries);
@@ -144,9 +152,11 @@ module _ (z : Place) (inner : Inner) (fits : Fits z inner) where
     abbrev OneLine : ListSoFar → Type 0
     OneLine l = l.list.begun ≡ not (is_empty l.list.entries)
 
+    -- a row with one more entry is not empty
     more_begun : (xs : Row AnEntry) (x : AnEntry) → true ≡ not (is_empty (xs ++ x ∷ []))
     more_begun xs x = sym (ap not (pushed_some xs x))
 
+    -- one more entry, or none
     one_entry_as : (l : ListSoFar) → OneLine l →
         Moves z (step list_as) (of_step OneLine) (one_entry inner l) (one_entry inner (list_as l))
     unfolding one_entry
@@ -163,6 +173,7 @@ module _ (z : Place) (inner : Inner) (fits : Fits z inner) where
     unfolding entry_turn
     entry_turn_as l begins = moves_pick _ (one_entry_as l begins) (moves_give refl begins)
 
+    -- a comment that stands for itself, or none
     remark_as : (l : ListSoFar) (c : Option Span) (n : Next) → OneLine l →
         Moves z list_as OneLine (remark_by l (c, n)) (remark_by (list_as l) (option_map (span_to k) c, n))
     remark_as l (Some c) n begins =
@@ -176,15 +187,18 @@ module _ (z : Place) (inner : Inner) (fits : Fits z inner) where
     unfolding a_remark
     a_remark_as l begins = moves_then (moves_comment z l.next) (λ x so. remark_as l x.0 x.1 begins)
 
+    -- the entries and the comment of one line
     on_line_as : (l : ListSoFar) → OneLine l → Moves z list_as OneLine (on_line inner l) (on_line inner (list_as l))
     unfolding on_line
     on_line_as l begins = moves_then
         (moves_many list_as OneLine OneLine (entry_turn inner) (entry_turn inner) entry_turn_as (λ m so. so) l begins)
         (λ m so. a_remark_as m so)
 
+    -- the entries of a line, moved, the first of them blank or not
     abbrev pub row_as : Row AnEntry → Row AnEntry
     row_as es = blanked_row pale (map (entry_to k deep) es)
 
+    -- so a line is read there, without the bodies of its here-documents and with them
     open_line_as : (blank : Bool) →
         Moves z (first {Y = Bool} row_as) Any (an_open_line inner blank) (an_open_line inner pale)
     unfolding an_open_line
@@ -202,6 +216,7 @@ module _ (z : Place) (inner : Inner) (fits : Fits z inner) where
 
 -- ---- the lines of a script
 
+-- outcomes that are alike but for the move are those of a line by itself and at p
 same_line : (deep : Bool) (p : ℕ) (blank : Bool) (x y : Read (Row AnEntry × Bool)) →
     Like p (first {Y = Bool} (λ es. blanked_row blank (map (placed_entry deep p) es))) Any x y → SameBy deep p blank y x
 same_line _ p blank (Ok ((es, newline), s)) (Ok ((fs, ended), t)) like = (
@@ -213,6 +228,7 @@ same_line _ p blank (Ok x) (Err f) like = absurd like
 same_line _ p blank (Err e) (Ok y) like = absurd like
 same_line _ p blank (Err e) (Err f) like = like
 
+-- a line at p and that line by itself, with the trees in command substitutions or without them
 moved_by : (edition : Edition) → (deep : Bool) (B : List ℕ) (p : ℕ) (blank : Bool) →
     SameBy deep p blank (line_told edition B (kept deep) blank p p) (line_told edition B Whole false p 0)
 moved_by edition deep B p blank =
@@ -222,6 +238,7 @@ moved_by edition deep B p blank =
     (does (the_line false) Whole (given edition (drop p B) 0) (standing 0))) none
     (same_line deep p blank _ _ ((line_as z (level most_open) (moves_inner z most_open) blank false).like (standing 0)))
 
+-- so a line at p has the entries of that line by itself, moved
 pub line_moved : (edition : Edition) → (B : List ℕ) → LineMoves edition B
 line_moved edition B p blank = moved_by edition true B p blank
 

@@ -23,6 +23,7 @@ with_all z = record { text = z.text; offset = z.offset; edition = z.edition; bas
 
 module _ (z : Place) (inner : Inner) (fits : Fits (with_all z) inner) (fits_without : FitsWithout (elsewhere z) inner)
     (b : ℕ) (ss : Row ASubst) where
+  -- how much further on the text stands
   abbrev k : ℕ
   k = z.base
 
@@ -33,6 +34,7 @@ module _ (z : Place) (inner : Inner) (fits : Fits (with_all z) inner) (fits_with
   none_grows p s = tells_then Nothing (elsewhere z) (tells_any Nothing (elsewhere z))
       (λ es t so. tells_seen Nothing (elsewhere z) (record { told = refl }))
 
+  -- without its tree nothing is kept of what is read, and it ends in the same state, moved
   left_out : (x y w : Read (Row ASubst)) → Like k (map (subst_to k true)) Any x y → LikeWithout All y w
       → Holds (λ (ys : Row ASubst) (t : State). ys ≡ []) w → Like k (λ (xs : Row ASubst). []) Any x w
   left_out (Ok (x, s)) (Ok (y, t)) (Ok (w, u)) like same none = (none, sym same.0 ∙ like.1, tt)
@@ -42,6 +44,7 @@ module _ (z : Place) (inner : Inner) (fits : Fits (with_all z) inner) (fits_with
   left_out (Err e) (Err f) (Ok (w, u)) like same none = absurd same
   left_out (Err e) (Err f) (Err h) like same none = sym same ∙ like
 
+  -- one substitution, with its tree or without
   abbrev Read_there : Bool → State → Type 0
   Read_there deep s =
       Like k (substs_to k deep) Any (does (one_substitution inner b ss) Whole (by_itself z) s)
@@ -55,6 +58,7 @@ module _ (z : Place) (inner : Inner) (fits : Fits (with_all z) inner) (fits_with
       ((alike_substitution fits_without (k + b) (map (subst_to k true) ss) []).like
       (moved_state k s)) (none_grows (k + b) (moved_state k s)).told
 
+  -- so it is with whatever is kept there
   pub moves_substitution : Moves z (substs_to k z.deep) Any (a_substitution inner b ss)
       (a_substitution inner (k + b) (substs_to k z.deep ss))
   unfolding a_substitution

@@ -11,6 +11,7 @@ use Rattle.shgrammar.specs.Compounds.{under_name, after_remarks}
 
 -- ---- rows and what may be there
 
+-- a row is empty just where one made of its elements is; with one more at its end it never is
 pub is_empty_map : {A : Type 0} (c : A → A) (xs : Row A) → is_empty (map c xs) ≡ is_empty xs
 is_empty_map c [] = refl
 is_empty_map c (x ∷ xs) = refl
@@ -24,11 +25,13 @@ abbrev pub kept_row : {A : Type 0} → Bool → Row A → Row A
 kept_row true xs = xs
 kept_row false xs = []
 
+-- of an empty row nothing is kept
 pub kept_none : {A : Type 0} (deep : Bool) → kept_row {A = A} deep [] ≡ []
 kept_none true = refl
 kept_none false = refl
 
 module _ (k : ℕ) where
+  -- what stands k further on: a span, a body, an offset, a join and a here-document
   abbrev pub span_to : Span → Span
   span_to s = placed_span k s
 
@@ -46,6 +49,7 @@ module _ (k : ℕ) where
 
   -- with the trees in substitutions, or without them
   module _ (deep : Bool) where
+    -- a word, a substitution, an item and a command
     abbrev pub word_to : AWord → AWord
     word_to w = carried_word span_to body_to deep w
 
@@ -58,6 +62,7 @@ module _ (k : ℕ) where
     abbrev pub command_to : ACommand → ACommand
     command_to c = carried_command span_to body_to deep c
 
+    -- a pipeline and an and-or list, and what they have after the first
     abbrev pub pipe_to : APipelinePart → APipelinePart
     pipe_to p = carried_pipe span_to body_to deep p
 
@@ -70,12 +75,14 @@ module _ (k : ℕ) where
     abbrev pub and_or_to : AnAndOr → AnAndOr
     and_or_to a = carried_and_or span_to body_to deep a
 
+    -- an entry and a list
     abbrev pub entry_to : AnEntry → AnEntry
     entry_to e = carried_entry span_to body_to deep e
 
     abbrev pub list_to : Entries → Entries
     list_to es = carried span_to body_to deep es
 
+    -- what a compound command has, and its form
     abbrev pub branch_to : ABranch → ABranch
     branch_to b = carried_branch span_to body_to deep b
 
@@ -95,6 +102,7 @@ module _ (k : ℕ) where
     abbrev pub substs_to : Row ASubst → Row ASubst
     substs_to ss = kept_row deep (map subst_to ss)
 
+    -- a row whose parts are moved makes what the row makes, moved: of substitutions, all or those kept
     all_substs : (ss : Row ASubst) → substs_of (map subst_to ss) ≡ carried_substs span_to body_to deep (substs_of ss)
     all_substs [] = refl
     all_substs (s ∷ ss) = ap (more_substs (subst_to s)) (all_substs ss)
@@ -108,6 +116,7 @@ module _ (k : ℕ) where
         substs_of (substs_to ss) ≡ kept_substs deep (carried_substs span_to body_to deep (substs_of ss))
     substs_row ss = substs_by deep ss
 
+    -- the same of items, and of what a pipeline and an and-or list have after the first
     pub items_row : (is : Row AnItem) → items_of (map item_to is) ≡ carried_items span_to body_to deep (items_of is)
     items_row [] = refl
     items_row (i ∷ is) = ap (more_items (item_to i)) (items_row is)
@@ -122,6 +131,7 @@ module _ (k : ℕ) where
     parts_row [] = refl
     parts_row (p ∷ ps) = ap (more_and_or p.operator (join_to p.join) (pipeline_to p.pipeline)) (parts_row ps)
 
+    -- the same of entries, branches, items of a `case`, and patterns
     pub entries_row : (es : Row AnEntry) → entries_of (map entry_to es) ≡ list_to (entries_of es)
     entries_row [] = refl
     entries_row (e ∷ es) = ap (more_entries (entry_to e)) (entries_row es)
@@ -140,6 +150,7 @@ module _ (k : ℕ) where
     patterns_row [] = refl
     patterns_row (w ∷ ws) = ap (more_patterns (word_to w)) (patterns_row ws)
 
+    -- comments before a list, redirections after a command, and a name before it: all are moved alike
     pub remarks_to : (cs : Row Span) (es : Entries) →
         after_remarks (map span_to cs) (list_to es) ≡ list_to (after_remarks cs es)
     remarks_to [] es = refl
@@ -159,14 +170,17 @@ module _ (k : ℕ) where
 
     -- ---- where a part stands
 
+    -- the span of a moved word is its span moved
     pub word_span_to : (w : AWord) → word_span (word_to w) ≡ span_to (word_span w)
     word_span_to (word span substs) = refl
 
+    -- so is one of two spans, the first of which may be missing
     begin_to : (begin : Option Span) (s : Span) →
         unwrap_or (option_map span_to begin) (span_to s) ≡ span_to (unwrap_or begin s)
     begin_to None s = refl
     begin_to (Some t) s = refl
 
+    -- so is the span of an item, and that of the last one of a row, or what stands before that
     item_span_to : (i : AnItem) → item_span (item_to i) ≡ span_to (item_span i)
     item_span_to (item broken (assign w)) = word_span_to w
     item_span_to (item broken (argument w)) = word_span_to w
@@ -182,15 +196,18 @@ module _ (k : ℕ) where
     -- ---- where a part ends: a simple command without items, which none that was read is, ends at 0 wherever
     -- it stands
 
+    -- the end of the command is moved with it
     abbrev pub CommandEnds : ACommand → Type 0
     CommandEnds c = (command_span (command_to c)).«end» ≡ k + (command_span c).«end»
 
+    -- so it is with a simple command that has an item
     pub simple_ends : (is : Row AnItem) → is_empty is ≡ false → CommandEnds (simple (items_of is))
     simple_ends [] some = absurd cc
     simple_ends (i ∷ is) some = ap (λ (s : Span). s.«end»)
         (ap (λ (s : Span). last_item s (carried_items span_to body_to deep (items_of is))) (item_span_to i)
         ∙ last_item_to (item_span i) (items_of is))
 
+    -- so it is with each compound command
     compound_end : (c : ACompound) →
         (compound_span (carried_compound span_to body_to deep c)).«end» ≡ k + (compound_span c).«end»
     compound_end (formed form span redirects) = ap (λ (s : Span). s.«end») (last_item_to span redirects)
@@ -198,6 +215,7 @@ module _ (k : ℕ) where
     pub compound_ends : (c : ACompound) → CommandEnds (compound c)
     compound_ends c = compound_end c
 
+    -- so it is with redirections given to a command, and with a name before it
     pub redirects_end : (c : ACommand) (is : Items) → CommandEnds c → CommandEnds (with_redirects c is)
     redirects_end (simple items) is so = so
     redirects_end (compound (formed form mark others)) is so = compound_end (formed form mark is)
@@ -209,9 +227,11 @@ module _ (k : ℕ) where
     under_name_ends name cs (compound body) so = compound_end body
     under_name_ends name cs (function other comments body) so = so
 
+    -- so it is with the command of a part of a pipeline
     abbrev pub PipeEnds : APipelinePart → Type 0
     PipeEnds p = CommandEnds p.command
 
+    -- where the last part of a row ends is moved, or what stands before the row
     pipes_end : (before there : Span) → there.«end» ≡ k + before.«end» → (ps : Row APipelinePart) → All PipeEnds ps
         → (last_command there (pipeline_parts_of (map pipe_to ps))).«end»
         ≡ k + (last_command before (pipeline_parts_of ps)).«end»
@@ -220,6 +240,7 @@ module _ (k : ℕ) where
         pipes_end (command_span p.command) (command_span (command_to p.command)) (All-head PipeEnds p ps all) ps
         (All-tail PipeEnds p ps all)
 
+    -- the same of a pipeline, where it is so with each of its commands
     abbrev pub PipelineEnds : APipeline → Type 0
     PipelineEnds p = (pipeline_span (pipeline_to p)).«end» ≡ k + (pipeline_span p).«end»
 
@@ -229,6 +250,7 @@ module _ (k : ℕ) where
         ap (λ (qs : PipelineParts). (last_command (command_span (command_to c)) qs).«end») (sym (pipes_row ps))
         ∙ pipes_end (command_span c) (command_span (command_to c)) first ps all
 
+    -- the same of a part of an and-or list, and of the last one of a row
     abbrev pub PartEnds : AnAndOrPart → Type 0
     PartEnds p = PipelineEnds p.pipeline
 
@@ -240,6 +262,7 @@ module _ (k : ℕ) where
         parts_end (pipeline_span p.pipeline) (pipeline_span (pipeline_to p.pipeline)) (All-head PartEnds p ps all) ps
         (All-tail PartEnds p ps all)
 
+    -- the same of an and-or list, where it is so with each of its pipelines
     abbrev pub AndOrEnds : AnAndOr → Type 0
     AndOrEnds a = (and_or_span (and_or_to a)).«end» ≡ k + (and_or_span a).«end»
 
@@ -249,6 +272,7 @@ module _ (k : ℕ) where
         ap (λ (qs : AndOrParts). (last_pipeline (pipeline_span (pipeline_to p)) qs).«end») (sym (parts_row ps))
         ∙ parts_end (pipeline_span p) (pipeline_span (pipeline_to p)) first ps all
 
+    -- the same of an entry; nothing is said of a comment
     abbrev pub ContentEnds : AContent → Type 0
     ContentEnds (command a) = AndOrEnds a
     ContentEnds (remark c) = Unit {0}
@@ -256,6 +280,7 @@ module _ (k : ℕ) where
     abbrev pub EntryEnds : AnEntry → Type 0
     EntryEnds (entry what background blank comment) = ContentEnds what
 
+    -- where the last command of a row ends is moved, or the place before the row
     pub entries_end : (before : ℕ) (es : Row AnEntry) → All EntryEnds es →
         commands_end (k + before) (entries_of (map entry_to es)) ≡ k + commands_end before (entries_of es)
     entries_end before [] all = refl

@@ -21,6 +21,7 @@ use Rattle.shgrammar.proofs.Moved.{Place, Any, same, each, first, of_first, step
 use Rattle.shgrammar.proofs.MovedTrees.{span_to, offset_to, word_to, command_to, substs_row, CommandEnds, kept_none, substs_to}
 
 module _ (z : Place) where
+  -- how much further the text stands there, and whether the trees in command substitutions are kept
   abbrev k : ℕ
   k = z.base
 
@@ -29,14 +30,17 @@ module _ (z : Place) where
 
   -- ---- text that is not read
 
+  -- text in single quotes
   moves_single : Moves z same Any single single
   unfolding single
   moves_single = moves_byte (λ b. moves_on (moves_on (moves_when (λ s. refl) moves_stop moves_move)))
 
+  -- a step that goes on by a test
   same_if : {A : Type 0} (c : A → A) (b : Bool) (a : A) → step_if b (c a) ≡ step c (step_if b a)
   same_if c true a = refl
   same_if c false a = refl
 
+  -- text in which a backslash takes one byte: in backquotes, and in dollar-single quotes
   moves_escaped_turn : (how : Escaping) (b : ℕ) (u : Unit {0}) →
       Moves z (step same) (of_step Any) (escaped_turn how b u) (escaped_turn how (k + b) u)
   unfolding escaped_turn
@@ -65,6 +69,7 @@ module _ (z : Place) where
 
   -- ---- tokens and comments
 
+  -- the next token, which is the same
   pub moves_next : (position : Position) → Moves z same Any (next_token position) (next_token position)
   unfolding next_token
   moves_next position = moves_see (λ s. refl) (λ n. moves_on (moves_give refl tt))
@@ -74,6 +79,7 @@ module _ (z : Place) where
       Moves z (each {X = Unit {0}} same (span_to k)) (of_first Any) (token how (move m)) (token how (move m))
   moves_mark = moves_token moves_move
 
+  -- a comment, where one stands, and the token after it
   moves_comment_by : (n : Next) (c : Option Span) →
       Moves z (first {Y = Next} (option_map (span_to k))) Any (comment_by n c) (comment_by n (option_map (span_to k) c))
   moves_comment_by n (Some c) = moves_on (moves_then (moves_next _) (λ m so. moves_give refl tt))
@@ -85,6 +91,7 @@ module _ (z : Place) where
 
   -- ---- words, where what may be opened moves
 
+  -- what may be opened reads there what it reads by itself, moved
   pub record Fits (inner : Inner) : Type 0 where
     pub construct : (mode : Mode) (b : ℕ) (ss : Row ASubst) →
         Moves z (substs_to k deep) Any (inner.construct mode b ss) (inner.construct mode (k + b) (substs_to k deep ss))
@@ -97,10 +104,12 @@ module _ (z : Place) where
         Moves z (first {Y = Next} (command_to k deep)) (of_first (CommandEnds k deep)) (inner.function name)
         (inner.function (span_to k name))
 
+  -- a word so far, moved
   abbrev held_to : WordSoFar → WordSoFar
   held_to h = word_so_far h.nested (substs_to k deep h.substs)
 
   module _ (inner : Inner) (fits : Fits inner) where
+    -- a construct in a word, and a piece by its kind
     moves_opened : (mode : Mode) (b : ℕ) (h : WordSoFar) →
         Moves z (step held_to) (of_step Any) (opened inner mode b h) (opened inner mode (k + b) (held_to h))
     moves_opened mode b h = moves_then (fits.construct mode b h.substs) (λ ss so. moves_give refl tt)
@@ -132,6 +141,7 @@ module _ (z : Place) where
     unfolding a_piece
     moves_piece mode b h = moves_see (λ s. refl) (λ piece. moves_piece_by mode b h piece)
 
+    -- what a construct holds, and a whole word
     pub moves_contents : (mode : Mode) (b : ℕ) (ss : Row ASubst) →
         Moves z (substs_to k deep) Any (contents inner mode b ss) (contents inner mode (k + b) (substs_to k deep ss))
     unfolding contents
@@ -151,6 +161,7 @@ module _ (z : Place) where
 
     -- ---- what is unexpected
 
+    -- the fault is of the same kind, and its offset is moved
     wrong_to : (e : Bool) (p : ℕ) (w : Option ℕ) →
         wrong_with e (k + p) (option_map (λ (q : ℕ). k + q) w)
         ≡ each {X = FaultKind} same (offset_to k) (wrong_with e p w)
@@ -166,6 +177,7 @@ module _ (z : Place) where
         (moves_then (moves_comment n)
         (λ c so. moves_here (λ p. moves_see_waiting (λ w. moves_give (wrong_to (is_end c.1.token) p w) tt))))
 
+    -- so the reading stops there with the same fault, moved
     pub moves_unexpected : {X : Type 0} {c : X → X} {P : X → Type 0} (n : Next) →
         Moves z c P (unexpected inner n) (unexpected inner n)
     moves_unexpected n = moves_then (moves_wrong n) (λ w so. moves_stop)

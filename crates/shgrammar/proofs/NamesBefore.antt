@@ -41,6 +41,7 @@ use Rattle.shgrammar.specs.declared.edition.Edition.{Edition}
 
 -- ---- the word that a NAME is
 
+-- a byte of a NAME is ordinary, and a letter is such a byte
 name_plain : (b : ℕ) → is_name b ≡ true → is_plain Plain b ≡ true
 name_plain b e = grind (arith, nat_tests)
 
@@ -65,6 +66,7 @@ module _ (edition : Edition) (room : ℕ) (T : List ℕ) (o opener : ℕ) where
   unfolding a_piece piece_at
   name_turn r b c is_b e = rw (is_b, ordinary_by T r Plain c.nested b (name_plain b e)) refl
 
+  -- where a word ends its pieces do
   end_turn : (r : ℕ) (c : WordSoFar) → ends_word T r ≡ true →
       does (a_piece (level room) Plain opener c) Whole (given edition T o) (standing r) ≡ Ok (done c, standing r)
   unfolding a_piece piece_at ends_word
@@ -93,6 +95,7 @@ module _ (edition : Edition) (room : ℕ) (T : List ℕ) (o opener : ℕ) where
       ∙ ap (λ (q : ℕ). Ok (c, standing q)) (sym none))
       (cases_Bool (stands_in is_name T r))
 
+-- bytes of a NAME after which a word ends are read as a word without substitutions
 name_is_word : (edition : Edition) → (room : ℕ) (T : List ℕ) (o p : ℕ) → ends_word T (past is_name T p) ≡ true
     → does (a_word (level room)) Whole (given edition T o) (standing p)
     ≡ Ok (word (span o p (past is_name T p)) no_subst, standing (past is_name T p))
@@ -105,6 +108,7 @@ abbrev place_in : Read AWord → ℕ
 place_in (Ok (w, s)) = s.at
 place_in (Err f) = 0
 
+-- a NAME begins with a letter, and a word ends after its bytes
 name_parts : (T : List ℕ) (p : ℕ) → is_name_at T p ≡ true → (stands_in is_letter T p ≡ true)
     × (ends_word T (past is_name T p) ≡ true)
 unfolding is_name_at
@@ -130,6 +134,7 @@ pub record NameBefore (room : ℕ) (w : List ℕ) : Type 0 where
 
 module _ (room : ℕ) (g : Given) (p n : ℕ) (read : ReadsWord room g p n) (still : past_continuations g.text p ≡ p)
     (token : token_at Command g.text p ≡ tokens.Word) (name : is_name_at g.text p ≡ true) where
+  -- the text, the bytes of the word, and its first byte, which is a letter
   abbrev T : List ℕ
   T = g.text
 
@@ -142,6 +147,7 @@ module _ (room : ℕ) (g : Given) (p n : ℕ) (read : ReadsWord room g p n) (sti
   first : (b : ℕ) × (byte_at T p ≡ Some b) × (is_letter b ≡ true)
   first = byte_in is_letter T p letter
 
+  -- the word stands in the text, has n bytes, and ends where the bytes of its NAME do
   below : p < length T
   below = let lt = slice_get_within T (past_continuations T p) first.0 first.1 in omega (arith, lt, still)
 
@@ -155,6 +161,7 @@ module _ (room : ℕ) (g : Given) (p n : ℕ) (read : ReadsWord room g p n) (sti
   size : length w ≡ n
   size = stretch_length T p n ended.0
 
+  -- there is one of these at least
   begins_name : stands_in is_name T p ≡ true
   unfolding stands_in
   begins_name = ap (passes is_name) first.1 ∙ letter_name first.0 first.2
@@ -170,11 +177,13 @@ module _ (room : ℕ) (g : Given) (p n : ℕ) (read : ReadsWord room g p n) (sti
   parts_here : ItemByte first.0 × (is_number T p ≡ false)
   parts_here = item_byte Command T p first.0 (ap is_a_word token_here)
 
+  -- no reserved word stands there
   not_reserved : reserved_at T p ≡ None
   not_reserved = none_reserved (begins_assignment T p) (reserved_at T p)
       (sym (item_token Command T p first.0 parts_here.0 parts_here.1) ∙ token_here)
 
   module _ (U : List ℕ) (q : ℕ) (zs : List ℕ) (is_there : drop q U ≡ w ++ 40 ∷ zs) where
+    -- where the word ends, where each place is in the other text, and that its bytes stand there
     abbrev L : ℕ
     L = p + n
 
@@ -184,6 +193,7 @@ module _ (room : ℕ) (g : Given) (p n : ℕ) (read : ReadsWord room g p n) (sti
     K : Kept g.edition T U p L to
     K = kept g.edition T U p q n (ap (take n) is_there ∙ take_at w (40 ∷ zs) n size)
 
+    -- there it stands from q on, and a `(` after it
     limit_is : to L ≡ q + n
     limit_is = omega arith
 
@@ -203,9 +213,11 @@ module _ (room : ℕ) (g : Given) (p n : ℕ) (read : ReadsWord room g p n) (sti
       low : p ≤ r
       up : past is_name T r ≡ L
 
+    -- so it does from p on
     from_begin : Goes p
     from_begin = record { low = omega arith; up = end_is }
 
+    -- no byte of a NAME is a backslash, so that each is the same there, and after it the NAME goes on
     no_backslash : (b : ℕ) → is_name b ≡ true → (b == backslash) ≡ false
     no_backslash b e = grind (arith, nat_tests)
 
@@ -226,6 +238,7 @@ module _ (room : ℕ) (g : Given) (p n : ℕ) (read : ReadsWord room g p n) (sti
       up = sym (past_more is_name T r e) ∙ go.up;
     }
 
+    -- where no byte of a NAME is read the limit is, and at the limit there none is
     at_limit : {r : ℕ} → Goes r → stands_in is_name T r ≡ false → r ≡ L
     at_limit {r = r} go e = sym (past_none is_name T r e) ∙ go.up
 
@@ -233,6 +246,7 @@ module _ (room : ℕ) (g : Given) (p n : ℕ) (read : ReadsWord room g p n) (sti
     unfolding stands_in
     limit_none = ap (passes is_name) limit_byte
 
+    -- from each of its places on the NAME ends at the limit there too
     past_there : (m r : ℕ) → length T - r < m → Goes r → past is_name U (to r) ≡ to L
     past_there zero r few go = absurd (omega arith)
     past_there (suc m) r few go =
@@ -245,6 +259,7 @@ module _ (room : ℕ) (g : Given) (p n : ℕ) (read : ReadsWord room g p n) (sti
         ap (λ x. past is_name U (to x)) end ∙ past_none is_name U (to L) limit_none)
         (cases_Bool (stands_in is_name T r))
 
+    -- its first byte is the same there, and from it on the NAME ends at the limit
     begins : Here T U p L to p
     begins = inside_of from_begin begins_name
 
@@ -253,6 +268,7 @@ module _ (room : ℕ) (g : Given) (p n : ℕ) (read : ReadsWord room g p n) (sti
 
     -- ---- reserved words
 
+    -- at the limit no ordinary byte is read, here or there
     other : (c : ℕ) → is_plain Plain c ≡ true → stands T L c ≡ false
     unfolding stands ends_word
     other c plain = none (byte_at T L) ended.1
@@ -265,6 +281,7 @@ module _ (room : ℕ) (g : Given) (p n : ℕ) (read : ReadsWord room g p n) (sti
     unfolding stands
     other_there c plain = ap (λ x. is_byte x c) limit_byte ∙ ender 40 c refl (plain_stays c plain)
 
+    -- a word ends, or an ordinary byte is read, in both texts or in neither
     same_ends : {r : ℕ} → Goes r → ends (byte_at U (to r)) ≡ ends (byte_at T r)
     unfolding ends_word
     same_ends {r = r} go =
@@ -289,6 +306,7 @@ module _ (room : ℕ) (g : Given) (p n : ℕ) (read : ReadsWord room g p n) (sti
         absurd (both_ways (stands T L c) (other c plain) (subst (λ x. stands T x c ≡ true) end f)))
         (cases_Bool (stands_in is_name T r))
 
+    -- words of ordinary bytes stand there where they do here
     same_spelled : (letters : List ℕ) (r : ℕ) → all_plain letters ≡ true → Goes r →
         is_word_at U (to r) letters ≡ is_word_at T r letters
     same_spelled [] r e go = spelled_none U (to r) ∙ same_ends go ∙ sym (spelled_none T r)
@@ -306,12 +324,14 @@ module _ (room : ℕ) (g : Given) (p n : ℕ) (read : ReadsWord room g p n) (sti
     same_words (x ∷ xs) e = let both = and_parts _ _ e in
         rw (same_spelled x.0 p both.0 from_begin, same_words xs both.1) refl
 
+    -- so no reserved word stands there
     not_reserved_there : reserved_at U (to p) ≡ None
     unfolding reserved_words
     not_reserved_there = same_words _ refl ∙ not_reserved
 
     -- ---- the token and the word
 
+    -- there no assignment and no number begins, and the token is a word
     no_assignment : begins_assignment U (to p) ≡ false
     unfolding begins_assignment stands
     no_assignment = rw (past_name, limit_byte) (and-false (stands_in is_letter U (to p)))
@@ -327,6 +347,7 @@ module _ (room : ℕ) (g : Given) (p n : ℕ) (read : ReadsWord room g p n) (sti
         ∙ item_token Command U (to p) first.0 parts_here.0 no_number
         ∙ rw (no_assignment, not_reserved_there) refl
 
+    -- it is a NAME there, and no blank
     name_there : is_name_at U (to p) ≡ true
     unfolding is_name_at ends_word
     name_there = rw (here_stands_in K begins is_letter ∙ letter, past_name, limit_byte) refl
@@ -338,6 +359,7 @@ module _ (room : ℕ) (g : Given) (p n : ℕ) (read : ReadsWord room g p n) (sti
     unfolding stands_in
     blank_there = ap (passes is_blank) (here_byte K begins ∙ first.1) ∙ no_blank first.0 first.2
 
+    -- n bytes after q it ends, and a word with it
     ends_there : ends_word U (past is_name U q) ≡ true
     unfolding ends_word
     ends_there = let there = past_name in
@@ -346,6 +368,7 @@ module _ (room : ℕ) (g : Given) (p n : ℕ) (read : ReadsWord room g p n) (sti
     end_there : past is_name U q ≡ q + n
     end_there = ap (past is_name U) (sym begin_is) ∙ past_name ∙ limit_is
 
+    -- the word that is read there has the same bytes, and no substitutions
     word_there : (edition : Edition) (o : ℕ) →
         does (a_word (level room)) Whole (given edition U o) (standing q)
         ≡ Ok (word (span o q (q + n)) no_subst, standing (q + n))
@@ -369,6 +392,7 @@ module _ (room : ℕ) (g : Given) (p n : ℕ) (read : ReadsWord room g p n) (sti
           ),
         )
 
+  -- so it is wherever these bytes stand before `(`
   before_there : (h : Given) (q : ℕ) (zs : List ℕ) → drop q h.text ≡ w ++ 40 ∷ zs →
       ReadAt room Command tokens.Word w no_subst h q
   before_there h q zs is_there =

@@ -41,9 +41,11 @@ less_same x y z w one two =
 
 module _ {edition : Edition} {T U : List ℕ} {a M : ℕ} {to : ℕ → ℕ} (E : ListEnds edition T U a M to 10) (o o2 : ℕ)
     (off : (p : ℕ) → a ≤ p → o2 + to p ≡ o + p) where
+  -- what is looked for ahead from p on is found before the newline at M, or at it
   abbrev G : ℕ → Type 0
   G p = Good T a M p
 
+  -- what is given of both texts
   abbrev g : Given
   g = given edition T o
 
@@ -63,9 +65,11 @@ module _ {edition : Edition} {T U : List ℕ} {a M : ℕ} {to : ℕ → ℕ} (E 
   Ends (Ok (x, t)) = G t.at
   Ends (Err f) = ⊥
 
+  -- spans have the same offsets in both texts
   spans : (p q : ℕ) → a ≤ p → a ≤ q → span o2 (to p) (to q) ≡ span o p q
   spans p q low_p low_q = rw (off p low_p, off q low_q) refl
 
+  -- what ends the line is no `)`, which arithmetic looks for
   no_bracket : (mode : Mode) → NoBracket E mode
   no_bracket Plain = tt
   no_bracket Double = tt
@@ -92,18 +96,21 @@ module _ {edition : Edition} {T U : List ℕ} {a M : ℕ} {to : ℕ → ℕ} (E 
 
   -- ---- whether a turn leads on
 
+  -- a byte stands at M, and one at its place in the second text
   long : M < length T
   long = slice_get_within T M 10 E.byte
 
   long_there : to M < length U
   long_there = slice_get_within U (to M) 10 (E.kept.same M E.under (omega arith) ∙ E.byte)
 
+  -- two places lie as far apart in both
   far : (p : ℕ) → a ≤ p → p ≤ M → to M ≡ to p + (M - p)
   far p from le = let is : p + (M - p) ≡ M = omega (arith, le) in ap to (sym is) ∙ on E p (M - p) from
 
   apart : (p q : ℕ) → a ≤ p → p ≤ q → to q ≡ to p + (q - p)
   apart p q from le = let is : p + (q - p) ≡ q = omega (arith, le) in ap to (sym is) ∙ on E p (q - p) from
 
+  -- a turn leads on there just where it does here
   same_leads : (s t : State) → a ≤ s.at → s.at ≤ t.at → t.at ≤ M → leads_on h (there s) (there t) ≡ leads_on g s t
   same_leads s t from onward le =
       let one = apart s.at t.at from onward in
@@ -114,6 +121,7 @@ module _ {edition : Edition} {T U : List ℕ} {a M : ℕ} {to : ℕ → ℕ} (E 
 
   -- ---- every form
 
+  -- what holds of what is given, or of a fault, holds of all that may be read so
   just_in : {X : Type 0} {x : X} {t : State} (P : Read X → Row Spelled → Type 0) → P (Ok (x, t)) [] →
       (y : Read X) (k : Row Spelled) → Just x t y k → P y k
   just_in P so y k just = so
@@ -126,6 +134,7 @@ module _ {edition : Edition} {T U : List ℕ} {a M : ℕ} {to : ℕ → ℕ} (E 
   abbrev Back : {X : Type 0} → Form X → State → Read X → Row Spelled → Type 0
   Back r s y k = Ends y → G s.at × may r h (there s) (elsewhere y) k
 
+  -- one form and then another
   both_back : {X Y : Type 0} (r : Form X) (q : X → Form Y) (s : State) →
       ((y : Read X) (k : Row Spelled) → may r g s y k → Back r s y k)
       → ((x : X) (t : State) → a ≤ t.at → (y : Read Y) (k : Row Spelled) → may (q x) g t y k → Back (q x) t y k) →
@@ -136,12 +145,14 @@ module _ {edition : Edition} {T U : List ℕ} {a M : ℕ} {to : ℕ → ℕ} (E 
       (c.0, and_then c.1 b.1)
   both_back r q s first rest from y k (or_stops one) good = absurd good
 
+  -- the same bytes are told the same
   same_tell : (how : Telling) (p q u v : ℕ) → raw U u v ≡ raw T p q → tell how U u v ≡ tell how T p q
   same_tell untold p q u v same = refl
   same_tell as_it_stands p q u v same = ap (λ z. z ∷ []) same
   same_tell bared p q u v same = ap (λ z. bare z ∷ []) same
   same_tell (by text) p q u v same = refl
 
+  -- the same of a token, and of a form in which the end is told by another fault
   token_back : {X : Type 0} (how : Telling) (r : Form X) (s : State) →
       ((y : Read X) (k : Row Spelled) → may r g s y k → Back r s y k) → a ≤ s.at →
       (y : Read (X × Span)) (k : Row Spelled) → OneToken how g (may r g) s y k → Back (token how r) s y k
@@ -165,6 +176,7 @@ module _ {edition : Edition} {T U : List ℕ} {a M : ℕ} {to : ℕ → ℕ} (E 
       (w.0, goes_through w.1)
   ending_back kind at r s first y k (stops_inside part) good = absurd good
 
+  -- the same of what waits, of the bytes of what is read, and of a level of its own
   change_back : (c : Change) (s : State) → a ≤ s.at → (y : Read (Unit {0})) (k : Row Spelled) →
       Changed (changed c g s) y k → Back (change c) s y k
   change_back c s from y k (changes {t = t} is) good = let w = change_there E o o2 off c s t from good is in
@@ -194,6 +206,7 @@ module _ {edition : Edition} {T U : List ℕ} {a M : ℕ} {to : ℕ → ℕ} (E 
   module _ {A : Type 0} (turn : A → Form (Step A))
       (each : (b : A) (s : State) → a ≤ s.at → (y : Read (Step A)) (k : Row Spelled) → may (turn b) g s y k →
       Back (turn b) s y k) where
+    -- the same of turns
     loop_back : (b : A) (s : State) (y : Read A) (k : Row Spelled) → Turns g (λ c. may (turn c) g) b s y k → a ≤ s.at →
         Ends y → G s.at × Turns h (λ c. may (turn c) h) b (there s) (elsewhere y) k
     loop_back b s y k (last {b = c} {t = t} part) from good = let w = each b s from (Ok (done c, t)) k part good in
@@ -209,6 +222,7 @@ module _ {edition : Edition} {T U : List ℕ} {a M : ℕ} {to : ℕ → ℕ} (E 
         (w.0, more w.1 (same_leads s t from onward (high E r.0) ∙ on') r.1)
     loop_back b s y k (halts part) from good = absurd good
 
+  -- and so of each form
   pub reads_the_same : {X : Type 0} (r : Form X) (s : State) → a ≤ s.at → (y : Read X) (k : Row Spelled) →
       may r g s y k → Back r s y k
   reads_the_same (give x) s from y k part = just_in (Back (give x) s) (λ good. (good, just)) y k part

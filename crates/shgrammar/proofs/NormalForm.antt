@@ -106,6 +106,7 @@ first_entry : (es : Row AnEntry) (e : AnEntry) (blank begun : Bool) → first_no
 first_entry [] e blank begun first none is = ap not (is ∙ ap (λ b. b && begun) (none refl))
 first_entry (x ∷ es) e blank begun first none is = first
 
+-- a row with one more at its end is not empty
 not_empty : {A : Type 0} (xs : Row A) (x : A) → is_empty (xs ++ x ∷ []) ≡ true → ⊥
 not_empty [] x e = absurd cc
 not_empty (y ∷ xs) x e = absurd cc
@@ -226,6 +227,7 @@ module _ (g : Given) where
 
   -- Each row of a word: where the substitutions so far are in normal form, so are those with what it adds.
 
+  -- the substitutions of the word so far are in normal form
   abbrev Substs : WordSoFar → State → Type 0
   Substs h t = are_normal_substs (substs_of h.substs) ≡ true
 
@@ -239,6 +241,7 @@ module _ (g : Given) where
     pub function : (name : Span) (s : State) → N (inner.function name) (λ c t. is_normal_command c.0 ≡ true) s
 
   module _ (inner : Inner) (fine : Fine inner) where
+    -- a construct that opens, a piece by its kind, and the piece that is there
     normal_opened : (mode : Mode) (b : ℕ) (h : WordSoFar) (s : State) → Substs h s →
         N (opened inner mode b h) (Turned Whole g Substs) s
     normal_opened mode b h s so =
@@ -272,6 +275,7 @@ module _ (g : Given) where
     unfolding a_piece
     normal_piece mode b h s so = after (λ piece t. normal_piece_by mode b h piece t so)
 
+    -- all pieces up to what closes them, and a word
     pub normal_contents : (mode : Mode) (b : ℕ) (ss : Row ASubst) (s : State) → are_normal_substs (substs_of ss) ≡ true
         → N (contents inner mode b ss) (λ zs t. are_normal_substs (substs_of zs) ≡ true) s
     unfolding contents
@@ -291,15 +295,18 @@ module _ (g : Given) where
 
     -- Each row of a command: where what it has so far is in normal form, so is what it gives.
 
+    -- the items so far are in normal form, and the first of them is not broken
     abbrev ItemsSo : ItemsSoFar → State → Type 0
     ItemsSo i t = NormalRow i.items
 
+    -- an item that is a word is in normal form where the word is, be it an assignment or not
     normal_content : (position : Position) (broken : Bool) (w : AWord) → is_normal_word w ≡ true →
         is_normal_item (item broken (as_item position w)) ≡ true
     normal_content Command broken w good = good
     normal_content Prefix broken w good = good
     normal_content Suffix broken w good = good
 
+    -- one more item that is a word
     normal_item : (i : ItemsSoFar) (position : Position) (s : State) → NormalRow i.items →
         N (an_item inner i position) (Turned Whole g ItemsSo) s
     unfolding an_item
@@ -309,6 +316,7 @@ module _ (g : Given) where
         (λ n u. gives (row_more i.items _ i.next.broken so
         (normal_content position (breaks i) w good) refl))))
 
+    -- the word of a redirection
     normal_target : (s : State) → N (a_target inner) (λ w t. is_normal_word w.0 ≡ true) s
     unfolding a_target
     normal_target s = after (λ n t. picked_by (is_word n.token)
@@ -326,6 +334,7 @@ module _ (g : Given) where
         (λ o v. tells_then Whole g (normal_target v) (λ w x good. after (λ h a. pushed_on (after (λ m y.
         gives (more (item broken (redirect d.0 o.0 o.1 w.0 h)) m y good refl))))))))
 
+    -- one more item, the same or none, and the simple command of them all
     normal_item_by : (i : ItemsSoFar) (position : Option Position) (s : State) → NormalRow i.items →
         N (item_by inner i position) (Turned Whole g ItemsSo) s
     normal_item_by i (Some position) s so = normal_item i position s so
@@ -345,19 +354,23 @@ module _ (g : Given) where
     normal_simple i s so = tells_then Whole g (tells_many Whole g (item_turn inner) ItemsSo normal_item_turn i s so)
         (λ is t good. gives (and_from _ _ good.first good.all))
 
+    -- with one more comment, or none, a join that has a comment is broken
     normal_with : (cs : Row Span) (c : Option Span) (broken : Bool) (s : State) → broken_by cs broken ≡ true →
         N (with_comment cs c) (λ ds t. broken_by ds (broken || is_some c) ≡ true) s
     normal_with cs (Some c) broken s so = record { told = all_broken (cs ++ c ∷ []) _ (or-true broken) }
     normal_with cs None broken s so = gives (still_broken cs broken false so)
 
+    -- the join so far is in normal form: where it has a comment it is broken
     abbrev JoinHolds : JoinSoFar → State → Type 0
     JoinHolds j t = is_normal_join j.join ≡ true
 
+    -- a step that goes on, or ends, by a test
     join_holds : (p : Bool) (j : JoinSoFar) (t : State) → is_normal_join j.join ≡ true →
         Turned Whole g JoinHolds (step_if p j) t
     join_holds true j t so = so
     join_holds false j t so = so
 
+    -- one more comment or newline of a join, and the join
     normal_join_turn : (j : JoinSoFar) (s : State) → is_normal_join j.join ≡ true →
         N (join_turn j) (Turned Whole g JoinHolds) s
     unfolding join_turn
@@ -370,9 +383,11 @@ module _ (g : Given) where
     normal_join broken s = after (λ n t. tells_then Whole g
         (tells_many Whole g join_turn JoinHolds normal_join_turn _ t refl) (λ j u good. gives good))
 
+    -- the redirections after a compound command are in normal form; the first of them may be broken
     abbrev RedirectsSo : ItemsSoFar → State → Type 0
     RedirectsSo i t = are_normal_items (items_of i.items) ≡ true
 
+    -- one more of them, or none
     normal_redirect_turn : (i : ItemsSoFar) (s : State) → RedirectsSo i s →
         N (redirect_turn inner i) (Turned Whole g RedirectsSo) s
     unfolding redirect_turn
@@ -381,12 +396,14 @@ module _ (g : Given) where
         (λ e. normal_redirect RedirectsSo i.next.broken Command i.items i.next s
         (λ x m t good is. items_more i.items x so good)) (gives so)
 
+    -- a command and redirections that are in normal form make one that is
     normal_with_redirects : (c : ACommand) (is : ItemsOf Span Span) → is_normal_command c ≡ true →
         are_normal_items is ≡ true → is_normal_command (with_redirects c is) ≡ true
     normal_with_redirects (compound (formed form span others)) is one all = and_from _ _ (and_parts _ _ one).0 all
     normal_with_redirects (simple items) is one all = one
     normal_with_redirects (function name comments body) is one all = one
 
+    -- so it is with all that stand after a command
     normal_with_redirect_list : (c : ACommand × Next) (s : State) → is_normal_command c.0 ≡ true →
         N (with_redirect_list inner c) (λ d t. is_normal_command d.0 ≡ true) s
     unfolding with_redirect_list
@@ -395,6 +412,7 @@ module _ (g : Given) where
         (items_so_far [] Command c.1) s refl)
         (λ r t all. gives (normal_with_redirects c.0 (items_of r.items) one all))
 
+    -- a compound command, one that begins with a word, and any command
     normal_compound_by : (n : Next) (o : Option Opener) (s : State) →
         N (compound_by inner n o) (λ c t. is_normal_command c.0 ≡ true) s
     normal_compound_by n (Some o) s = tells_then Whole g (fine.compound o s) normal_with_redirect_list
@@ -416,9 +434,11 @@ module _ (g : Given) where
         (picked_by (begins_simple n.token) (λ e. normal_simple (items_so_far [] Command n) s no_items)
         (normal_compound_by n (opener_of n.token) s))
 
+    -- the commands after the first so far are in normal form, with their joins
     abbrev PipesHold : PipesSoFar → State → Type 0
     PipesHold p t = are_normal_pipes (pipeline_parts_of p.parts) ≡ true
 
+    -- one more command, the same or none, and the pipeline
     normal_one_command : (p : PipesSoFar) (s : State) → PipesHold p s →
         N (one_command inner p) (Turned Whole g PipesHold) s
     unfolding one_command
@@ -441,9 +461,11 @@ module _ (g : Given) where
         (tells_many Whole g (pipe_turn inner) PipesHold normal_pipe_turn (pipes_so_far [] c.1) u refl)
         (λ p v all. gives (and_from _ _ good all))))
 
+    -- the pipelines after the first so far are in normal form, with their joins
     abbrev AndOrHolds : AndOrSoFar → State → Type 0
     AndOrHolds a t = are_normal_and_ors (and_or_parts_of a.parts) ≡ true
 
+    -- one more pipeline, the same or none, and the and-or list
     normal_one_pipeline : (a : AndOrSoFar) (o : AndOrOperator) (s : State) → AndOrHolds a s →
         N (one_pipeline inner a o) (Turned Whole g AndOrHolds) s
     unfolding one_pipeline
@@ -470,6 +492,7 @@ module _ (g : Given) where
         (tells_many Whole g (and_or_turn inner) AndOrHolds normal_and_or_turn (and_or_so_far [] p.1) t refl)
         (λ a u all. gives (and_from _ _ good all)))
 
+    -- an entry that is read is in normal form and a command, and is blank just where that is given
     normal_entry : (blank : Bool) (n : Next) (s : State) →
         N (an_entry inner blank n) (λ e t. (is_normal_entry e.entry ≡ true) × (is_command e.entry ≡ true)
         × (is_blank_entry e.entry ≡ blank)) s
@@ -482,14 +505,17 @@ module _ (g : Given) where
     -- Each row of a list: where its entries so far are in normal form, so are those with what it adds.
 
     module _ (blank : Bool) where
+      -- the entries of the list so far are in normal form; the first may be blank where the flag says so
       abbrev ListHolds : ListSoFar → State → Type 0
       ListHolds l t = NormalList blank l.list
 
+      -- a step that goes on, or ends, by a test
       step_holds : (p : Bool) (l : ListSoFar) (t : State) → NormalList blank l.list →
           Turned Whole g ListHolds (step_if p l) t
       step_holds true l t so = so
       step_holds false l t so = so
 
+      -- one more entry, the same or none, and the comment of a line
       normal_one_entry : (l : ListSoFar) (s : State) → NormalList blank l.list →
           N (one_entry inner l) (Turned Whole g ListHolds) s
       unfolding one_entry
@@ -509,6 +535,7 @@ module _ (g : Given) where
       normal_remark_by l (Some c, n) s so = pushed_on (gives (remark_more blank l.list _ so refl refl))
       normal_remark_by l (None, n) s so = gives so
 
+      -- the entries and the comment of one line, and one more line of a list
       normal_on_line : (l : ListSoFar) (s : State) → NormalList blank l.list → N (on_line inner l) ListHolds s
       unfolding on_line a_remark
       normal_on_line l s so =
@@ -521,6 +548,7 @@ module _ (g : Given) where
       normal_list_turn l s so = tells_then Whole g (normal_on_line l s so)
           (λ m t good. after (λ x u. gives (step_holds x.0 _ u (newline_more blank m.list good))))
 
+      -- a line of a script, without the bodies of its here-documents
       normal_open_line : (s : State) →
           N (an_open_line inner blank)
           (λ x t. (blank ≡ false → first_not_blank (entries_of x.0) ≡ true) × (are_normal (entries_of x.0) ≡ true)) s
@@ -547,6 +575,7 @@ module _ (g : Given) where
     abbrev HasCommand : {X : Type 0} → (X → Entries) → X → State → Type 0
     HasCommand of x t = (is_whole (of x) ≡ true) × (are_normal (of x) ≡ true)
 
+    -- so is each list that is read: one without a command is a fault
     normal_list : (n : Next) (s : State) → N (a_list inner n) (HasCommand (λ x. x.0)) s
     unfolding a_list
     normal_list n s =
@@ -559,6 +588,7 @@ module _ (g : Given) where
 
     -- Each row of a compound command gives what is in normal form.
 
+    -- a condition and what is run by it
     normal_branch : (n : Next) (s : State) → N (a_branch inner n) (λ x t. is_normal_branch x.0 ≡ true) s
     unfolding a_branch
     normal_branch n s =
@@ -566,9 +596,11 @@ module _ (g : Given) where
         (λ c t one. after (λ k u. tells_then Whole g (normal_list k.1 u)
         (λ b v two. gives (and_from _ _ (and_from _ _ (and_from _ _ one.0 one.1) two.0) two.1))))
 
+    -- the branches after the first so far are in normal form
     abbrev BranchesHold : BranchesSoFar → State → Type 0
     BranchesHold b t = are_normal_branches (branches_of b.branches) ≡ true
 
+    -- one more branch or none, and an `else` or none
     normal_elif : (b : BranchesSoFar) (s : State) → BranchesHold b s →
         N (elif_turn inner b) (Turned Whole g BranchesHold) s
     unfolding elif_turn
@@ -586,9 +618,11 @@ module _ (g : Given) where
         (λ l u good. gives (and_from _ _ good.0 good.1))))
         (gives refl)
 
+    -- the form of a compound command is in normal form
     abbrev FormHolds : Closed AForm → State → Type 0
     FormHolds f t = is_normal_form f.what ≡ true
 
+    -- an `if`, a loop, and the list of a group with its closer
     normal_if : (n : Next) (s : State) → N (an_if inner n) FormHolds s
     unfolding an_if
     normal_if n s =
@@ -610,6 +644,7 @@ module _ (g : Given) where
     unfolding a_group
     normal_group c n s = tells_then Whole g (normal_list n s) (λ l t good. after (λ k u. gives good))
 
+    -- the name of a `for`, and one more word after `in`, or none
     normal_for_name : (n : Next) (s : State) → N (a_for_name inner n) (λ x t. is_normal_word x.0 ≡ true) s
     unfolding a_for_name
     normal_for_name n s =
@@ -624,6 +659,7 @@ module _ (g : Given) where
     normal_word_turn i s so = picked_by (is_word i.next.token) (λ e. normal_item i Suffix s so)
         (gives so)
 
+    -- all these words, what stands before `do`, and the whole `for`
     normal_for_words : (cs : Row Span) (s : State) → N (for_words inner cs) (λ h t. are_normal_words h.words ≡ true) s
     unfolding for_words
     normal_for_words cs s =
@@ -646,14 +682,17 @@ module _ (g : Given) where
         (and_from _ _ (and_from _ _ (and_from _ _ one two) (whole_after h.comments b.what body.0))
         (normal_after h.comments b.what body.1))))))
 
+    -- the word after `case`
     normal_case_word : (n : Next) (s : State) → N (a_case_word inner n) (λ x t. is_normal_word x.0 ≡ true) s
     unfolding a_case_word
     normal_case_word n s = picked_by (begins_word n.token)
         (λ e. tells_then Whole g (normal_word s) (λ w t so. after (λ m u. gives so))) (stops inner n)
 
+    -- the patterns of an item so far are in normal form
     abbrev PatternsHold : PatternsSoFar → State → Type 0
     PatternsHold p t = are_normal_patterns (patterns_of p.patterns) ≡ true
 
+    -- one more pattern, the same after a `|`, the same or none, and all of them
     normal_pattern : (ws : Row AWord) (s : State) → are_normal_patterns (patterns_of ws) ≡ true →
         N (a_pattern inner ws) PatternsHold s
     unfolding a_pattern
@@ -681,14 +720,17 @@ module _ (g : Given) where
         (λ p t so. tells_many Whole g (pattern_turn inner) PatternsHold normal_pattern_turn p t so))
         (stops inner n)
 
+    -- the body of an item, which may hold no command: its first entry is not blank
     normal_body : (n : Next) (s : State) → N (a_body inner n) (ListHolds false) s
     unfolding a_body
     normal_body n s = tells_many Whole g (list_turn inner) (ListHolds false) (normal_list_turn false)
         (list_so_far (none_listed false) n) s (no_entries false)
 
+    -- the items of a `case` so far are in normal form
     abbrev CasesHold : CasesSoFar → State → Type 0
     CasesHold c t = are_normal_cases (cases_of c.items) ≡ true
 
+    -- one more item, the same or none, what stands before the items, and the whole `case`
     normal_one_case : (c : CasesSoFar) (s : State) → CasesHold c s → N (one_case inner c) (Turned Whole g CasesHold) s
     unfolding one_case
     normal_one_case c s so =
@@ -716,6 +758,7 @@ module _ (g : Given) where
         (tells_many Whole g (case_turn inner) CasesHold normal_case_turn (cases_so_far [] h.1 h.2) t refl)
         (λ c u all. after (λ e v. gives (and_from _ _ one all))))
 
+    -- the form that an opener has, and the compound command with its opener and closer
     normal_form_by : (o : Opener) (n : Next) (s : State) → N (a_form inner o n) FormHolds s
     normal_form_by openers.Brace n s =
         tells_then Whole g (normal_group closings.Brace n s)
@@ -736,6 +779,7 @@ module _ (g : Given) where
 
     -- ---- substitutions
 
+    -- the list of a command substitution, which may hold no command: its first entry is not blank
     normal_substitution_list : (s : State) →
         N (substitution_list inner) (λ es t. (first_not_blank es ≡ true) × (are_normal es ≡ true)) s
     unfolding substitution_list
@@ -746,6 +790,7 @@ module _ (g : Given) where
         (λ l u so. picked_by (is_closing closings.Paren l.next.token)
         (λ e. after (λ w z. after (λ x v. gives (so.first refl, so.all)))) (stops inner l.next)))
 
+    -- one more command substitution, with the bodies of its here-documents
     normal_substitution : (b : ℕ) (ss : Row ASubst) (s : State) → are_normal_substs (substs_of ss) ≡ true →
         N (a_substitution inner b ss) (λ zs t. are_normal_substs (substs_of zs) ≡ true) s
     unfolding a_substitution one_substitution
@@ -759,12 +804,14 @@ module _ (g : Given) where
 
     -- ---- functions
 
+    -- a command in normal form stays so where it becomes the body of a function
     normal_under : (name : Span) (cs : Row Span) (c : ACommand) → is_normal_command c ≡ true →
         is_normal_command (under_name name cs c) ≡ true
     normal_under name cs (simple is) so = so
     normal_under name cs (compound body) so = so
     normal_under name cs (function other ds body) so = so
 
+    -- a function, with its body
     normal_function : (name : Span) (s : State) → N (a_function inner name) (λ c t. is_normal_command c.0 ≡ true) s
     unfolding a_function
     normal_function name s =
@@ -772,6 +819,7 @@ module _ (g : Given) where
         (λ l v. tells_then Whole g (normal_compound_by l.next (opener_of l.next.token) v)
         (λ b w good. gives (normal_under name l.join.comments b.0 good)))))
 
+  -- so it is with each number of constructs that may be opened
   normal_level : (room : ℕ) → Fine (level room)
   unfolding level
   normal_level zero = record {
@@ -795,10 +843,12 @@ module _ (edition : Edition) (B : List ℕ) where
   abbrev LineHolds : Bool → Row AnEntry × Bool → State → Type 0
   LineHolds blank x t = (blank ≡ false → first_not_blank (entries_of x.0) ≡ true) × (are_normal (entries_of x.0) ≡ true)
 
+  -- the line of a script that begins at p
   line_so_far : (blank : Bool) (p : ℕ) → Holds (LineHolds blank) (line_from edition B Whole blank p)
   line_so_far blank p = let g = given edition (drop p B) p in
       (normal_line g (level most_open) (normal_level g most_open) blank (standing 0)).told
 
+  -- a script by its next line, where what the lines after that give is in normal form
   script_so : (rest : LinesSoFar → ℕ → AScript) (so : LinesSoFar) (p : ℕ) →
       ((to : LinesSoFar) (q : ℕ) → is_normal (entries_of to.entries) ≡ true → is_normal (rest to q).entries ≡ true)
       → is_normal (entries_of so.entries) ≡ true → (x : Read (Row AnEntry × Bool)) →
@@ -808,6 +858,7 @@ module _ (edition : Edition) (B : List ℕ) where
   script_so rest so p more list (Ok ((es, false), t)) line = script_more so.gap so.entries es list line.0 line.1
   script_so rest so p more list (Err f) line = list
 
+  -- with less than n bytes left
   below_normal : (n : ℕ) (so : LinesSoFar) (p : ℕ) → is_normal (entries_of so.entries) ≡ true →
       is_normal (script_below edition B n so p).entries ≡ true
   unfolding script_below
@@ -816,10 +867,12 @@ module _ (edition : Edition) (B : List ℕ) where
       script_so (script_below edition B n) so p (λ to q good. below_normal n to q good) list _
       (line_so_far (is_blank_line so) p)
 
+  -- and from the front of the text
   script_normal : is_normal (script_at edition B).entries ≡ true
   unfolding script_at script_on
   script_normal = below_normal _ nothing_yet 0 refl
 
+-- what is computed for a script has its list in normal form
 pub script_in_normal_form : (edition : Edition) → (B : List ℕ) (s : AScript) → s ≡ script_at edition B →
     is_normal s.entries ≡ true
 script_in_normal_form edition B s e = ap (λ (x : AScript). is_normal x.entries) e ∙ script_normal edition B

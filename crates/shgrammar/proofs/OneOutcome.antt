@@ -16,6 +16,7 @@ pub record HasOneOutcome {X : Type 0} (r : Read X → Row Spelled → Type 0) (x
   pub some : (k : Row Spelled) × r x k
   pub only : (y : Read X) (k : Row Spelled) → r y k → y ≡ x
 
+-- where something is given, or the reading stops with a fault, nothing else may be read
 just_only : {X : Type 0} (x : X) (t : State) (y : Read X) (k : Row Spelled) → Just x t y k → y ≡ Ok (x, t)
 just_only x t y k just = refl
 
@@ -29,6 +30,7 @@ is_just x t = record { some = ([], just); only = just_only x t }
 
 module _ {X Y : Type 0} (r : Comes X) (q : X → Comes Y) (f : X → State → Read Y)
     (rest : (x : X) (t : State) → HasOneOutcome (q x t) (f x t)) (s : State) where
+  -- where each of them has one outcome, so have both, in order
   then_some : (x : Read X) → (k : Row Spelled) → r s x k → (l : Row Spelled) × Then r q s (x ▸ f) l
   then_some (Ok (x, t)) k first = (k ++ (rest x t).some.0, and_then first (rest x t).some.1)
   then_some (Err e) k first = (k, or_stops first)
@@ -51,6 +53,7 @@ module _ {X Y : Type 0} (r : Comes X) (q : X → Comes Y) (f : X → State → R
 
 module _ {X : Type 0} (r q : Comes X) (s : State) (x y : Read X) (one : HasOneOutcome (r s) x)
     (two : HasOneOutcome (q s) y) where
+  -- by the test it is the outcome of the one, or of the other
   is_either : (test : Bool) → HasOneOutcome (Either test r q s) (cond test x y)
   is_either true = record {
     some = (one.some.0, holds refl one.some.1);
@@ -64,9 +67,11 @@ module _ {X : Type 0} (r q : Comes X) (s : State) (x y : Read X) (one : HasOneOu
 -- ---- one token
 
 module _ {X : Type 0} (how : Telling) (g : Given) (r : Comes X) (s : State) where
+  -- what was read, with its span
   abbrev spanned : Read X → Read (X × Span)
   spanned x = x ▸ λ a t. Ok ((a, span g.offset s.at t.at), t)
 
+  -- with that span the token has the outcome of its form, and no other
   token_some : (x : Read X) (k : Row Spelled) → r s x k → (l : Row Spelled) × OneToken how g r s (spanned x) l
   token_some (Ok (x, t)) k part = (tell how g.text s.at t.at, whole part)
   token_some (Err f) k part = (k, broken_off part)
@@ -104,6 +109,7 @@ module _ {A : Type 0} (g : Given) (turn : A → Comes (Step A)) (f : A → State
   turns_some (suc n) a s low = turn_some a s (f a s) refl (each a s).some.0 (each a s).some.1
       (λ b t less. turns_some n b t (omega (arith, less, low)))
 
+  -- there is no other outcome, and so turns have the one that is computed
   turns_only : (a : A) (s : State) (y : Read A) (k : Row Spelled) → Turns g turn a s y k → y ≡ turns g f a s
   turns_only a s y k (last {b = b} {t = t} part) = sym (turns_done g f a b s t (sym ((each a s).only _ _ part)))
   turns_only a s y k (rests {b = b} {t = t} part off) =
@@ -118,6 +124,7 @@ module _ {A : Type 0} (g : Given) (turn : A → Comes (Step A)) (f : A → State
 -- ---- the fault at the end
 
 module _ {X : Type 0} (kind : FaultKind) (at : ℕ) (r : Comes X) (s : State) where
+  -- the outcome of the form, where the end is told by this fault, and no other
   ending_some : (x : Read X) (k : Row Spelled) → r s x k → Ending kind at r s (with_end kind at x) k
   ending_some (Ok (x, t)) k part = goes_through part
   ending_some (Err f) k part = stops_inside part
@@ -132,6 +139,7 @@ module _ {X : Type 0} (kind : FaultKind) (at : ℕ) (r : Comes X) (s : State) wh
 
 -- ---- what waits, bytes, and levels
 
+-- a change has one outcome: a state, or a fault
 changed_some : (x : Result State Fault) → Changed x (nothing_read x) []
 changed_some (Ok t) = changes refl
 changed_some (Err f) = cannot refl
@@ -144,9 +152,11 @@ is_changed : (x : Result State Fault) → HasOneOutcome (Changed x) (nothing_rea
 is_changed x = record { some = ([], changed_some x); only = changed_only x }
 
 module _ {X : Type 0} (g : Given) (r : Comes X) (s : State) where
+  -- what was read, and its bytes as they stand
   abbrev with_raw : Read X → Read (X × Spelled)
   with_raw x = x ▸ λ a t. Ok ((a, raw g.text s.at t.at), t)
 
+  -- with these bytes there is the outcome of the form, and no other
   bytes_some : (x : Read X) (k : Row Spelled) → r s x k → WithBytes g r s (with_raw x) k
   bytes_some (Ok (x, t)) k part = with_its_bytes part
   bytes_some (Err f) k part = without_bytes part
@@ -160,9 +170,11 @@ module _ {X : Type 0} (g : Given) (r : Comes X) (s : State) where
   is_with_bytes x one = record { some = (one.some.0, bytes_some x one.some.0 one.some.1); only = bytes_only x one.only }
 
 module _ {X : Type 0} (r : Comes X) (s : State) where
+  -- what was read in a level, with its bodies, and the state after it outside
   abbrev with_bodies_of : Read X → Read (X × Row Span)
   with_bodies_of x = x ▸ λ a t. Ok ((a, t.bodies), outer_level s t)
 
+  -- with these bodies there is the outcome of the form in a level of its own, and no other
   level_some : (x : Read X) (k : Row Spelled) → r (own_level s) x k → OwnLevel r s (with_bodies_of x) k
   level_some (Ok (x, t)) k part = level_read part
   level_some (Err f) k part = level_stops part
@@ -177,6 +189,7 @@ module _ {X : Type 0} (r : Comes X) (s : State) where
 
 -- ---- every form
 
+-- by each form what is computed with the whole tree may be read, and nothing else
 pub computed_is_only : {X : Type 0} (r : Form X) (g : Given) (s : State) → HasOneOutcome (may r g s) (does r Whole g s)
 computed_is_only (give x) g s = is_just x s
 computed_is_only (see f) g s = is_just (seen f g s) s

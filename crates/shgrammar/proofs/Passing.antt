@@ -104,6 +104,7 @@ newline_after bytes p q len ends some stands =
     let is : q - 1 ≡ p + (len - 1) = omega (arith, ends, some) in
     ap (slice_get bytes) is ∙ sym (get_drop p bytes (len - 1)) ∙ newline_at (drop p bytes) (len - 1) stands
 
+-- so of the line before q
 pub newline_before : (edition : Edition) → (bytes : List ℕ) (p q : ℕ) → LineBefore edition bytes p q →
     slice_get bytes (q - 1) ≡ Some 10
 newline_before edition bytes p q line = newline_after bytes p q line.state.at line.end line.some line.newline
@@ -120,6 +121,7 @@ stops_unended edition bytes p len blank newline es is other q line =
     ∙ line.newline in
     absurd cc
 
+-- a fault there tells it too
 pub stops_faulty : (edition : Edition) → (bytes : List ℕ) (p : ℕ) (blank : Bool) (f : Fault) →
     line_from edition bytes Outer blank p ≡ Err f → StopsAt edition bytes p
 stops_faulty edition bytes p blank f is q line =
@@ -129,6 +131,7 @@ stops_faulty edition bytes p blank f is q line =
 
 -- ---- the first fault after some bytes, and that of the script
 
+-- a fault that stands n bytes further on
 abbrev later : ℕ → Option Fault → Option Fault
 later n f = option_map (moved_fault n) f
 
@@ -141,6 +144,7 @@ twice n p f g h one two =
 module _ (n : ℕ) (f h : LinesSoFar → ℕ → AScript) (so to : LinesSoFar) (p : ℕ)
     (rest : (es fs : Row AnEntry) (t : State) →
     (f (with_line so es) (n + p + t.at)).fault ≡ later n (h (with_line to fs) (p + t.at)).fault) where
+  -- by what is read of the next line in both
   shift_by : (blank pale : Bool) (x y z : Read (Row AnEntry × Bool)) → Same (n + p) blank x z → Same p pale y z →
       (script_by f so (n + p) x).fault ≡ later n (script_by h to p y).fault
   shift_by blank pale (Ok ((es, true), s)) (Ok ((fs, true), t)) (Ok ((gs, c), u)) one two =
@@ -157,6 +161,7 @@ module _ (n : ℕ) (f h : LinesSoFar → ℕ → AScript) (so to : LinesSoFar) (
   shift_by blank pale (Err e) (Err d) (Err c) one two = ap Some (twice n p e d c one two)
 
 module _ (edition : Edition) (n : ℕ) (B : List ℕ) where
+  -- by how many lines may be read
   shift : (m : ℕ) (so to : LinesSoFar) (p : ℕ) →
       (script_below edition B m so (n + p)).fault ≡ later n (script_below edition (drop n B) m to p).fault
   unfolding script_below

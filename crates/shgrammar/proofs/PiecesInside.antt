@@ -34,20 +34,24 @@ abbrev pub Closed : Mode → Type 0
 Closed Plain = ⊥
 Closed _ = Unit {0}
 
+-- so it is not of a word
 not_plain : (mode : Mode) → Closed mode → mode ≡ Plain → ⊥
 not_plain mode closed is = subst Closed is closed
 
 module _ {edition : Edition} {T U : List ℕ} {a L : ℕ} {to : ℕ → ℕ} (K : Kept edition T U a L to) (o o2 : ℕ)
     (B B2 : List ℕ) where
+  -- a byte before the limit is read there
   abbrev Inside : ℕ → Type 0
   Inside p = Here T U a L to p
 
+  -- what is given of both texts
   abbrev g : Given
   g = given edition T o
 
   abbrev h : Given
   h = given edition U o2
 
+  -- a state elsewhere, and a state moved to another place
   abbrev over : State → State
   over s = there K o o2 s
 
@@ -71,6 +75,7 @@ module _ {edition : Edition} {T U : List ℕ} {a L : ℕ} {to : ℕ → ℕ} (K 
       × ((zs : Row ASubst) → SameSubsts ss zs → (y : Row ASubst)
       × ((does (r zs) Whole h (over s) ≡ Ok (y, over t)) × SameSubsts x y))
 
+  -- what may be opened in a word holds the same elsewhere
   pub record Local (inner : Inner) : Type 0 where
     pub construct : (mode : Mode) → Closed mode → (b b2 : ℕ) (ss : Row ASubst) (s : State) → a ≤ s.at →
         Holds (Holding (inner.construct mode b2) ss s) (does (inner.construct mode b ss) Whole g s)
@@ -84,6 +89,7 @@ module _ {edition : Edition} {T U : List ℕ} {a L : ℕ} {to : ℕ → ℕ} (K 
         × ((d : WordSoFar) → Agree c d → (y : Step WordSoFar)
         × ((does (opened inner mode b2 d) Whole h (over s) ≡ Ok (y, over t)) × SameStep Agree x y))
 
+    -- a construct that may be opened is such a piece
     opens : (mode : Mode) → Closed mode → (b b2 : ℕ) (c : WordSoFar) (s : State) → a ≤ s.at →
         Holds (Opens mode b2 c s) (does (opened inner mode b c) Whole g s)
     opens mode closed b b2 c s from =
@@ -100,6 +106,7 @@ module _ {edition : Edition} {T U : List ℕ} {a L : ℕ} {to : ℕ → ℕ} (K 
   abbrev pub Last : Mode → ℕ → Type 0
   Last mode p = (p ≤ L) × (mode ≡ Plain → p ≡ L)
 
+  -- neither is past the limit
   pub from_high : (mode : Mode) (p : ℕ) → From mode p → p ≤ L
   from_high mode p from = ⊎_elim (λ i. high K i) (λ e. omega (arith, e.1)) from
 
@@ -151,6 +158,7 @@ module _ {edition : Edition} {T U : List ℕ} {a L : ℕ} {to : ℕ → ℕ} (K 
 
     module _ (inner : Inner) (local : Local inner) (mode : Mode) (b b2 : ℕ) (c : WordSoFar) (s : State)
         (from : a ≤ s.at) where
+      -- where the piece begins, the place after its first byte, and how many brackets are open
       abbrev p : ℕ
       p = s.at
 
@@ -160,6 +168,7 @@ module _ {edition : Edition} {T U : List ℕ} {a L : ℕ} {to : ℕ → ℕ} (K 
       abbrev n : ℕ
       n = c.nested
 
+      -- that place is not before `a`
       q_low : a ≤ q
       q_low = omega (arith, from, after_low T p)
 
@@ -167,9 +176,11 @@ module _ {edition : Edition} {T U : List ℕ} {a L : ℕ} {to : ℕ → ℕ} (K 
       abbrev Turn : Step WordSoFar → State → Type 0
       Turn x t = Turned K o o2 Agree (a_piece inner mode b) (a_piece inner mode b2) (From mode) (Last mode) c s x t
 
+      -- a turn by the row of this piece is the same elsewhere
       abbrev Again : Piece → Type 0
       Again x = Holds Turn (does (piece_row inner mode b c x) Whole g s)
 
+      -- the second text has this piece there
       abbrev Told : Piece → Type 0
       Told x = piece_in edition mode (piece_at U mode n (to p)) ≡ x
 
@@ -177,6 +188,7 @@ module _ {edition : Edition} {T U : List ℕ} {a L : ℕ} {to : ℕ → ℕ} (K 
       abbrev Known : Piece → Type 0
       Known x = Again (piece_in edition mode x)
 
+      -- this is read there, at the same place, and P holds of it
       abbrev Found : (Step WordSoFar → Type 0) → State → WordSoFar → Read (Step WordSoFar) → Type 0
       Found P t d x = (y : Step WordSoFar) × ((x ≡ Ok (y, over t)) × P y)
 
@@ -194,6 +206,7 @@ module _ {edition : Edition} {T U : List ℕ} {a L : ℕ} {to : ℕ → ℕ} (K 
         ),
       )
 
+      -- over a byte that is read a turn leads on
       leads_byte : past_continuations T p < length T → leads_on g s (placed q s) ≡ true
       leads_byte lt = lt-ltb _ _ (omega (arith, lt, past_byte_is T p, place_low T p))
 
@@ -211,6 +224,7 @@ module _ {edition : Edition} {T U : List ℕ} {a L : ℕ} {to : ℕ → ℕ} (K 
                 (again (w d), (row d ∙ rw (here_after K i) refl, same d so)),
           )
 
+      -- an ordinary byte, and the brackets that open and close in arithmetic
       ordinary : is_byte (byte_at T p) backslash ≡ false → past_continuations T p < length T →
           (Inside p → From mode q → Told pieces.Ordinary) → Again pieces.Ordinary
       ordinary e lt told = one_byte_row e lt (λ d. d) (λ d so. so) pieces.Ordinary told (λ d. refl)
@@ -263,6 +277,7 @@ module _ {edition : Edition} {T U : List ℕ} {a L : ℕ} {to : ℕ → ℕ} (K 
                 (again d, (row d ∙ rw w.1.1 refl, so)),
           ))
 
+      -- text in single quotes, in backquotes, and in dollar-single quotes
       quoted : is_byte (byte_at T p) backslash ≡ false → (Inside p → Told pieces.Single) → Again pieces.Single
       quoted e told = text_row pieces.Single single (quote_in K o o2 s from e) told (λ d. refl)
 
@@ -280,6 +295,7 @@ module _ {edition : Edition} {T U : List ℕ} {a L : ℕ} {to : ℕ → ℕ} (K 
                 (again d, (rw w.1.1 refl, so)),
           ))
 
+      -- what is asked of a turn's end keeps it within the limit
       goal_high : (x : Step WordSoFar) (t : State) →
           Goal K o o2 Agree (a_piece inner mode b) (a_piece inner mode b2) (From mode) (Last mode) s x t → t.at ≤ L
       goal_high (again d) t goal = goal.0
@@ -301,6 +317,7 @@ module _ {edition : Edition} {T U : List ℕ} {a L : ℕ} {to : ℕ → ℕ} (K 
                 row_there x u.1.0 d so (SameStep Agree y) t (f.0, (u.1.1 d ∙ f.1.0, f.1.1)),
           ))
 
+      -- text in double quotes, and an arithmetic expansion
       string : (Inside p → Told pieces.Double) → Again pieces.Double
       string told = open_row pieces.Double Double tt _ (o2 + past_continuations U (to p)) q q_low
           (λ i. let j = before K p from i in (j, (told j, λ d. rw (here_after K j) refl)))
@@ -317,6 +334,7 @@ module _ {edition : Edition} {T U : List ℕ} {a L : ℕ} {to : ℕ → ℕ} (K 
           let j = before K p from k in
           (j, (told j k l, λ d. rw (here_after K j, here_after K k, here_after K l) refl)))
 
+      -- the rest of a parameter expansion ends no word
       braces_closed : (m : Mode) → Closed (braces_in m)
       braces_closed Plain = tt
       braces_closed Double = tt
@@ -329,6 +347,7 @@ module _ {edition : Edition} {T U : List ℕ} {a L : ℕ} {to : ℕ → ℕ} (K 
       rest_closed r = cond_both (stands T r number_sign || stands T r percent_sign) _ _ Closed (λ e. tt)
           (λ e. braces_closed mode)
 
+      -- a parameter expansion
       parameter : (Inside p → Inside q → Told pieces.Param) → Again pieces.Param
       parameter told =
           let r = past_parameter T (past_byte T q) in
@@ -357,6 +376,7 @@ module _ {edition : Edition} {T U : List ℕ} {a L : ℕ} {to : ℕ → ℕ} (K 
                 (again (word_so_far d.nested v.0), (rw (here_after K j, here_after K k, v.1.0) refl, (so.0, v.1.1))),
           ))
 
+      -- `$$`
       twice : is_byte (byte_at T q) backslash ≡ false → (Inside p → Inside q → Told pieces.Pid) → Again pieces.Pid
       twice e told goal =
           let j = clear K q q_low (omega (arith, goal.0, past_byte_is T q)) e in
@@ -377,6 +397,7 @@ module _ {edition : Edition} {T U : List ℕ} {a L : ℕ} {to : ℕ → ℕ} (K 
                 (placed (past_closer T mode p) s) (done d, (rw (one U (to p), one T p, here_after K i) refl, so)),
           )
 
+      -- the same, where two bytes close it
       closer_two : ((V : List ℕ) (r : ℕ) → past_closer V mode r ≡ past_byte V (past_byte V r)) →
           is_byte (byte_at T q) backslash ≡ false → (Inside p → Inside q → Told pieces.Closer) → Again pieces.Closer
       closer_two two e told goal =
@@ -404,13 +425,16 @@ module _ {edition : Edition} {T U : List ℕ} {a L : ℕ} {to : ℕ → ℕ} (K 
           next
 
       module _ (v : ℕ) (is : byte_at T p ≡ Some v) where
+        -- a byte is read here
         lt : past_continuations T p < length T
         lt = slice_get_within T (past_continuations T p) v is
 
         module _ (e : (v == backslash) ≡ false) where
+          -- it is no backslash
           no_backslash : is_byte (byte_at T p) backslash ≡ false
           no_backslash = rw is e
 
+          -- a `$`, by the byte after it
           dollar_row : (v == grave_accent) ≡ false → (v == dollar_sign) ≡ true → (y : Option ℕ) → byte_at T q ≡ y →
               Known (dollar_by T q y)
           dollar_row f d None is2 = ordinary no_backslash lt
@@ -439,10 +463,12 @@ module _ {edition : Edition} {T U : List ℕ} {a L : ℕ} {to : ℕ → ℕ} (K 
               (λ i next. dollar_piece mode n p v is e f d i
               ∙ lone_dollar (rw is2 k) next (λ j. rw (here_byte K j, is2, m, k, z, x) refl))))))
 
+          -- a backquote begins its text there too
           backquote_told : (v == grave_accent) ≡ true → Inside p → Told pieces.Backquote
           unfolding piece_at
           backquote_told f i = rw (here_byte K i, is, e, f) refl
 
+        -- any byte, if it is so of those that are no backslash, backquote or `$`
         some_row : (Other v → Known (byte_by T p mode n v)) → Known (piece_by T p mode n (Some v))
         unfolding dollar_at
         some_row other =
@@ -455,12 +481,14 @@ module _ {edition : Edition} {T U : List ℕ} {a L : ℕ} {to : ℕ → ℕ} (K 
     -- ---- by the mode
 
     module _ (inner : Inner) (local : Local inner) (b b2 : ℕ) (c : WordSoFar) (s : State) (from : a ≤ s.at) where
+      -- the same, in each mode
       abbrev AgainIn : Mode → Piece → Type 0
       AgainIn mode x = Again inner local mode b b2 c s from x
 
       abbrev KnownIn : Mode → Piece → Type 0
       KnownIn mode x = AgainIn mode (piece_in edition mode x)
 
+      -- the end of a word
       word_end : AgainIn Plain pieces.Closer
       unfolding piece_at
       word_end goal = (
@@ -474,6 +502,7 @@ module _ {edition : Edition} {T U : List ℕ} {a L : ℕ} {to : ℕ → ℕ} (K 
               (subst (λ r. piece_by U (to r) Plain c.nested (byte_at U (to r)) ≡ pieces.Closer) (sym is)
               (limit_piece (byte_at U (to L)) c.nested ender))
 
+      -- the end of the text
       none_row : (mode : Mode) → KnownIn mode (piece_by T s.at mode c.nested None)
       none_row Plain = word_end
       none_row Double = tt
@@ -482,17 +511,20 @@ module _ {edition : Edition} {T U : List ℕ} {a L : ℕ} {to : ℕ → ℕ} (K 
       none_row Arith = tt
 
       module _ (v : ℕ) (is : byte_at T s.at ≡ Some v) (other : Other v) where
+        -- a byte is read here, and it is no backslash
         some : past_continuations T s.at < length T
         some = slice_get_within T (past_continuations T s.at) v is
 
         clear_here : is_byte (byte_at T s.at) backslash ≡ false
         clear_here = rw is other.0
 
+        -- the second text has the piece that this byte begins
         told : (mode : Mode) → Inside s.at →
             piece_in edition mode (piece_at U mode c.nested (to s.at))
             ≡ piece_in edition mode (byte_by U (to s.at) mode c.nested v)
         told mode i = other_piece mode c.nested s.at v is other i
 
+        -- a `)` in arithmetic, by the brackets that are open and the byte after it
         bracket_clear : (r : ℕ) → stands T r right_parenthesis ≡ true → is_byte (byte_at T r) backslash ≡ false
         unfolding stands
         bracket_clear r e = byte_other (byte_at T r) right_parenthesis backslash refl e
@@ -507,6 +539,7 @@ module _ {edition : Edition} {T U : List ℕ} {a L : ℕ} {to : ℕ → ℕ} (K 
         bracket_row (suc m) some_open x follows e =
             closing inner local Arith b b2 c s from clear_here some (λ i next. told Arith i ∙ rw (e, some_open) refl)
 
+        -- such a byte in each mode, then any byte or none, and so each piece
         by_mode : (mode : Mode) → KnownIn mode (byte_by T s.at mode c.nested v)
         by_mode Plain =
             cond_both (ends (Some v)) _ _ (KnownIn Plain) (λ e. word_end)
@@ -555,6 +588,7 @@ module _ {edition : Edition} {T U : List ℕ} {a L : ℕ} {to : ℕ → ℕ} (K 
     -- ---- constructs in constructs
 
     module _ (inner : Inner) (local : Local inner) where
+      -- the pieces of a construct, or of a word
       pieces_in : (mode : Mode) (b b2 : ℕ) (c : WordSoFar) (s : State) → a ≤ s.at
           → Holds (Looped K o o2 Agree (a_piece inner mode b) (a_piece inner mode b2) (From mode) (Last mode) c s)
           (does (loop (a_piece inner mode b) c) Whole g s)
@@ -569,12 +603,14 @@ module _ {edition : Edition} {T U : List ℕ} {a L : ℕ} {to : ℕ → ℕ} (K 
           (does (loop (a_piece inner Plain b) c) Whole g s) (pieces_in Plain b b c s from)
           (λ x t ends is. (ends (omega (arith, is), λ e. is)).0)
 
+      -- a construct may end up to the limit, and goes on before it only
       last_of : (mode : Mode) → Closed mode → (r : ℕ) → r ≤ L → Last mode r
       last_of mode closed r le = (le, λ e. absurd (not_plain mode closed e))
 
       in_of : (mode : Mode) → Closed mode → (r : ℕ) → From mode r → Inside r
       in_of mode closed r from = ⊎_elim (λ i. i) (λ e. absurd (not_plain mode closed e.0)) from
 
+      -- so what a construct holds is the same elsewhere
       pub construct_in : (mode : Mode) → Closed mode → (b b2 : ℕ) (ss : Row ASubst) (s : State) → a ≤ s.at →
           Holds (Holding (contents inner mode b2) ss s) (does (contents inner mode b ss) Whole g s)
       unfolding contents many
@@ -593,6 +629,7 @@ module _ {edition : Edition} {T U : List ℕ} {a L : ℕ} {to : ℕ → ℕ} (K 
       Ended b2 s x t = t.at ≡ L → (y : Row ASubst)
           × ((does (contents inner Plain b2 []) Whole h (over s) ≡ Ok (y, over t)) × SameSubsts x y)
 
+      -- so what it holds is the same elsewhere
       pub word_in : (b b2 : ℕ) (s : State) → a ≤ s.at → Holds (Ended b2 s) (does (contents inner Plain b []) Whole g s)
       unfolding contents many
       word_in b b2 s from =

@@ -87,6 +87,7 @@ pub not_end_low : (T : List ℕ) (p : ℕ) → at_end T p ≡ false → p < leng
 unfolding at_end
 not_end_low T p e = some_low T p (slice_get T p) refl e
 
+-- where no byte is got the text has ended
 none_high : (T : List ℕ) (p : ℕ) → slice_get T p ≡ None → length T ≤ p
 none_high T p is = ⊎_elim (λ lt. let some : None ≡ Some (get_or T p 0) = sym is ∙ slice_get-get_or T p 0 lt in
     absurd cc) (λ ge. ge) (cases_lt p (length T))
@@ -292,6 +293,7 @@ word_longer T p q low here there =
 
 -- ---- the end
 
+-- where no byte is got the text has ended
 no_byte : (T : List ℕ) (p : ℕ) → is_none (slice_get T p) ≡ true → length T ≤ p
 no_byte T p e = ⊎_elim (λ lt. absurd (both_ways _ refl (rw (slice_get-get_or T p 0 lt) at e))) (λ ge. ge)
     (cases_lt p (length T))
@@ -304,6 +306,7 @@ end_is B at p within inside e = omega (arith, within, inside, no_byte (drop at B
 
 -- ---- text in quotes
 
+-- what ends a search for a single quote is no backslash
 quote_other : (b : Option ℕ) → passes (λ c. not (c == apostrophe)) b ≡ false → is_byte b 92 ≡ false
 quote_other None e = refl
 quote_other (Some b) e = grind (arith, nat_tests)
@@ -315,6 +318,7 @@ quote_clear T p = quote_other (slice_get T (next_of apostrophe T p)) (raw_past_s
 
 -- ---- text in which a backslash takes one byte
 
+-- by how the text is quoted, and by that byte
 backslash_by : (how : Escaping) (b : Option ℕ) → is_none b ≡ false → is_byte b (closes_by how) ≡ false →
     passes (λ c. not (c == closes_by how || c == 92)) b ≡ false → is_byte b 92 ≡ true
 backslash_by how None some other e = absurd cc
@@ -329,6 +333,7 @@ backslash_next how T p some other =
     backslash_by how (slice_get T (next_escaped how T p)) some other
     (raw_past_stops (λ c. not (c == closes_by how || c == 92)) T p)
 
+-- by how the text is quoted, and by that byte
 closer_by : (how : Escaping) (b : Option ℕ) → is_byte b (closes_by how) ≡ true → is_byte b 92 ≡ false
 closer_by how None e = absurd cc
 closer_by escapings.Backquotes (Some b) e = grind (arith, nat_tests)

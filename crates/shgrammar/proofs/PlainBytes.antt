@@ -41,6 +41,7 @@ plain_stays b plain =
     let double = or_parts (ends (Some b) || b == apostrophe) (b == quotation_mark) q.3 in
     (or_parts (ends (Some b)) (b == apostrophe) double.0).0
 
+-- a plain byte is an ordinary piece
 pub ordinary_by : (T : List ℕ) (p : ℕ) (mode : Mode) (n b : ℕ) → is_plain mode b ≡ true →
     piece_by T p mode n (Some b) ≡ pieces.Ordinary
 ordinary_by T p Plain n b plain =
@@ -70,6 +71,7 @@ ordinary_at : (T : List ℕ) (p : ℕ) (mode : Mode) (n : ℕ) (a : Option ℕ) 
 ordinary_at T p mode n None plain = absurd cc
 ordinary_at T p mode n (Some b) plain = ordinary_by T p mode n b plain
 
+-- a backslash is plain in no mode
 no_backslash : (mode : Mode) → is_plain mode 92 ≡ false
 no_backslash Plain = refl
 no_backslash Double = refl
@@ -115,6 +117,7 @@ module _ (inner : Inner) (keep : Keep) (g : Given) (mode : Mode) (b : ℕ) (ws :
   abbrev all_from : Row Waiting → Row Span → WordSoFar → ℕ → Read WordSoFar
   all_from vs es h p = does (many (a_piece inner mode b) h) keep g (placed vs es p)
 
+  -- a plain byte is a turn that moves past it and changes nothing else
   plain_piece : (h : WordSoFar) (p : ℕ) → raw_in (is_plain mode) g.text p ≡ true →
       turn h (placed ws ds p) ≡ Ok (again h, placed ws ds (p + 1))
   unfolding a_piece piece_at past_byte
@@ -125,6 +128,7 @@ module _ (inner : Inner) (keep : Keep) (g : Given) (mode : Mode) (b : ℕ) (ws :
       ∙ ordinary_at g.text p mode h.nested (slice_get g.text p) (unfold raw_in in plain) in
       rw (ordinary, same) refl
 
+  -- turns over plain bytes give what those from the byte after them on give
   plain_run : (h : WordSoFar) (p m : ℕ) → ArePlain mode g.text p (p + m) → p + m ≤ length g.text →
       all h p ≡ all h (p + m)
   plain_run h p zero plain high =
@@ -169,6 +173,7 @@ module _ (inner : Inner) (keep : Keep) (g : Given) (mode : Mode) (b : ℕ) (ws :
       ∙ many_done (a_piece inner mode b) keep g (word_so_far 0 ss) (word_so_far 0 ss) (placed ws ds q)
       (placed ws ds (past_closer g.text mode q)) (rw end refl))
 
+  -- an ordinary byte is a turn that moves past it, and past continuations before it
   ordinary_piece : (h : WordSoFar) (p : ℕ) → piece_in g.edition mode (piece_at g.text mode h.nested p) ≡ pieces.Ordinary
       → turn h (placed ws ds p) ≡ Ok (again h, placed ws ds (past_continuations g.text p + 1))
   unfolding a_piece past_byte

@@ -18,6 +18,7 @@ use Rattle.shgrammar.proofs.Unquoted.{unquoted_byte, unquoted_escape, bare_one}
 
 -- ---- an ordinary byte
 
+-- where none of several holds each fails, and where all hold each does
 none_of_four : (a b c d : Bool) → not (a || b || c || d) ≡ true → (a ≡ false) × (b ≡ false) × (c ≡ false)
     × (not d ≡ true)
 none_of_four true b c d e = absurd cc
@@ -38,10 +39,12 @@ all_three true true c e = (refl, refl, e)
 
 -- it is not special, and quotes nothing
 module _ (b : ℕ) (plain : is_plain Plain b ≡ true) where
+  -- it is no backslash, no backquote and no `$`, and not special outside quotes
   not_special : ((b == 92) ≡ false) × ((b == grave_accent) ≡ false) × ((b == dollar_sign) ≡ false)
       × (not (is_special_in Plain b) ≡ true)
   not_special = none_of_four (b == 92) (b == grave_accent) (b == dollar_sign) (is_special_in Plain b) plain
 
+  -- no word ends at it, and it is none of the bytes that quote or expand
   no_end : ends (Some b) ≡ false
   no_end = (none_of_three (ends (Some b)) (b == apostrophe) (b == quotation_mark) not_special.3).0
 
@@ -60,11 +63,13 @@ module _ (b : ℕ) (plain : is_plain Plain b ≡ true) where
   no_double : (b == quotation_mark) ≡ false
   no_double = (none_of_three (ends (Some b)) (b == apostrophe) (b == quotation_mark) not_special.3).2
 
+  -- it is no quote, whatever it stands in
   no_quote : (q : Quoting) → is_quote q b ≡ false
   no_quote not_quoted = rw (no_single, no_double) refl
   no_quote in_single = no_single
   no_quote in_double = no_double
 
+-- another byte than c is no special c, whatever it stands in
 not_live : (q : Quoting) (c b : ℕ) → (b == c) ≡ false → is_live q c b ≡ false
 not_live not_quoted c b e = e
 not_live in_single c b e = refl
@@ -72,6 +77,7 @@ not_live in_double c b e = e
 
 -- ---- ordinary bytes stay
 
+-- what is left, after no byte and after one more
 nothing : (left : Option (List ℕ)) → left ≡ left_of [] left
 nothing None = refl
 nothing (Some bs) = refl
@@ -80,6 +86,7 @@ left_more : (b : ℕ) (xs : List ℕ) (left : Option (List ℕ)) → left_before
 left_more b xs None = refl
 left_more b xs (Some bs) = refl
 
+-- of an ordinary byte, and of a row of them, quote removal leaves all
 plain_step : (q : Quoting) (second : Bool) (b : ℕ) (bs : List ℕ) → is_plain Plain b ≡ true →
     unquoted q second (b ∷ bs) ≡ left_before b (unquoted q second bs)
 plain_step q second b bs plain =
@@ -96,6 +103,7 @@ plain_on q second (b ∷ xs) rest all =
 
 -- ---- of them alone
 
+-- quote removal leaves them all, and no part of them is quoted
 alone_left : (xs : List ℕ) → list_all (is_plain Plain) xs ≡ true → unquoted not_quoted false xs ≡ Some xs
 unfolding unquoted
 alone_left xs all = ap (unquoted not_quoted false) (sym (append-nil xs)) ∙ plain_on not_quoted false xs [] all
@@ -111,6 +119,7 @@ alone_bare (b ∷ xs) all =
 
 -- ---- of them in quotes
 
+-- by which of the two quotes it is
 quote_is : (b : ℕ) (t : Bool) → (b == apostrophe) ≡ t → (t || b == quotation_mark) ≡ true → (b == 92) ≡ false
 quote_is b true is e = grind (arith, nat_tests, is)
 quote_is b false is e = grind (arith, nat_tests, e)
@@ -119,6 +128,7 @@ quote_is b false is e = grind (arith, nat_tests, e)
 quote_quotes : (b : ℕ) → is_quote not_quoted b ≡ true → (b == 92) ≡ false
 quote_quotes b e = quote_is b (b == apostrophe) refl e
 
+-- of the quote that ends them nothing is left
 last_by : (b : ℕ) (t : Bool) → (b == apostrophe) ≡ t → (t || b == quotation_mark) ≡ true →
     unquoted (after_quote not_quoted b) false (b ∷ []) ≡ Some []
 unfolding unquoted
@@ -128,6 +138,7 @@ last_by b false is e = rw (is, e) refl
 last_quote : (b : ℕ) → is_quote not_quoted b ≡ true → unquoted (after_quote not_quoted b) false (b ∷ []) ≡ Some []
 last_quote b e = last_by b (b == apostrophe) refl e
 
+-- of ordinary bytes between two of these quotes they are left, and a word that begins with one is quoted
 quoted_left : (b : ℕ) (xs : List ℕ) → is_quote not_quoted b ≡ true → list_all (is_plain Plain) xs ≡ true →
     unquoted not_quoted false (b ∷ xs ++ b ∷ []) ≡ Some xs
 quoted_left b xs is all =
@@ -144,9 +155,11 @@ quoted_bare b bs is =
 
 -- ---- of them after a backslash
 
+-- an ordinary byte is no newline
 no_newline : (c : ℕ) → is_plain Plain c ≡ true → (c == newline_char) ≡ false
 no_newline c plain = (none_of_three (is_blank c) (c == newline_char) (is_operator c) (ap not (no_end c plain))).1
 
+-- of ordinary bytes after a backslash they are left, and the word is quoted
 escaped_left : (c : ℕ) (cs : List ℕ) → list_all (is_plain Plain) (c ∷ cs) ≡ true →
     unquoted not_quoted false (92 ∷ c ∷ cs) ≡ Some (c ∷ cs)
 escaped_left c cs all =
@@ -165,6 +178,7 @@ escaped_bare c cs all =
 
 -- ---- the word
 
+-- what the same quote at both ends means: two bytes at least, a quote first, and the same byte last
 no_less : (n : ℕ) → not (nat_lt n 2) ≡ true → 2 ≤ n
 no_less n e = grind (arith, nat_tests, e)
 
@@ -195,6 +209,7 @@ wrapped_is word is =
     (sym (take-append-drop (length word - 1 - 1) (drop 1 word))
     ∙ ap (λ l. take (length word - 1 - 1) (drop 1 word) ++ l) last)
 
+-- what is between them is shorter than the word
 shorter : (word : List ℕ) → is_wrapped word ≡ true →
     nat_lt (length (take (length word - 1 - 1) (drop 1 word))) (length word) ≡ true
 shorter word is =
@@ -203,9 +218,11 @@ shorter word is =
     let inner = length-take-le (length word - 1 - 1) (drop 1 word) (omega (arith, rest)) in
     lt-ltb _ _ (omega (arith, inner, long))
 
+-- the delimiter is this part of the word, and literal where that is shorter
 abbrev is_its_part : List ℕ → List ℕ → Type 0
 is_its_part word part = delimiter_of word ≡ Some (a_delimiter part (nat_lt (length part) (length word)))
 
+-- so it is between quotes, after a backslash, and where the word has ordinary bytes alone
 wrapped_part : (word : List ℕ) → is_wrapped word ≡ true →
     list_all (is_plain Plain) (take (length word - 1 - 1) (drop 1 word)) ≡ true →
     is_its_part word (take (length word - 1 - 1) (drop 1 word))
@@ -239,6 +256,7 @@ part_by word true u is so all = rw is (wrapped_part word is (rw is at all))
 part_by word false true is so all = rw (is, so) (escaped_part word so (rw (is, so) at all))
 part_by word false false is so all = rw (is, so) (alone_part word (rw (is, so) at all))
 
+-- so it is of each word that has only ordinary bytes without its quotes or its backslash
 pub plain_whole : (word part : List ℕ) → part ≡ unwrapped word → list_all (is_plain Plain) part ≡ true →
     delimiter_of word ≡ Some (a_delimiter part (nat_lt (length part) (length word)))
 plain_whole word part is all =

@@ -10,21 +10,25 @@ use Rattle.shgrammar.specs.Classes.{is_name}
 use Rattle.shgrammar.specs.Bytes.{ends}
 use Rattle.shgrammar.specs.Plain.{alone, begins_a_word, is_plain}
 
+-- whether two tests say the same
 same : Bool → Bool → Bool
 same true b = b
 same false true = false
 same false false = true
 
+-- from the byte n on, a byte has none of the marks of the set where it passes the test, and only there
 agrees : ℕ → (ℕ → Bool) → List ℕ → ℕ → Bool
 agrees set test [] n = true
 agrees set test (x ∷ xs) n = same (bit_and x set == 0) (test n) && agrees set test xs (n + 1)
 
+-- where they do they are equal
 same_is : (a b : Bool) → same a b ≡ true → a ≡ b
 unfolding same
 same_is true b e = sym e
 same_is false true e = absurd cc
 same_is false false e = refl
 
+-- so it is with each byte that the table has
 agrees_at : (set : ℕ) (test : ℕ → Bool) (xs : List ℕ) (n k : ℕ) → agrees set test xs n ≡ true → k < length xs →
     (bit_and (get_or xs k 0) set == 0) ≡ test (n + k)
 unfolding agrees
@@ -34,6 +38,7 @@ agrees_at set test (x ∷ xs) n (suc k) e lt =
     let next : n + 1 + k ≡ n + suc k = omega arith in
     agrees_at set test xs (n + 1) k (and_parts _ _ e).1 (omega arith) ∙ ap test next
 
+-- a byte has no mark of a mode where it is plain in it, and only there
 all_agree : (mode : Mode) → agrees (alone mode) (is_plain mode) MARKS 0 ≡ true
 unfolding agrees same
 all_agree Plain = refl
@@ -54,6 +59,7 @@ marks : (set : ℕ) (test : ℕ → Bool) (b : ℕ) → agrees set (λ c. not (t
 marks set test b e lt = ap not (agrees_at set (λ c. not (test c)) MARKS 0 b e lt ∙ ap (λ c. not (test c)) (zero-add b))
     ∙ not-not (test b)
 
+-- a byte is marked by 32 where a word ends before it, and by 64 where a name has it
 ends_agree : agrees 32 (λ b. not (ends (Some b))) MARKS 0 ≡ true
 unfolding agrees same
 ends_agree = refl
@@ -68,6 +74,7 @@ table_ends b lt = marks 32 (λ c. ends (Some c)) b ends_agree lt
 pub table_names : (b : ℕ) → b < 256 → not (bit_and (get_or MARKS b 0) 64 == 0) ≡ is_name b
 table_names b lt = marks 64 is_name b names_agree lt
 
+-- it is marked by 128, unless only a word begins with it
 words_agree : agrees 128 begins_a_word MARKS 0 ≡ true
 unfolding agrees same
 words_agree = refl

@@ -8,6 +8,7 @@ use Rattle.shast.specs.Tree.{AnEntry, entries_of, entry, more_entries, remark}
 use Rattle.shast.specs.View.{view_comment, view_entry, view_list}
 use Rattle.shgrammar.specs.Compounds.{after_remarks}
 
+-- a list, as the code has it, is the row of its entries as they are seen
 pub list_seen : (l : the_list.List) → view_list l ≡ entries_of (map view_entry (out-List l).entries.items)
 list_seen l = search (rules, fold_out-List)
 
@@ -15,6 +16,7 @@ list_seen l = search (rules, fold_out-List)
 abbrev pub as_remark : Comment → AnEntry
 as_remark c = entry (remark (view_comment c)) false false None
 
+-- comments before a list are its first entries
 pub remarks_row : (cs : Row Comment) (es : Row AnEntry) →
     after_remarks (map view_comment cs) (entries_of es) ≡ entries_of (map as_remark cs ++ es)
 remarks_row [] es = refl

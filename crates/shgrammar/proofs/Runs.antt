@@ -19,6 +19,7 @@ module _ (B : List ℕ) (base at : ℕ) (front : List ℕ) (is : IsRun B base fr
       let short : base + length front ≤ length B = is.short low in
       get_drop base B at ∙ slice_get-get_or B (base + at) 0 (omega (arith, short, lt)) ∙ ap Some (is.same at lt)
 
+  -- the text has a byte there
   pub front_within : at < length (drop base B)
   front_within =
       let short : base + length front ≤ length B = is.short low in
@@ -51,6 +52,7 @@ module _ (B : List ℕ) (base at : ℕ) (run : List ℕ) (is : IsRun B (base + a
       get_drop base B (at + k) ∙ ap (slice_get B) there ∙ slice_get-get_or B (base + at + k) 0 (omega (arith, high, lt))
       ∙ ap Some (is.same k lt)
 
+  -- bytes of the stretch that all pass a test do so where they stand
   pub run_all : (test : ℕ → Bool) (n : ℕ) → n ≤ length run → ((k : ℕ) → k < n → test (slice_index run k) ≡ true) →
       (k : ℕ) → at ≤ k → k < at + n → raw_in test (drop base B) k ≡ true
   unfolding raw_in
@@ -63,11 +65,13 @@ module _ (B : List ℕ) (base at : ℕ) (run : List ℕ) (is : IsRun B (base + a
 
   -- ---- a word spelled out in the stretch
 
+  -- a byte of the stretch is this one, or not, where it stands
   run_raw : (k c : ℕ) (x : Bool) → k < length run → (slice_index run k == c) ≡ x →
       raw_stands (drop base B) (at + k) c ≡ x
   unfolding raw_stands
   run_raw k c x lt e = rw (run_byte k lt) e
 
+  -- the next letter of a word stands there, or another byte, or the word is at its end
   pub run_letter_more : (word : List ℕ) (i : ℕ) → i < length word → i < length run →
       (slice_index run i == backslash) ≡ false →
       (slice_index run i == get_or word i 0) ≡ true

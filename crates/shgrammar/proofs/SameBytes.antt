@@ -58,6 +58,7 @@ pub on_no_backslash : (T : List ℕ) (p : ℕ) → raw_in goes_on T p ≡ true �
 unfolding raw_in raw_stands
 on_no_backslash T p e = on_no_backslash_by (slice_get T p) e
 
+-- so what is looked for does not go on over a backslash
 backslash_stops_by : (b : Option ℕ) → is_byte b backslash ≡ true → passes goes_on b ≡ false
 backslash_stops_by None e = refl
 backslash_stops_by (Some b) e = rw e refl
@@ -80,6 +81,7 @@ continued T p e = and_parts _ _ e
 module _ {edition : Edition} {T T2 : List ℕ} {a L : ℕ} {to : ℕ → ℕ} (K : Kept edition T T2 a L to) where
   -- ---- where it is safe
 
+  -- a place from which it is safe is not past the limit
   pub safe_high : {p : ℕ} → Safe T a L p → p ≤ L
   safe_high at_limit = omega arith
   safe_high (halts low lt none stop) = omega (arith, lt)
@@ -145,6 +147,7 @@ module _ {edition : Edition} {T T2 : List ℕ} {a L : ℕ} {to : ℕ → ℕ} (K
 
   -- ---- what is the same
 
+  -- a byte before the limit, as it stands
   pub raw_same : (p c : ℕ) → a ≤ p → p < L → raw_stands T2 (to p) c ≡ raw_stands T p c
   unfolding raw_stands
   raw_same p c low lt = ap (λ b. is_byte b c) (K.same p low lt)
@@ -185,10 +188,12 @@ module _ {edition : Edition} {T T2 : List ℕ} {a L : ℕ} {to : ℕ → ℕ} (K
       ∙ ap to (sym none))
       (cases_Bool (continues T p))
 
+  -- so the byte that is read there is before the limit, and the same
   pub here : (p : ℕ) → a ≤ p → past_continuations T p < L →
       (raw_stands T (past_continuations T p) backslash ≡ true → past_continuations T p + 1 < L) → Here T T2 a L to p
   here p low lt next = record { low = low; inside = lt; there = there_below (suc (L - p)) p (omega arith) low lt next }
 
+  -- a place from which it is safe is not before `a`
   pub safe_low : {p : ℕ} → Safe T a L p → a ≤ p
   safe_low at_limit = K.under
   safe_low (halts low lt none stop) = low
@@ -227,6 +232,7 @@ module _ {edition : Edition} {T T2 : List ℕ} {a L : ℕ} {to : ℕ → ℕ} (K
   -- ---- the byte that is read
 
   module _ {p : ℕ} (h : Here T T2 a L to p) where
+    -- both texts read one byte there, and it passes the same tests
     pub here_byte : byte_at T2 (to p) ≡ byte_at T p
     here_byte = let low = place_low T p in
         ap (slice_get T2) h.there ∙ K.same (past_continuations T p) (omega (arith, h.low)) h.inside
@@ -239,6 +245,7 @@ module _ {edition : Edition} {T T2 : List ℕ} {a L : ℕ} {to : ℕ → ℕ} (K
     unfolding stands_in
     here_stands_in test = ap (passes test) here_byte
 
+    -- the place after that byte is the same, and lies from `a` up to the limit
     pub here_after : past_byte T2 (to p) ≡ to (past_byte T p)
     unfolding past_byte
     here_after = let low = place_low T p in
@@ -261,11 +268,13 @@ module _ {edition : Edition} {T T2 : List ℕ} {a L : ℕ} {to : ℕ → ℕ} (K
 
   -- ---- stretches as they stand
 
+  -- a byte k places after p passes the same tests
   raw_in_next : (test : ℕ → Bool) (p k : ℕ) → a ≤ p → p + k < L → raw_in test T2 (to p + k) ≡ raw_in test T (p + k)
   unfolding raw_in
   raw_in_next test p k low lt = ap (λ q. passes test (slice_get T2 q)) (sym (K.on p k low))
       ∙ ap (passes test) (K.same (p + k) (omega (arith, low)) lt)
 
+  -- the bytes that pass a test end at one place in both texts, where that is before the limit
   pub raw_there : (test : ℕ → Bool) (p : ℕ) → a ≤ p → raw_past test T p < L →
       raw_past test T2 (to p) ≡ to (raw_past test T p)
   raw_there test p low lt =

@@ -35,6 +35,7 @@ use Rattle.shgrammar.specs.declared.edition.Edition.{Edition}
 
 module _ {edition : Edition} {T U : List ℕ} {a M : ℕ} {to : ℕ → ℕ} (E : ListEnds edition T U a M to 10) (o o2 : ℕ)
     (off : (p : ℕ) → a ≤ p → o2 + to p ≡ o + p) where
+  -- the two texts, each with its offset
   abbrev g : Given
   g = given edition T o
 
@@ -51,6 +52,7 @@ module _ {edition : Edition} {T U : List ℕ} {a M : ℕ} {to : ℕ → ℕ} (E 
   Again r s y = Closed y → Good T a M s.at
       × ((l : Row Spelled) × may r h (there E o o2 off s) (elsewhere E o o2 off y) l)
 
+  -- one form and then another, where the second is read again
   both_again : {X : Type 0} (r : Form X) (q : X → Form (Row AnEntry × Bool)) (s : State) → a ≤ s.at
       → ((x : X) (t : State) → a ≤ t.at → ((k : Row Spelled) × may r g s (Ok (x, t)) k) →
       (y : Read (Row AnEntry × Bool)) (k : Row Spelled) → may (q x) g t y k → Again (q x) t y) →
@@ -70,6 +72,7 @@ module _ {edition : Edition} {T U : List ℕ} {a M : ℕ} {to : ℕ → ℕ} (E 
   abbrev past : State → State
   past s = record { at = past_byte T s.at; waiting = s.waiting; bodies = s.bodies }
 
+  -- over a newline nothing that is looked for goes on
   ten_goes_not : (x : Option ℕ) → x ≡ Some 10 → passes goes_on x ≡ false
   ten_goes_not x is = rw is refl
 
@@ -92,6 +95,7 @@ module _ {edition : Edition} {T U : List ℕ} {a M : ℕ} {to : ℕ → ℕ} (E 
   line_false es x = ◌▸◌ {Y = Row AnEntry × Bool} (◌▸◌ {Y = Bool} x (λ z t. Ok (false, t)))
       (λ newline t. Ok ((es, newline), t))
 
+  -- a newline ends the line there too, with the bodies after it
   newline_again : (inner : Inner) (es : Row AnEntry) (end : Bool) (n : Next) (s : State) → a ≤ s.at →
       byte_at T s.at ≡ Some 10 → past_continuations T s.at ≡ s.at
       → (x : Result State Fault) → changed bodies_here g (past s) ≡ x → (y : Read (Row AnEntry × Bool)) →
@@ -119,6 +123,7 @@ module _ {edition : Edition} {T U : List ℕ} {a M : ℕ} {to : ℕ → ℕ} (E 
       )
   newline_again inner es end n s from newline still (Err f) is y y_is closed = absurd (subst Closed y_is closed)
 
+  -- what ends with the text, or with a fault, is no line that a newline ended
   clash : {X : Type 0} (es : Row AnEntry) (s : State) (w : Option ℕ) (y : Read (Row AnEntry × Bool)) →
       y ≡ line_false es (does (none_waits w) Whole g s) → Closed y → X
   clash es s None y y_is closed = let no = (subst Closed y_is closed).0 in absurd cc
@@ -132,6 +137,7 @@ module _ {edition : Edition} {T U : List ℕ} {a M : ℕ} {to : ℕ → ℕ} (E 
   stopped (Ok (w, t)) f y y_is closed = faulty _ y y_is closed
   stopped (Err e) f y y_is closed = faulty _ y y_is closed
 
+  -- the end of a line, by the token that stands there
   ending_by : (inner : Inner) (es : Row AnEntry) (newline end : Bool) (n : Next) (s : State) → a ≤ s.at →
       (newline ≡ true → (byte_at T s.at ≡ Some 10) × (past_continuations T s.at ≡ s.at))
       → (y : Read (Row AnEntry × Bool)) → y ≡ does (ending inner es newline end n) Whole g s →
@@ -144,9 +150,11 @@ module _ {edition : Edition} {T U : List ℕ} {a M : ℕ} {to : ℕ → ℕ} (E 
   ending_by inner es false false n s from shown y y_is closed =
       stopped (does (what_is_wrong inner n) Whole g s) _ y y_is closed
 
+  -- the end of a line, after the entries so far
   abbrev at_end : Inner → ListSoFar → Form (Row AnEntry × Bool)
   at_end inner l = both (end_of_line inner l.next) (λ newline. give (l.list.entries, newline))
 
+  -- it is read there too, where its token begins here
   ending_again : (inner : Inner) (l : ListSoFar) (s : State) → a ≤ s.at → Begins g l.next s →
       (y : Read (Row AnEntry × Bool)) (k : Row Spelled) → may (at_end inner l) g s y k → Again (at_end inner l) s y
   unfolding end_of_line
@@ -154,6 +162,7 @@ module _ {edition : Edition} {T U : List ℕ} {a M : ℕ} {to : ℕ → ℕ} (E 
       ending_by inner l.list.entries (is_newline_token l.next.token) (is_end l.next.token) l.next s from
       (λ e. newline_here g l.next s begins e) y ((computed_is_only (at_end inner l) g s).only y k part)
 
+  -- the entries of a line, and its end
   abbrev at_entries : Inner → Bool → Next → Form (Row AnEntry × Bool)
   at_entries inner blank n = both (on_line inner (list_so_far (none_listed blank) n)) (at_end inner)
 
@@ -162,6 +171,7 @@ module _ {edition : Edition} {T U : List ℕ} {a M : ℕ} {to : ℕ → ℕ} (E 
       Tells Whole g r P s → may r g s (Ok (x, t)) k → P x t
   held {P = P} r s x t k told part = subst (Holds P) (sym ((computed_is_only r g s).only (Ok (x, t)) k part)) told.told
 
+  -- a line without the bodies of its here-documents
   open_again : (inner : Inner) → Fine g inner → (blank : Bool) (s : State) → a ≤ s.at →
       (y : Read (Row AnEntry × Bool)) (k : Row Spelled) → may (an_open_line inner blank) g s y k →
       Again (an_open_line inner blank) s y
@@ -178,6 +188,7 @@ module _ {edition : Edition} {T U : List ℕ} {a M : ℕ} {to : ℕ → ℕ} (E 
   abbrev filling : (Row AnEntry × Bool) × Row Span → Form (Row AnEntry × Bool)
   filling l = give (filled_row l.1 l.0.0, l.0.1)
 
+  -- and one with them
   level_again : (inner : Inner) (blank : Bool) (s : State) →
       ((y : Read (Row AnEntry × Bool)) (k : Row Spelled) → may (an_open_line inner blank) g (own_level s) y k →
       Again (an_open_line inner blank) (own_level s) y)
@@ -189,6 +200,7 @@ module _ {edition : Edition} {T U : List ℕ} {a M : ℕ} {to : ℕ → ℕ} (E 
       (w.0, (w.1.0 ++ [], and_then (level_read w.1.1) just))
   level_again inner blank s inside y k (or_stops (level_stops one)) closed = absurd closed
 
+  -- so a line is read again, where the newline at M ends it
   pub line_again : (inner : Inner) → Fine g inner → (blank : Bool) (s : State) → a ≤ s.at →
       (y : Read (Row AnEntry × Bool)) (k : Row Spelled) → may (a_line inner blank) g s y k →
       Again (a_line inner blank) s y
@@ -198,6 +210,7 @@ module _ {edition : Edition} {T U : List ℕ} {a M : ℕ} {to : ℕ → ℕ} (E 
 
 -- ---- one line and two texts
 
+-- a newline that stands at a place is the byte there
 byte_is : (x : Option ℕ) → is_byte x newline_char ≡ true → x ≡ Some 10
 byte_is None e = absurd cc
 byte_is (Some b) e = let is : b ≡ 10 = grind (arith, nat_tests) in ap Some is
@@ -206,6 +219,7 @@ pub newline_at : (T : List ℕ) (p : ℕ) → raw_stands T p newline_char ≡ tr
 unfolding raw_stands
 newline_at T p e = byte_is (slice_get T p) e
 
+-- two texts with the same bytes up to a newline at M, and with that
 pub same_texts : (edition : Edition) (T U : List ℕ) (M : ℕ) → ((r : ℕ) → r < M + 1 → slice_get U r ≡ slice_get T r) →
     slice_get T M ≡ Some 10 → ListEnds edition T U 0 M (λ p. p) 10
 same_texts edition T U M same byte = record {
@@ -215,6 +229,7 @@ same_texts edition T U M same byte = record {
   ender = newline_ends;
 }
 
+-- where they have the same byte, a newline stands in both
 same_raw : (T U : List ℕ) (p : ℕ) → slice_get U p ≡ slice_get T p → raw_stands T p newline_char ≡ true →
     raw_stands U p newline_char ≡ true
 unfolding raw_stands
@@ -238,6 +253,7 @@ ended_alone edition T U l (line_read es newline t k part) ended same =
     (there_too ∙ sym both.1) (line_read es newline t again.1.0 again.1.1)
 ended_alone edition T U l (line_stops f k part) ended same = absurd cc
 
+-- a byte among the first n is the same without the rest, and in a text with the same first n
 pub get_take : (n : ℕ) (B : List ℕ) (r : ℕ) → r < n → slice_get (take n B) r ≡ slice_get B r
 get_take zero B r lt = absurd (omega arith)
 get_take (suc n) [] r lt = refl
@@ -247,10 +263,12 @@ get_take (suc n) (b ∷ B) (suc r) lt = get_take n B r (omega arith)
 pub same_front : (n : ℕ) (T U : List ℕ) → take n U ≡ take n T → (r : ℕ) → r < n → slice_get U r ≡ slice_get T r
 same_front n T U is r lt = sym (get_take n U r lt) ∙ ap (λ B. slice_get B r) is ∙ get_take n T r lt
 
+-- a line that ended looks at nothing after it
 pub no_further : (edition : Edition) → (T : List ℕ) (l : ALine) → IsLine edition T l → l.ended ≡ true →
     NoFurther edition T l
 no_further edition T l is ended other q same =
     ended_alone edition T (drop q other) l is ended (same_front l.next T (drop q other) same)
 
+-- the same bytes have the same line, wherever they stand
 pub same_bytes : (edition : Edition) → (T : List ℕ) (l : ALine) → IsLine edition T l → SameBytes edition T l
 same_bytes edition T l is other q same = subst (λ U. IsLine edition U l) (sym same) is

@@ -12,6 +12,7 @@ use Rattle.shgrammar.specs.declared.edition.Edition.{Edition}
 
 -- ---- a line
 
+-- an outcome of the row of a line is a line of the text
 line_by : (edition : Edition) → (T : List ℕ) (x : Read (Row AnEntry × Bool)) (k : Row Spelled) →
     may (the_line false) (given edition T 0) (standing 0) x k → IsLine edition T (as_line T x)
 line_by edition T (Ok ((es, newline), t)) k part = line_read es newline t k part

@@ -12,6 +12,7 @@ module _ (B C : List ℕ) (f h : Span → Span) where
   abbrev pub SameText : Span → Type 0
   SameText s = (text_at B (f s) ≡ text_at C s) × (text_at B (h s) ≡ text_at C s)
 
+  -- a comment, a number and a `!`, where there is one
   some_same : (c : Option Span) → OfSome SameText c →
       option_map (shape_of_comment B) (option_map f c) ≡ option_map (shape_of_comment C) c
   some_same None so = refl
@@ -28,6 +29,7 @@ module _ (B C : List ℕ) (f h : Span → Span) where
   bang_same None = refl
   bang_same (Some s) = refl
 
+  -- a row of comments, and a here-document where there is one
   each_same : (cs : Row Span) → OfEach SameText cs → shape_of_comments B (map f cs) ≡ shape_of_comments C cs
   each_same [] so = refl
   each_same (c ∷ cs) so = rw (so.0.0, each_same cs so.1) refl
@@ -39,6 +41,7 @@ module _ (B C : List ℕ) (f h : Span → Span) where
 
   -- whatever holds of the items of each simple command
   module _ (Q : Items → Type 0) where
+    -- a list, and each part of it
     mutual
       pub shape_same : (x : Entries) → Throughout SameText Q x → shape_of B (carried f h true x) ≡ shape_of C x
       shape_same no_entry so = refl
@@ -63,6 +66,7 @@ module _ (B C : List ℕ) (f h : Span → Span) where
       and_or_parts_same (more_and_or operator join p ps) so =
           rw (each_same join.comments so.0, pipeline_same p so.1, and_or_parts_same ps so.2) refl
 
+      -- a pipeline, and the commands in it
       pipeline_same : (x : APipeline) → InPipeline SameText Q x →
           shape_of_pipeline B (carried_pipeline f h true x) ≡ shape_of_pipeline C x
       pipeline_same (pipeline bang first rest) so =
@@ -84,6 +88,7 @@ module _ (B C : List ℕ) (f h : Span → Span) where
           shape_of_compound B (carried_compound f h true x) ≡ shape_of_compound C x
       compound_same (formed form span redirects) so = rw (form_same form so.0, items_same redirects so.2) refl
 
+      -- a compound command without its redirections, and the branches of an `if`
       form_same : (x : AForm) → InForm SameText Q x → shape_of_form B (carried_form f h true x) ≡ shape_of_form C x
       form_same (brace es) so = rw (shape_same es so) refl
       form_same (subshell es) so = rw (shape_same es so) refl
@@ -108,6 +113,7 @@ module _ (B C : List ℕ) (f h : Span → Span) where
       else_same no_else so = refl
       else_same (otherwise es) so = rw (shape_same es so) refl
 
+      -- the words of a `for`, and the items of a `case`
       for_words_same : (x : ForWords) → InForWords SameText Q x →
           shape_of_for_words B (carried_for_words f h true x) ≡ shape_of_for_words C x
       for_words_same no_in so = refl
@@ -127,6 +133,7 @@ module _ (B C : List ℕ) (f h : Span → Span) where
       patterns_same no_pattern so = refl
       patterns_same (more_patterns w ws) so = rw (word_same w so.0, patterns_same ws so.1) refl
 
+      -- a row of items, each by what it is
       items_same : (x : Items) → InItems SameText Q x → shape_of_items B (carried_items f h true x) ≡ shape_of_items C x
       items_same no_item so = refl
       items_same (more_items i is) so = rw (item_same i so.0, items_same is so.1) refl
@@ -141,6 +148,7 @@ module _ (B C : List ℕ) (f h : Span → Span) where
       item_content_same (redirect number operator span w here) so =
           rw (number_same number so.0, word_same w so.2, here_same here so.3) refl
 
+      -- a word, and the substitutions in it
       word_same : (x : AWord) → InWord SameText Q x → shape_of_word B (carried_word f h true x) ≡ shape_of_word C x
       word_same (word span substs) so = rw (so.0.0, substs_same substs so.1) refl
 

@@ -13,6 +13,7 @@ use Rattle.shgrammar.specs.declared.edition.Edition.{Edition}
 abbrev pub shifted : ℕ → ℕ → ℕ → ℕ
 shifted k l x = l + (x - k)
 
+-- a span, and a document that waits, with its offsets moved so
 abbrev pub span_from : ℕ → ℕ → Span → Span
 span_from k l s = record { start = shifted k l s.start; «end» = shifted k l s.«end» }
 
@@ -32,9 +33,11 @@ state_from k l q s = record {
   bodies = map (span_from k l) s.bodies;
 }
 
+-- a span by its two offsets
 abbrev pub from_to : ℕ → ℕ → Span
 from_to s e = record { start = s; «end» = e }
 
+-- the span of two places, moved, is that of the same places of the text at u
 pub span_is : (k l u o p q : ℕ) → l + (o + p - k) ≡ u + p → k ≤ o + p → p ≤ q → span_from k l (span o p q) ≡ span u p q
 span_is k l u o p q is low le =
     let last : l + (o + q - k) ≡ u + q = omega (arith, is, low, le) in
@@ -54,10 +57,12 @@ same_from k l T w p = same_below k l _ T w _ p
 
 module _ (edition : Edition) (T : List ℕ) (o u k l low : ℕ) (begins : k ≤ o + low)
     (off : (p : ℕ) → low ≤ p → l + (o + p - k) ≡ u + p) where
+  -- the bodies from p on are the same, moved
   abbrev Moved : Row Waiting → Row Span → ℕ → Row Span × ℕ → Type 0
   Moved ws bodies p x = bodies_from (given edition T u) (map (waiting_from k l) ws) (map (span_from k l) bodies) p
       ≡ Ok (map (span_from k l) x.0, x.1)
 
+  -- by where the body of the first document ends, if it does
   one_moved : (w : Waiting) (ws : Row Waiting) (bodies : Row Span) (p : ℕ) (x : Row Span × ℕ) → low ≤ p
       → ((bs : Row Span) (q : ℕ) → low ≤ q → bodies_from (given edition T o) ws bs q ≡ Ok x → Moved ws bs q x)
       → (d : Option ℕ) → delimiter_from T w p ≡ d →
@@ -75,6 +80,7 @@ module _ (edition : Edition) (T : List ℕ) (o u k l low : ℕ) (begins : k ≤ 
       (span_is k l u o p q (off p from) (omega (arith, begins, from)) one.0) in
       rw (same_from k l T w p, found, ← here) next
 
+  -- and so those of all that wait
   pub moved : (ws : Row Waiting) (bodies : Row Span) (p : ℕ) (x : Row Span × ℕ) → low ≤ p →
       bodies_from (given edition T o) ws bodies p ≡ Ok x → Moved ws bodies p x
   unfolding bodies_from
@@ -89,6 +95,7 @@ pub twice_spans : (k l j m : ℕ) (f : ℕ → ℕ) → ((x : ℕ) → shifted j
 twice_spans k l j m f is [] = refl
 twice_spans k l j m f is (b ∷ bs) = rw (is b.start, is b.«end», twice_spans k l j m f is bs) refl
 
+-- what waits, with the offset of its operator under f
 abbrev waiting_at : (ℕ → ℕ) → Waiting → Waiting
 waiting_at f w = record { operator = f w.operator; delimiter = w.delimiter; literal = w.literal; strip = w.strip }
 

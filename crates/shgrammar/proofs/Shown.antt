@@ -99,6 +99,7 @@ module _ (T : List ℕ) (p : ℕ) where
       (λ e. cond_both (stands T (past_byte T p) ampersand) _ _ Strip (λ f l. absurd cc)
       (λ f. cond_both (stands T (past_byte T p) vertical_line) _ _ Strip (λ g l. absurd cc) (λ g l. absurd cc)))
 
+  -- one that begins with `>` has a second one too
   greater_long : Long (greater_at T (past_byte T p))
   unfolding greater_at
   greater_long =
@@ -172,12 +173,14 @@ module _ (T : List ℕ) (p : ℕ) where
   abbrev Of : Token → Type 0
   Of t = Byte T p (byte_at T p) t
 
+  -- a word begins with a byte that ends no word
   word_shown : (t : Token) → Of t → begins_word t ≡ true → ends_word T p ≡ false
   unfolding ends_word
   word_shown tokens.Assignment e is = e
   word_shown tokens.Word e is = e
   word_shown _ e is = absurd cc
 
+  -- a newline stands where its token is told, and no byte where the end is told
   newline_shown : (t : Token) → past_continuations T p ≡ p → Of t → t ≡ tokens.Newline
       → raw_stands T p newline_char ≡ true
   unfolding raw_stands
@@ -189,11 +192,13 @@ module _ (T : List ℕ) (p : ℕ) where
   end_shown tokens.End still e is = ap (λ q. is_none (slice_get T q)) (sym still) ∙ e
   end_shown _ still e is = absurd cc
 
+  -- `&&` and `||` have a second byte
   and_or_shown : (t : Token) → Of t → (o : AndOrOperator) → and_or_operator_of t ≡ Some o → IsRead T (past_byte T p)
   and_or_shown tokens.AndIf e o is = e
   and_or_shown tokens.OrIf e o is = e
   and_or_shown _ e o is = absurd cc
 
+  -- a pattern begins with a byte that ends no word
   pattern_shown : (t : Token) → Of t → begins_pattern t ≡ true → ends_word T p ≡ false
   unfolding ends_word
   pattern_shown (tokens.Reserved r) e is = e
@@ -201,11 +206,13 @@ module _ (T : List ℕ) (p : ℕ) where
   pattern_shown tokens.Word e is = e
   pattern_shown _ e is = absurd cc
 
+  -- `;;` and `;&` have a second byte
   item_end_shown : (t : Token) → Of t → ends_item t ≡ true → IsRead T (past_byte T p)
   item_end_shown tokens.DoubleSemicolon e is = e
   item_end_shown tokens.SemicolonAmpersand e is = e
   item_end_shown _ e is = absurd cc
 
+  -- a long operator has a second byte, `<<-` a third, and that of a here-document begins with `<`
   long_shown : (t : Token) → Of t → (o : RedirectOperator) → redirect_operator_of t ≡ Some o → is_long o ≡ true
       → IsRead T (past_byte T p)
   long_shown (tokens.Redirect z) e o is long = let same : z ≡ o = cc in e.0 (rw same long)

@@ -37,6 +37,7 @@ module _ (B : List ℕ) where
   items_last (j ∷ is) i = between (spell_item (shape_of_item B j)) _ (spell_items (shape_of_items B (items_of is)))
       (spell_item (shape_of_item B i)) (items_last is i)
 
+  -- the same of the commands of a pipeline, and of the pipelines of an and-or list
   pipes_last : (ps : Row APipelinePart) (p : APipelinePart) →
       spell_pipes (shape_of_pipes B (pipeline_parts_of (ps ++ p ∷ [])))
       ≡ spell_pipes (shape_of_pipes B (pipeline_parts_of ps))
@@ -63,6 +64,7 @@ abbrev pub Spells : {X : Type 0} → (X → Tokens) → X → Tokens → Type 0
 Spells of x k = k ≡ of x
 
 module _ (B : List ℕ) where
+  -- what the items so far spell
   abbrev pub spelled_items : ItemsSoFar → Tokens
   spelled_items i = spell_items (shape_of_items B (items_of i.items))
 
@@ -95,6 +97,7 @@ module _ {B : List ℕ} {g : Given} {stands : g.text ≡ drop g.offset B} {inner
   item_word Prefix broken w = refl
   item_word Suffix broken w = refl
 
+  -- one more item that is a word
   pub pass_item : (i : ItemsSoFar) (position : Position) (s : State) →
       Passing g (an_item inner i position) (Grows g (spelled_items B) i) s
   unfolding an_item
@@ -104,6 +107,7 @@ module _ {B : List ℕ} {g : Given} {stands : g.text ≡ drop g.offset B} {inner
       (items_last B i.items (item (breaks i) (as_item position w))
       ∙ ap (λ z. spelled_items B i ++ z) (item_word position (breaks i) w ∙ sym so ∙ sym (append-nil k))))))
 
+  -- the number of a redirection, where it has one, its operator and its target
   pass_number : (n : Next) (s : State) →
       Passing g (a_number n) (λ x k. k ≡ spell_number (option_map (bare_at B) x.0)) s
   unfolding a_number
@@ -129,6 +133,7 @@ module _ {B : List ℕ} {g : Given} {stands : g.text ≡ drop g.offset B} {inner
       (λ n t. pass_pick g (is_word n.token) (pass_with_bytes g (pass_word B g stands inner t))
       (pass_unexpected g inner n t))
 
+  -- a here-document that waits from here on tells nothing
   silent_document_by : (b p : ℕ) (strip : Bool) (d : Option ADelimiter) (s : State) →
       Passing g (document_by b p strip d) (Silent g) s
   silent_document_by b p strip (Some d) s = pass_on g (pass_change g) (λ u t. pass_give g refl)
@@ -141,6 +146,7 @@ module _ {B : List ℕ} {g : Given} {stands : g.text ≡ drop g.offset B} {inner
       pass_pick g (takes_here o) (pass_on g (pass_see g) (λ d t. silent_document_by b p (is_strip o) d t))
       (pass_give g refl)
 
+  -- one more redirection, one more item of any kind, and a simple command
   pass_redirect : (i : ItemsSoFar) (broken : Bool) (position : Position) (n : Next) (s : State) →
       Passing g (one_redirect inner broken position i.items n) (Grows g (spelled_items B) i) s
   unfolding one_redirect
@@ -170,6 +176,7 @@ module _ {B : List ℕ} {g : Given} {stands : g.text ≡ drop g.offset B} {inner
 
   -- ---- pipelines
 
+  -- one more redirection after a compound command
   pass_redirect_turn : (i : ItemsSoFar) (s : State) → Passing g (redirect_turn inner i) (Grows g (spelled_items B) i) s
   unfolding redirect_turn
   pass_redirect_turn i s = pass_pick g (begins_redirect i.next.token) (pass_redirect i i.next.broken Command i.next s)
@@ -188,6 +195,7 @@ module _ {B : List ℕ} {g : Given} {stands : g.text ≡ drop g.offset B} {inner
         rw (one, first, ← three) (ap (λ z. z ++ spell_items (shape_of_items B is)) (append-nil _)),
       )
 
+  -- so a compound command spells, with the redirections that are read after it
   pass_with_redirect_list : (c : ACommand × Next) (k : Tokens) (s : State) → IsBare B c k →
       Passing g (with_redirect_list inner c) (λ d l. IsCompound B d (k ++ l)) s
   unfolding with_redirect_list
@@ -204,6 +212,7 @@ module _ {B : List ℕ} {g : Given} {stands : g.text ≡ drop g.offset B} {inner
   word_is : (w : AWord) → spell_word (shape_of_word B w) ≡ text_at B (word_span w) ∷ []
   word_is (word s ss) = refl
 
+  -- a command that begins with a word, and any command
   pass_word_command : (s : State) →
       Passing g (a_word_command inner) (Spells (λ c. spell_command (shape_of_command B c.0))) s
   unfolding a_word_command
@@ -224,6 +233,7 @@ module _ {B : List ℕ} {g : Given} {stands : g.text ≡ drop g.offset B} {inner
       (pass_pick g (begins_simple n.token) (pass_simple (items_so_far [] Command n) s)
       (pass_so g (pass_compound_by n (opener_of n.token) s) (λ c k so. so.2)))
 
+  -- a `!`, where one stands
   pass_bang : (n : Next) (s : State) → Passing g (a_bang n) (Spells (λ x. spell_bang (shape_of_bang x.0))) s
   unfolding a_bang
   pass_bang n s =
@@ -231,6 +241,7 @@ module _ {B : List ℕ} {g : Given} {stands : g.text ≡ drop g.offset B} {inner
       (pass_then g (pass_text g) (λ x t k so. pass_on g (silent_next g Command t)
       (λ m u. pass_give g (append-nil k ∙ so)))) (pass_give g refl)
 
+  -- the commands after the first one so far, and a whole pipeline
   abbrev spelled_pipes : PipesSoFar → Tokens
   spelled_pipes p = spell_pipes (shape_of_pipes B (pipeline_parts_of p.parts))
 
@@ -259,6 +270,7 @@ module _ {B : List ℕ} {g : Given} {stands : g.text ≡ drop g.offset B} {inner
 
   -- ---- and-or lists
 
+  -- the pipelines after the first one so far, and a whole and-or list
   abbrev spelled_joined : AndOrSoFar → Tokens
   spelled_joined a = spell_and_or_parts (shape_of_and_or_parts B (and_or_parts_of a.parts))
 
@@ -295,6 +307,7 @@ module _ {B : List ℕ} {g : Given} {stands : g.text ≡ drop g.offset B} {inner
   told_is T p q Semicolon end = refl
   told_is T p q Ampersand end = refl
 
+  -- a separator, where one stands, and a whole entry
   pass_separator : (n : Next) (s : State) →
       Passing g (a_separator n) (Spells (λ x. spell_background (is_background x.0))) s
   unfolding a_separator

@@ -71,6 +71,7 @@ module _ (B : List ℕ) where
   first_spelled no_pattern k e = absurd cc
   first_spelled (more_patterns w ws) k e = ap (drop 1) e
 
+  -- one more item of a `case`
   cases_last : (cs : Row ACaseItem) (c : ACaseItem) →
       spell_cases (shape_of_cases B (cases_of (cs ++ c ∷ []))) ≡ spell_cases (shape_of_cases B (cases_of cs))
       ++ spell_case (shape_of_case B c)
@@ -90,6 +91,7 @@ module _ {B : List ℕ} {g : Given} {stands : g.text ≡ drop g.offset B} {inner
 
   -- Each turn adds the tokens that it passes to those that the list so far spells.
 
+  -- what the entries so far spell
   abbrev spelled_list : ListSoFar → Tokens
   spelled_list l = spelling (shape_of B (entries_of l.list.entries))
 
@@ -98,6 +100,7 @@ module _ {B : List ℕ} {g : Given} {stands : g.text ≡ drop g.offset B} {inner
       Grows g spelled_list l (step_if on m) k
   step_grows l m on k so = ap spelled_list (held_if on m) ∙ so
 
+  -- one more entry, and the same or none
   pass_one_entry : (l : ListSoFar) (s : State) → Passing g (one_entry inner l) (Grows g spelled_list l) s
   unfolding one_entry
   pass_one_entry l s =
@@ -114,6 +117,7 @@ module _ {B : List ℕ} {g : Given} {stands : g.text ≡ drop g.offset B} {inner
   abbrev Since : ListSoFar → ListSoFar → Tokens → Type 0
   Since l m k = spelled_list m ≡ spelled_list l ++ k
 
+  -- the comment of a line, and all that stands on one
   pass_remark : (l : ListSoFar) (s : State) → Passing g (a_remark l) (Since l) s
   unfolding a_remark
   pass_remark l s = pass_on g (silent_comment g l.next s) (λ x t. by_comment x t)
@@ -130,6 +134,7 @@ module _ {B : List ℕ} {g : Given} {stands : g.text ≡ drop g.offset B} {inner
       (λ m t k so. pass_so g (pass_remark m t)
       (λ x j is. is ∙ ap (λ z. z ++ j) so ∙ append_assoc (spelled_list l) k j))
 
+  -- one more line, and a list, which passes what it spells
   pass_list_turn : (l : ListSoFar) (s : State) → Passing g (list_turn inner l) (Grows g spelled_list l) s
   unfolding list_turn
   pass_list_turn l s = pass_then g (pass_on_line l s)
@@ -147,6 +152,7 @@ module _ {B : List ℕ} {g : Given} {stands : g.text ≡ drop g.offset B} {inner
 
   -- A form's opener is told before it: so each row of a form passes the rest of what its shape spells.
 
+  -- a reserved word or a round bracket is told by its text, and so is what has to stand after a list
   pass_reserved_or_paren : (text : Spelled) (paren : Bool) (position : Position) (s : State) →
       Passing g (reserved_or_paren text paren position) (OneText g text) s
   unfolding reserved_or_paren
@@ -159,6 +165,7 @@ module _ {B : List ℕ} {g : Given} {stands : g.text ≡ drop g.offset B} {inner
   pass_closing c n s = pass_pick g (is_closing c n.token) (pass_reserved_or_paren (closing_text c) _ _ s)
       (pass_unexpected g inner n s)
 
+  -- a list with its closer, and a condition with what is run by it
   pass_group : (c : Closing) (n : Next) (s : State) →
       Passing g (a_group inner c n) (Spells (λ x. spelling (shape_of B x.what) ++ (closing_text c ∷ []))) s
   unfolding a_group
@@ -172,9 +179,11 @@ module _ {B : List ℕ} {g : Given} {stands : g.text ≡ drop g.offset B} {inner
       pass_then g (pass_list n s) (λ c t k is. pass_then g (pass_closing closings.Then c.1 t)
       (λ x u l so. pass_last g (pass_list x.1 u) (λ b m other. rw (is, so, other) refl)))
 
+  -- what the branches so far spell
   abbrev spelled_branches : BranchesSoFar → Tokens
   spelled_branches b = spell_branches (shape_of_branches B (branches_of b.branches))
 
+  -- one more branch or none, and an `else` or none
   pass_elif : (b : BranchesSoFar) (s : State) → Passing g (elif_turn inner b) (Grows g spelled_branches b) s
   unfolding elif_turn
   pass_elif b s =
@@ -193,6 +202,7 @@ module _ {B : List ℕ} {g : Given} {stands : g.text ≡ drop g.offset B} {inner
       (λ x t k is. pass_last g (pass_list x.1 t) (λ l m so. rw (is, so) refl)))
       (pass_give g refl)
 
+  -- an `if`, and a loop
   pass_if : (n : Next) (s : State) →
       Passing g (an_if inner n) (λ f k. codes "if" ∷ k ≡ spell_form (shape_of_form B f.what)) s
   unfolding an_if
@@ -219,6 +229,7 @@ module _ {B : List ℕ} {g : Given} {stands : g.text ≡ drop g.offset B} {inner
       (sym (append_assoc (spelling (shape_of B c.0)) (codes "do" ∷ spelling (shape_of B b.0))
       (codes "done" ∷ [])))))))
 
+  -- the name of a `for`
   pass_for_name : (n : Next) (s : State) →
       Passing g (a_for_name inner n) (Spells (λ x. spell_word (shape_of_word B x.0))) s
   unfolding a_for_name
@@ -230,6 +241,7 @@ module _ {B : List ℕ} {g : Given} {stands : g.text ≡ drop g.offset B} {inner
       (pass_stop g)))))
       (pass_unexpected g inner n s)
 
+  -- what ends the words of a `for` tells nothing
   silent_sequential_sep : (cs : Row Span) (n : Next) (s : State) → Passing g (a_sequential_sep inner cs n) (Silent g) s
   unfolding a_sequential_sep
   silent_sequential_sep cs n s =
@@ -241,6 +253,7 @@ module _ {B : List ℕ} {g : Given} {stands : g.text ≡ drop g.offset B} {inner
   abbrev HeadSpelled : Headed → Tokens → Type 0
   HeadSpelled h k = k ≡ spell_for_words (shape_of_for_words B h.words)
 
+  -- one more word or none, all words, what stands before `do`, and the whole `for`
   pass_word_turn : (i : ItemsSoFar) (s : State) → Passing g (word_turn inner i) (Grows g (spelled_items B) i) s
   unfolding word_turn
   pass_word_turn i s = pass_pick g (is_word i.next.token) (pass_item fine i Suffix s)
@@ -277,6 +290,7 @@ module _ {B : List ℕ} {g : Given} {stands : g.text ≡ drop g.offset B} {inner
       (append_assoc (name ++ words) body (codes "done" ∷ [])
       ∙ append_assoc name words (body ++ (codes "done" ∷ [])))))))))
 
+  -- the word after `case`
   pass_case_word : (n : Next) (s : State) →
       Passing g (a_case_word inner n) (Spells (λ x. spell_word (shape_of_word B x.0))) s
   unfolding a_case_word
@@ -290,9 +304,11 @@ module _ {B : List ℕ} {g : Given} {stands : g.text ≡ drop g.offset B} {inner
   abbrev spelled_row : Row AWord → Tokens
   spelled_row ws = spell_patterns (shape_of_patterns B (patterns_of ws))
 
+  -- what the patterns so far spell, with a `|` before each
   abbrev spelled_patterns : PatternsSoFar → Tokens
   spelled_patterns p = spelled_row p.patterns
 
+  -- one more pattern, the same after a `|`, the same or none, and all of an item
   pass_pattern : (ws : Row AWord) (s : State) →
       Passing g (a_pattern inner ws) (λ p k. spelled_patterns p ≡ spelled_row ws ++ (codes "|" ∷ k)) s
   unfolding a_pattern
@@ -325,6 +341,7 @@ module _ {B : List ℕ} {g : Given} {stands : g.text ≡ drop g.offset B} {inner
       (λ q l two. sym (first_spelled B _ (k ++ l) (two ∙ ap (λ z. z ++ l) one)))))
       (pass_unexpected g inner n s)
 
+  -- the body of an item passes what its entries spell
   pass_body : (n : Next) (s : State) → Passing g (a_body inner n) (Spells spelled_list) s
   unfolding a_body
   pass_body n s = pass_so g (pass_many g spelled_list (list_turn inner) pass_list_turn
@@ -334,6 +351,7 @@ module _ {B : List ℕ} {g : Given} {stands : g.text ≡ drop g.offset B} {inner
   no_ender : (t : Token) → ends_item t ≡ false → spell_falls (falls_through t) ≡ []
   no_ender t e = rw ((or_parts (is_double_semicolon t) (falls_through t) e).1) refl
 
+  -- of what ends an item only `;&` is told
   pass_item_end : (there : ℕ) (n : Next) (s : State) →
       Passing g (an_item_end inner there n) (λ e k. k ≡ spell_falls (falls_through n.token)) s
   unfolding an_item_end
@@ -348,9 +366,11 @@ module _ {B : List ℕ} {g : Given} {stands : g.text ≡ drop g.offset B} {inner
       pass_ends false e = pass_pick g (is_closing closings.Esac n.token) (pass_give g (sym (no_ender n.token e)))
           (pass_unexpected g inner n s)
 
+  -- what the items so far spell
   abbrev spelled_cases : CasesSoFar → Tokens
   spelled_cases c = spell_cases (shape_of_cases B (cases_of c.items))
 
+  -- one more item, the same or none, what stands before the items, and the whole `case`
   pass_one_case : (c : CasesSoFar) (s : State) → Passing g (one_case inner c) (Grows g spelled_cases c) s
   unfolding one_case
   pass_one_case c s =
@@ -391,6 +411,7 @@ module _ {B : List ℕ} {g : Given} {stands : g.text ≡ drop g.offset B} {inner
       (ap (λ z. codes "case" ∷ z) (append_assoc word (codes "in" ∷ []) (spelled_cases c ++ (codes "esac" ∷ []))
       ∙ sym (append_assoc word (codes "in" ∷ spelled_cases c) (codes "esac" ∷ [])))))))
 
+  -- each form, and the compound command with its opener
   pass_form : (o : Opener) (n : Next) (s : State) →
       Passing g (a_form inner o n) (λ f k. opener_text o ∷ k ≡ spell_form (shape_of_form B f.what)) s
   pass_form openers.Brace n s = pass_last g (pass_group closings.Brace n s) (λ l k so. rw so refl)
@@ -419,6 +440,7 @@ module _ {B : List ℕ} {g : Given} {stands : g.text ≡ drop g.offset B} {inner
       ≡ spell_command (shape_of_command B (under_name name cs c))
   under_spelled name cs c body is = rw is refl
 
+  -- a function, from just after its name
   pass_function : (name : Span) (s : State) →
       Passing g (a_function inner name) (λ c k. text_at B name ∷ k ≡ spell_command (shape_of_command B c.0)) s
   unfolding a_function
@@ -433,6 +455,7 @@ module _ {B : List ℕ} {g : Given} {stands : g.text ≡ drop g.offset B} {inner
 
   -- What ends a line is no token.
 
+  -- the newline, with the bodies after it, or the end
   silent_end : (n : Next) (s : State) → Passing g (end_of_line inner n) (Silent g) s
   unfolding end_of_line nothing_waits
   silent_end n s = pass_pick g (is_newline_token n.token)
@@ -445,6 +468,7 @@ module _ {B : List ℕ} {g : Given} {stands : g.text ≡ drop g.offset B} {inner
       none_waiting (Some b) t = pass_stop g
       none_waiting None t = pass_give g refl
 
+  -- a line, without the bodies of its here-documents
   pass_open_line : (blank : Bool) (s : State) →
       Passing g (an_open_line inner blank) (Spells (λ x. spelling (shape_of B (entries_of x.0)))) s
   unfolding an_open_line
@@ -458,6 +482,7 @@ module _ {B : List ℕ} {g : Given} {stands : g.text ≡ drop g.offset B} {inner
   bodies_spelled bs es = ap (λ (l : Entries). spelling (shape_of B l)) (row_filled bs es)
       ∙ ap spelling (shape_filled B bs (entries_of es)) ∙ filled_spelling _ (shape_of B (entries_of es))
 
+  -- a line with these bodies
   pass_line : (blank : Bool) (s : State) →
       Passing g (a_line inner blank) (Spells (λ x. spelling (shape_of B (entries_of x.0)))) s
   unfolding a_line
@@ -482,6 +507,7 @@ pass_level B g stands (suc room) =
 -- Line after line, up to the last one; so a script without a fault passes what it spells.
 
 module _ (edition : Edition) (B : List ℕ) where
+  -- a line passes what its entries spell
   line_spelled : (blank : Bool) (p : ℕ) (es : Row AnEntry) (newline : Bool) (t : State) (k : Row Spelled) →
       may (a_line (level most_open) blank) (given edition (drop p B) p) (standing 0) (Ok ((es, newline), t)) k
       → k ≡ spelling (shape_of B (entries_of es))
@@ -489,6 +515,7 @@ module _ (edition : Edition) (B : List ℕ) where
       (pass_line (pass_level B g refl most_open) blank (standing 0)).passing
       (Ok ((es, newline), t)) k part
 
+  -- so do the lines from p on, after what was read before them
   lines_spelled : (so : LinesSoFar) (p : ℕ) (s : AScript) (k : Row Spelled) → Lines edition B so p s k → s.fault ≡ None
       →
       spelling (shape_of B s.entries) ≡ spelling (shape_of B (entries_of so.entries)) ++ k

@@ -25,6 +25,7 @@ abbrev Of : {X : Type 0} → (X → Row Spelled → Type 0) → Read X → Row S
 Of P (Ok (x, t)) k = P x k
 Of P (Err f) k = Unit {0}
 
+-- what follows from it
 of_so : {X : Type 0} (P Q : X → Row Spelled → Type 0) (y : Read X) (k : Row Spelled) → Of P y k →
     ((x : X) → P x k → Q x k) → Of Q y k
 of_so P Q (Ok (x, t)) k one so = so x one
@@ -41,6 +42,7 @@ abbrev held : {A : Type 0} → Step A → A
 held (again a) = a
 held (done a) = a
 
+-- whether it goes on or ends, that is the same
 pub held_if : {A : Type 0} (on : Bool) (a : A) → held (step_if on a) ≡ a
 held_if true a = refl
 held_if false a = refl
@@ -182,10 +184,12 @@ module _ (g : Given) where
     abbrev pub Grows : A → Step A → Row Spelled → Type 0
     Grows a x k = f (held x) ≡ f a ++ k
 
+    -- a turn that passes no token adds none
     pub grows_none : (a : A) → f a ≡ f a ++ []
     grows_none a = sym (append-nil (f a))
 
     module _ (turn : A → Form (Step A)) (each : (a : A) (s : State) → Passing (turn a) (Grows a) s) where
+      -- after one turn the others
       grown : (a b : A) (k : Row Spelled) (y : Read A) (l : Row Spelled) → f b ≡ f a ++ k →
           Of (λ c m. f c ≡ f b ++ m) y l → Of (λ c m. f c ≡ f a ++ m) y (k ++ l)
       grown a b k (Ok (c, t)) l one rest = rest ∙ ap (λ z. z ++ l) one ∙ append_assoc (f a) k l
@@ -200,6 +204,7 @@ module _ (g : Given) where
           grown a b k y l ((each a s).passing (Ok (again b, t)) k part) (turns_of b t y l rest)
       turns_of a s y k (halts part) = tt
 
+      -- so all turns add what is passed in them
       pub pass_many : (a : A) (s : State) → Passing (many turn a) (λ b k. f b ≡ f a ++ k) s
       unfolding many
       pass_many a s = record { passing = turns_of a s }
@@ -222,6 +227,7 @@ module _ (g : Given) where
       of_any (Ok (x, t)) k = tt
       of_any (Err f) k = tt
 
+  -- the next token, a comment, a newline and a `;`
   pub silent_next : (position : Position) (s : State) → Passing (next_token position) Silent s
   unfolding next_token
   silent_next position s = pass_on pass_see (λ n t. pass_on pass_move (λ u v. pass_give refl))
@@ -245,6 +251,7 @@ module _ (g : Given) where
   silent_semicolon n s = pass_pick (is_semicolon n.token)
       (pass_on pass_move (λ u v. pass_on (silent_next Command v) (λ m w. pass_give refl))) (pass_give refl)
 
+  -- a comment that is kept, a turn over comments and newlines, a linebreak and a join
   silent_kept : (cs : Row Span) (c : Option Span) (s : State) → Passing (with_comment cs c) Silent s
   silent_kept cs (Some c) s = record { passing = just_of Silent refl }
   silent_kept cs None s = pass_give refl
@@ -264,10 +271,12 @@ module _ (g : Given) where
   silent_join broken s = pass_on (silent_next Command s)
       (λ n t. pass_on (silent_many join_turn silent_join_turn _ t) (λ j u. pass_give refl))
 
+  -- the `(` before the patterns of an item
   pub silent_bracket : (n : Next) (s : State) → Passing (an_open_bracket n) Silent s
   unfolding an_open_bracket
   silent_bracket n s = pass_pick (is_paren n.token) (pass_on pass_move (λ u v. silent_next Command v)) (pass_give refl)
 
+  -- the ender of an item: of `;&` its text is told, of `;;` nothing
   pub pass_ender : (falling : Bool) (s : State) → Passing (an_ender falling) (λ e k. k ≡ spell_falls falling) s
   unfolding an_ender
   pass_ender true s =

@@ -10,6 +10,7 @@ use Rattle.shgrammar.specs.Tokens.{is_word_at}
 
 -- ---- a text from a place on
 
+-- its bytes are those of the text, n places on
 pub get_drop : (n : ℕ) (B : List ℕ) (i : ℕ) → slice_get (drop n B) i ≡ slice_get B (n + i)
 get_drop zero B i = rw (zero-add i) refl
 get_drop (suc n) [] i = refl
@@ -19,6 +20,7 @@ get_drop (suc n) (b ∷ B) i =
 
 -- ---- stretches of the text as it stands
 
+-- how many bytes from p on pass, by the one at p
 count_at : (test : ℕ → Bool) (T : List ℕ) (p : ℕ) →
     count_front test (drop p T) ≡ cond (passes test (slice_get T p)) (1 + count_front test (drop (p + 1) T)) 0
 unfolding count_front
@@ -29,6 +31,7 @@ count_at test (b ∷ T) (suc p) =
     let next : suc p + 1 ≡ suc (p + 1) = omega arith in
     rw next (count_at test T p)
 
+-- a stretch goes on after a byte of its kind, and ends at another one
 pub raw_more : (test : ℕ → Bool) (T : List ℕ) (p : ℕ) → raw_in test T p ≡ true →
     raw_past test T p ≡ raw_past test T (p + 1)
 unfolding raw_past raw_in
@@ -71,6 +74,7 @@ alone : (x : Bool) (n : ℕ) → 0 ≡ cond (x && false) n 0
 alone true n = refl
 alone false n = refl
 
+-- how many bytes from p on are continuations, by the two at p
 joined_at : (T : List ℕ) (p : ℕ) →
     count_joined (drop p T) ≡ cond (is_byte (slice_get T p) 92 && is_byte (slice_get T (p + 1)) newline_char)
     (2 + count_joined (drop (p + 2) T)) 0
@@ -84,6 +88,7 @@ joined_at (b ∷ T) (suc p) =
     let two : suc p + 2 ≡ suc (p + 2) = omega arith in
     rw (one, two) (joined_at T p)
 
+-- one at p is passed with those after it, and where none stands nothing is passed
 pub joined_more : (T : List ℕ) (p : ℕ) → continues T p ≡ true → past_continuations T p ≡ past_continuations T (p + 2)
 unfolding continues raw_stands past_continuations
 joined_more T p e =
@@ -98,6 +103,7 @@ joined_none T p e =
 
 -- ---- stretches of what is read
 
+-- past continuations is not before them
 pub place_low : (T : List ℕ) (p : ℕ) → p ≤ past_continuations T p
 unfolding past_continuations
 place_low T p = omega arith
@@ -139,6 +145,7 @@ enough test T (suc n) (suc m) p low_n low_m =
     (λ some. enough test T n m (past_continuations T p + 1) (omega (arith, place_low T p))
     (omega (arith, place_low T p)))
 
+-- a stretch goes on after a byte of its kind
 pub past_more : (test : ℕ → Bool) (T : List ℕ) (p : ℕ) → stands_in test T p ≡ true →
     past test T p ≡ past test T (past_byte T p)
 unfolding past past_below past_byte
@@ -148,6 +155,7 @@ past_more test T p e =
     rw (one, e) (enough test T (length T - p - 1) (length T - (past_continuations T p + 1)) (past_continuations T p + 1)
     (omega (arith, place_low T p)) (omega arith))
 
+-- and ends where none is read
 none_more : (n : ℕ) (test : ℕ → Bool) (T : List ℕ) (p : ℕ) → stands_in test T p ≡ false → past_below n test T p ≡ p
 unfolding past_below
 none_more zero test T p e = refl
@@ -159,6 +167,7 @@ past_none test T p e = none_more (length T - p) test T p e
 
 -- ---- the end of a comment
 
+-- blanks before q are passed one by one, up to another byte or the front of the text
 pub blanks_before : (T : List ℕ) (q : ℕ) → 0 < q → raw_in is_blank T (q - 1) ≡ true →
     before_blanks T q ≡ before_blanks T (q - 1)
 unfolding before_blanks
@@ -180,6 +189,7 @@ nothing_before T q e = rw e refl
 
 -- ---- words spelled out
 
+-- the rest of a word stands there, by its next byte, which is read or not, or by where the word ends
 pub word_more : (T : List ℕ) (p : ℕ) (word : List ℕ) (i : ℕ) → i < length word → stands T p (get_or word i 0) ≡ true →
     is_word_at T p (drop i word) ≡ is_word_at T (past_byte T p) (drop (i + 1) word)
 unfolding is_word_at
@@ -197,6 +207,7 @@ word_whole T p word i e = rw (e, drop-length word) refl
 
 -- ---- the same where no backslash stands
 
+-- no continuation stands there, and what stands there is read
 pub raw_stays : (T : List ℕ) (p : ℕ) → raw_stands T p 92 ≡ false → past_continuations T p ≡ p
 unfolding continues
 raw_stays T p e = joined_none T p (rw e refl)
@@ -205,6 +216,7 @@ raw_letter : (T : List ℕ) (p c : ℕ) → raw_stands T p 92 ≡ false → stan
 unfolding stands raw_stands
 raw_letter T p c e = ap (λ q. is_byte (slice_get T q) c) (raw_stays T p e)
 
+-- the same by whether that byte stands there
 pub letter_more : (T : List ℕ) (p : ℕ) (word : List ℕ) (i : ℕ) → i < length word → raw_stands T p 92 ≡ false →
     raw_stands T p (get_or word i 0) ≡ true
     → is_word_at T p (drop i word) ≡ is_word_at T (p + 1) (drop (i + 1) word)

@@ -51,10 +51,12 @@ module _ (g : Given) where
 
   -- Each row: the token that it hands on begins where the reading stands then, if the one given to it did.
 
+  -- the next token, once the blanks before it are passed
   pub shown_next : (position : Position) (s : State) → N (next_token position) Begins s
   unfolding next_token
   shown_next position s = record { told = (position, (refl, blanks_still g.text s.at)) }
 
+  -- the token after a comment, a newline, a `;` or a separator, or the one in hand where none is here
   shown_comment : (n : Next) (s : State) → Begins n s → N (a_comment n) HandsOn s
   unfolding a_comment
   shown_comment n s so = sees (by_comment (comment_at g.text g.offset s.at))
@@ -89,6 +91,7 @@ module _ (g : Given) where
 
   -- After comments and newlines, too, the token that is handed on begins where the reading stands.
 
+  -- the token after the join so far begins here
   abbrev JoinShown : JoinSoFar → State → Type 0
   JoinShown j t = Begins j.next t
 
@@ -97,10 +100,12 @@ module _ (g : Given) where
   kept_still cs (Some c) s = record { told = refl }
   kept_still cs None s = gives refl
 
+  -- whether a turn goes on or is the last, it hands on the token of its join
   join_step : (p : Bool) (j : JoinSoFar) (t : State) → Begins j.next t → Turned Whole g JoinShown (step_if p j) t
   join_step true j t so = so
   join_step false j t so = so
 
+  -- a turn over comments and newlines, a join, and a linebreak
   shown_join_turn : (j : JoinSoFar) (s : State) → Begins j.next s → N (join_turn j) (Turned Whole g JoinShown) s
   unfolding join_turn
   shown_join_turn j s so =
@@ -129,9 +134,11 @@ module _ (g : Given) where
     pub function : (name : Span) (s : State) → N (inner.function name) HandsOn s
 
   module _ (inner : Inner) (fine : Fine inner) where
+    -- the token after the items so far begins here
     abbrev ItemsShown : ItemsSoFar → State → Type 0
     ItemsShown i t = Begins i.next t
 
+    -- a redirection, an item of either kind, a turn over items, and a simple command
     shown_redirect : (broken : Bool) (position : Position) (is : Row AnItem) (n : Next) (s : State) →
         N (one_redirect inner broken position is n) (Turned Whole g ItemsShown) s
     unfolding one_redirect
@@ -159,6 +166,7 @@ module _ (g : Given) where
     shown_simple i s so = tells_then Whole g (tells_many Whole g (item_turn inner) ItemsShown shown_item_turn i s so)
         (λ j t good. gives good)
 
+    -- the redirections after a compound command
     shown_redirect_turn : (i : ItemsSoFar) (s : State) → Begins i.next s →
         N (redirect_turn inner i) (Turned Whole g ItemsShown) s
     unfolding redirect_turn
@@ -172,6 +180,7 @@ module _ (g : Given) where
         tells_then Whole g (tells_many Whole g (redirect_turn inner) ItemsShown shown_redirect_turn
         (items_so_far [] Command c.1) s so) (λ r t good. gives good)
 
+    -- a compound command by its opener, a command that begins with a word, and whichever begins here
     shown_compound_by : (n : Next) (o : Option Opener) (s : State) → N (compound_by inner n o) HandsOn s
     shown_compound_by n (Some o) s = tells_then Whole g (fine.compound o s) shown_with_redirect_list
     shown_compound_by n None s = stops inner n
@@ -190,15 +199,18 @@ module _ (g : Given) where
         (picked (begins_simple n.token) (shown_simple (items_so_far [] Command n) s so)
         (shown_compound_by n (opener_of n.token) s))
 
+    -- `!`, if it stands here
     shown_bang : (n : Next) (s : State) → Begins n s → N (a_bang n) HandsOn s
     unfolding a_bang
     shown_bang n s so = picked (is_bang n.token)
         (after (λ x t. tells_then Whole g (shown_next Command t) (λ m u good. gives good)))
         (gives so)
 
+    -- the token after the pipeline so far begins here
     abbrev PipesShown : PipesSoFar → State → Type 0
     PipesShown p t = Begins p.next t
 
+    -- one more command after a `|`, a turn over them, and the pipeline
     shown_one_command : (p : PipesSoFar) (s : State) → N (one_command inner p) (Turned Whole g PipesShown) s
     unfolding one_command
     shown_one_command p s =
@@ -218,9 +230,11 @@ module _ (g : Given) where
         (tells_many Whole g (pipe_turn inner) PipesShown shown_pipe_turn (pipes_so_far [] c.1) u two)
         (λ p v good. gives good)))
 
+    -- the token after the and-or list so far begins here
     abbrev AndOrShown : AndOrSoFar → State → Type 0
     AndOrShown a t = Begins a.next t
 
+    -- one more pipeline after `&&` or `||`, a turn over them, and the and-or list
     shown_joined_by : (a : AndOrSoFar) (o : Option AndOrOperator) (s : State) → Begins a.next s →
         N (joined_by inner a o) (Turned Whole g AndOrShown) s
     unfolding one_pipeline
@@ -243,6 +257,7 @@ module _ (g : Given) where
         (tells_many Whole g (and_or_turn inner) AndOrShown shown_and_or_turn (and_or_so_far [] p.1) t one)
         (λ a u good. gives good))
 
+    -- an entry with its separator, and the comment after that
     shown_entry : (blank : Bool) (n : Next) (s : State) → Begins n s →
         N (an_entry inner blank n) (λ e t. Begins e.next t) s
     unfolding an_entry
@@ -255,13 +270,16 @@ module _ (g : Given) where
 
     -- Each row of a list hands on the token after it, which may be what ends the list.
 
+    -- the token after the list so far begins here
     abbrev ListShown : ListSoFar → State → Type 0
     ListShown l t = Begins l.next t
 
+    -- whether a turn goes on or is the last, it hands on the token of its list
     list_step : (p : Bool) (l : ListSoFar) (t : State) → Begins l.next t → Turned Whole g ListShown (step_if p l) t
     list_step true l t so = so
     list_step false l t so = so
 
+    -- one more entry, a turn over them, and a comment that stands for itself
     shown_one_entry : (l : ListSoFar) (s : State) → Begins l.next s → N (one_entry inner l) (Turned Whole g ListShown) s
     unfolding one_entry
     shown_one_entry l s so = tells_then Whole g (shown_entry _ l.next s so)
@@ -277,6 +295,7 @@ module _ (g : Given) where
     shown_remark_by l (Some c, n) s so = pushed_on (gives so)
     shown_remark_by l (None, n) s so = gives so
 
+    -- the entries and the comment of one line, and those with the newline after them
     pub shown_on_line : (l : ListSoFar) (s : State) → Begins l.next s → N (on_line inner l) ListShown s
     unfolding on_line a_remark
     shown_on_line l s so =
@@ -296,6 +315,7 @@ module _ (g : Given) where
     shown_lines n s so = tells_many Whole g (list_turn inner) ListShown shown_list_turn
         (list_so_far (none_listed false) n) s so
 
+    -- a list that holds a command
     shown_list : (n : Next) (s : State) → Begins n s → N (a_list inner n) HandsOn s
     unfolding a_list
     shown_list n s so = tells_then Whole g (shown_lines n s so)
@@ -305,6 +325,7 @@ module _ (g : Given) where
 
     -- Each row of a compound command hands on the token after it.
 
+    -- a reserved word or a round bracket, and one that has to stand here
     shown_reserved_or_paren : (text : Spelled) (paren : Bool) (position : Position) (s : State) →
         N (reserved_or_paren text paren position) HandsOn s
     unfolding reserved_or_paren
@@ -316,6 +337,7 @@ module _ (g : Given) where
     shown_closing c n s =
         picked (is_closing c n.token) (shown_reserved_or_paren _ (is_close_paren c) _ s) (stops inner n)
 
+    -- a condition, `then` and what it runs
     shown_branch : (n : Next) (s : State) → Begins n s → N (a_branch inner n) HandsOn s
     unfolding a_branch
     shown_branch n s so =
@@ -323,9 +345,11 @@ module _ (g : Given) where
         (λ c t one. tells_then Whole g (shown_closing closings.Then c.1 t)
         (λ k u two. tells_then Whole g (shown_list k.1 u two) (λ b v good. gives good)))
 
+    -- the token after the branches so far begins here
     abbrev BranchesShown : BranchesSoFar → State → Type 0
     BranchesShown b t = Begins b.next t
 
+    -- one more branch after an `elif`, and `else` with what it runs, or none of them
     shown_elif : (b : BranchesSoFar) (s : State) → Begins b.next s →
         N (elif_turn inner b) (Turned Whole g BranchesShown) s
     unfolding elif_turn
@@ -343,9 +367,11 @@ module _ (g : Given) where
         (λ k t one. tells_then Whole g (shown_list k.1 t one) (λ l u good. gives good)))
         (gives so)
 
+    -- the token after the closer begins here
     abbrev ClosedShown : {X : Type 0} → Closed X → State → Type 0
     ClosedShown x t = Begins x.next t
 
+    -- an `if`, a loop and a group, from just after their openers
     shown_if : (n : Next) (s : State) → Begins n s → N (an_if inner n) ClosedShown s
     unfolding an_if
     shown_if n s so =
@@ -368,6 +394,7 @@ module _ (g : Given) where
     shown_group c n s so = tells_then Whole g (shown_list n s so)
         (λ l t one. tells_then Whole g (shown_closing c l.1 t) (λ k u good. gives good))
 
+    -- the word after `for`
     shown_for_name : (n : Next) (s : State) → N (a_for_name inner n) HandsOn s
     unfolding a_for_name
     shown_for_name n s =
@@ -377,6 +404,7 @@ module _ (g : Given) where
         (record { told = tt })))))
         (stops inner n)
 
+    -- a `;` or a newline, with newlines and comments after it
     shown_sequential_sep : (cs : Row Span) (n : Next) (s : State) → Begins n s →
         N (a_sequential_sep inner cs n) JoinShown s
     unfolding a_sequential_sep
@@ -384,9 +412,11 @@ module _ (g : Given) where
         (λ x t one. tells_then Whole g (shown_linebreak cs x.1 t one)
         (λ l u good. picked _ (gives good) (stops inner l.next)))
 
+    -- the token after the head of a `for` begins here
     abbrev HeadShown : Headed → State → Type 0
     HeadShown h t = Begins h.next t
 
+    -- one more word after `in`, all of them, the head, and the `for`
     shown_word_turn : (i : ItemsSoFar) (s : State) → Begins i.next s →
         N (word_turn inner i) (Turned Whole g ItemsShown) s
     unfolding word_turn an_item
@@ -418,14 +448,17 @@ module _ (g : Given) where
         (λ d v three. tells_then Whole g (shown_group closings.Done d.1 v three)
         (λ b w good. gives good))))
 
+    -- the word after `case`
     shown_case_word : (n : Next) (s : State) → N (a_case_word inner n) HandsOn s
     unfolding a_case_word
     shown_case_word n s = picked (begins_word n.token)
         (after (λ w t. tells_then Whole g (shown_next Command t) (λ m u good. gives good))) (stops inner n)
 
+    -- the token after the patterns so far begins here
     abbrev PatternsShown : PatternsSoFar → State → Type 0
     PatternsShown p t = Begins p.next t
 
+    -- a pattern, one more after a `|`, a turn over them, and all patterns of an item
     shown_pattern : (ws : Row AWord) (s : State) → N (a_pattern inner ws) PatternsShown s
     unfolding a_pattern
     shown_pattern ws s = after (λ w t. pushed_on
@@ -450,9 +483,11 @@ module _ (g : Given) where
         (λ p t one. tells_many Whole g (pattern_turn inner) PatternsShown shown_pattern_turn p t one))
         (stops inner n)
 
+    -- the token after the end of an item begins here
     abbrev EndShown : ItemEnd → State → Type 0
     EndShown e t = Begins e.next t
 
+    -- `;;` or `;&`, and the end of an item, which may have neither
     shown_ender : (b : Bool) (s : State) → N (an_ender b) EndShown s
     unfolding an_ender
     shown_ender b s =
@@ -465,9 +500,11 @@ module _ (g : Given) where
         picked (ends_item n.token) (shown_ender (falls_through n.token) s)
         (picked (is_closing closings.Esac n.token) (gives so) (stops inner n))
 
+    -- the token after the items of a `case` so far begins here
     abbrev CasesShown : CasesSoFar → State → Type 0
     CasesShown c t = Begins c.next t
 
+    -- one more item, or none before an `esac`
     shown_one_case : (c : CasesSoFar) (s : State) → N (one_case inner c) (Turned Whole g CasesShown) s
     unfolding one_case a_body
     shown_one_case c s =
@@ -482,6 +519,7 @@ module _ (g : Given) where
     unfolding case_turn
     shown_case_turn c s so = picked (is_closing closings.Esac c.next.token) (gives so) (shown_one_case c s)
 
+    -- a `case` up to its `in` and the newlines after it, and as a whole
     shown_case_head : (n : Next) (s : State) → N (a_case_head inner n) (λ h t. Begins h.2 t) s
     unfolding a_case_head
     shown_case_head n s =
@@ -498,6 +536,7 @@ module _ (g : Given) where
         (tells_many Whole g (case_turn inner) CasesShown shown_case_turn (cases_so_far [] h.1 h.2) t one)
         (λ c u two. tells_then Whole g (shown_closing closings.Esac c.next u) (λ e v good. gives good)))
 
+    -- what an opener opens, from just after it
     shown_form : (o : Opener) (n : Next) (s : State) → Begins n s → N (a_form inner o n) ClosedShown s
     shown_form openers.Brace n s so =
         tells_then Whole g (shown_group closings.Brace n s so) (λ l t good. gives good)
@@ -509,6 +548,7 @@ module _ (g : Given) where
     shown_form openers.For n s so = shown_for n s
     shown_form openers.Case n s so = shown_case n s
 
+    -- a compound command from its opener on, and a function from just after its name on
     shown_compound : (o : Opener) (s : State) → N (a_compound inner o) HandsOn s
     unfolding a_compound
     shown_compound o s = tells_then Whole g (shown_reserved_or_paren _ (is_open_paren o) _ s)

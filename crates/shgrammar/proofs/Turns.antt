@@ -9,10 +9,12 @@ use Rattle.shgrammar.specs.Commands.{begins_pipeline}
 use Rattle.shgrammar.specs.Lists.{ListSoFar, entry_turn}
 use Rattle.shgrammar.specs.Form.{Form, Read, Step, again, done, ◌▸◌, leads_on, next, turns_below, turns, does, many}
 
+-- a choice is the same where its first side is, if the test leads there
 on_true : {X : Type 0} (c : Bool) (x y z : X) → (c ≡ true → x ≡ y) → cond c x z ≡ cond c y z
 on_true true x y z same = same refl
 on_true false x y z same = refl
 
+-- what follows a turn is the same, if it is for all turns with less of the text left
 same_next : {A : Type 0} (g : Given) (s : State) (f h : A → State → Read A) →
     ((b : A) (t : State) → length g.text - t.at < length g.text - s.at → f b t ≡ h b t) → (r : Read (Step A))
     → (r ▸ next g s f) ≡ (r ▸ next g s h)
@@ -75,6 +77,7 @@ module _ {A : Type 0} (turn : A → Form (Step A)) (keep : Keep) (g : Given) whe
 
 -- ---- a line on which no entry begins
 
+-- where no entry begins none is read, and the list stays as it is
 no_entry : (inner : Inner) (l : ListSoFar) (keep : Keep) (g : Given) (s : State) → begins_pipeline l.next.token ≡ false
     →
     does (entry_turn inner l) keep g s ≡ Ok (done l, s)

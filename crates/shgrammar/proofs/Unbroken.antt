@@ -17,6 +17,7 @@ no_backslash test b true same other passed =
     absurd cc
 no_backslash test b false same other passed = refl
 
+-- so such a byte begins no continuation
 no_continuation : (test : ℕ → Bool) (a : Option ℕ) (next : Bool) → test 92 ≡ false → passes test a ≡ true →
     (is_byte a 92 && next) ≡ false
 no_continuation test None next other passed = absurd cc
@@ -30,6 +31,7 @@ stays test T p other passed = joined_none T p
     (unfold continues raw_stands in
     no_continuation test (slice_get T p) (is_byte (slice_get T (p + 1)) newline_char) other passed)
 
+-- where a byte passes a test there is one
 raw_in_low : (test : ℕ → Bool) (T : List ℕ) (p : ℕ) → raw_in test T p ≡ true → p < length T
 raw_in_low test T p passed = passes_low test T p (slice_get T p) refl (unfold raw_in in passed)
 
@@ -43,6 +45,7 @@ turn test T p true is other rest =
     past_more test T p (rw here is) ∙ rw here (rest is) ∙ ap (past test T) (sym (raw_more test T p is))
 turn test T p false is other rest = ap (past test T) (sym (raw_none test T p is))
 
+-- by how many bytes are left
 on_from : (test : ℕ → Bool) (T : List ℕ) (n p : ℕ) → length T - p ≤ n → test 92 ≡ false →
     past test T p ≡ past test T (raw_past test T p)
 on_from test T zero p low other =
@@ -55,12 +58,14 @@ on_from test T (suc n) p low other =
 pub past_on : (test : ℕ → Bool) (T : List ℕ) (p : ℕ) → test 92 ≡ false → past test T p ≡ past test T (raw_past test T p)
 past_on test T p other = on_from test T (length T - p) p (omega arith) other
 
+-- no class has the backslash
 no_class : (class : Class) → in_class class 92 ≡ false
 no_class Blank = refl
 no_class Digit = refl
 no_class Name = refl
 no_class Tab = refl
 
+-- so a stretch of each class goes on, and no byte of the class stands where its bytes as they stand end
 pub past_raw : (class : Class) (T : List ℕ) (p : ℕ) →
     past (in_class class) T p ≡ past (in_class class) T (raw_past (in_class class) T p)
 past_raw class T p = past_on (in_class class) T p (no_class class)
@@ -74,6 +79,7 @@ pub none_here : (class : Class) (T : List ℕ) (p : ℕ) → continues T p ≡ f
 unfolding stands_in raw_in
 none_here class T p none other = rw (joined_none T p none) other
 
+-- where no continuation stands there, the stretch ends there
 pub past_whole : (class : Class) (T : List ℕ) (p : ℕ) → continues T (raw_past (in_class class) T p) ≡ false →
     past (in_class class) T p ≡ raw_past (in_class class) T p
 past_whole class T p none =

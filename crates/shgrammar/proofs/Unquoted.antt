@@ -16,11 +16,13 @@ use Rattle.shgrammar.proofs.Stretches.{get_drop, joined_more, joined_none}
 
 -- ---- text and what is left after it
 
+-- a byte before what is left is one more at the end of the text
 push_left : (text : List ℕ) (c : ℕ) (left : Option (List ℕ)) →
     left_of text (left_before c left) ≡ left_of (text ++ c ∷ []) left
 push_left text c None = refl
 push_left text c (Some bs) = ap (λ (l : List ℕ). Some l) (sym (append_assoc text (c ∷ []) bs))
 
+-- a backslash and a newline leave nothing; another byte is left, with its backslash or without it
 pub escape_dropped : (q : Quoting) (text : List ℕ) (c : ℕ) (left : Option (List ℕ)) → (c == newline_char) ≡ true →
     left_of text (escape_left q c left) ≡ left_of text left
 escape_dropped q text c left is = rw is refl
@@ -36,6 +38,7 @@ escape_one q text c left other is = rw (other, is) (push_left text c left)
 
 -- ---- bytes past continuations
 
+-- both bytes of a continuation stand in the word
 pub two_bytes : (word : List ℕ) (at : ℕ) → continues word at ≡ true → at + 2 ≤ length word
 unfolding continues raw_stands
 two_bytes word at c = let both = and_parts _ _ c in within (slice_get word (at + 1)) refl both.1
@@ -44,14 +47,17 @@ two_bytes word at c = let both = and_parts _ _ c in within (slice_get word (at +
     within None is e = absurd cc
     within (Some b) is e = let lt = slice_get_within word (at + 1) b is in omega (arith, lt)
 
+-- continuations that end as those from q on do end as those after the one at q
 pub joined_on : (word : List ℕ) (p q : ℕ) → continues word q ≡ true →
     past_continuations word p ≡ past_continuations word q → past_continuations word p ≡ past_continuations word (q + 2)
 joined_on word p q c is = is ∙ joined_more word q c
 
+-- where none stands at q, and they end as those from q on do, the byte at q is the one that is read
 pub joined_here : (word : List ℕ) (p q : ℕ) → continues word q ≡ false → q < length word →
     past_continuations word p ≡ past_continuations word q → byte_at word p ≡ Some (get_or word q 0)
 joined_here word p q c lt is = ap (slice_get word) (is ∙ joined_none word q c) ∙ slice_get-get_or word q 0 lt
 
+-- at or past the end of the word there is no continuation, and no byte
 none_past : (word : List ℕ) (q : ℕ) → length word ≤ q → continues word q ≡ false
 unfolding continues raw_stands
 none_past word q le = by (slice_get word q) refl
@@ -67,6 +73,7 @@ past_end word q le = by (slice_get word q) refl
     by None is = refl
     by (Some b) is = let lt = slice_get_within word q b is in absurd (omega (arith, lt, le))
 
+-- so no byte is read where only continuations stand up to there
 pub joined_end : (word : List ℕ) (p q : ℕ) → length word ≤ q → past_continuations word p ≡ past_continuations word q →
     byte_at word p ≡ None
 joined_end word p q le is = ap (slice_get word) (is ∙ joined_none word q (none_past word q le)) ∙ past_end word q le
@@ -85,15 +92,18 @@ rest_stands word p c = ap (λ b. is_byte b c) (rest_byte word p)
 
 -- ---- a `$`
 
+-- the second `$` of `$$` is left, whatever follows it
 pub dollar_second : (text bs : List ℕ) (left : Bool → Option (List ℕ)) →
     left_of text (dollar_left true bs left) ≡ left_of (text ++ 36 ∷ []) (left false)
 dollar_second text bs left = push_left text 36 (left false)
 
+-- a `$` that opens a construct leaves nothing, not even the text before it
 pub dollar_opens : (text word : List ℕ) (p : ℕ) (left : Bool → Option (List ℕ)) →
     (is_byte (byte_at word p) left_parenthesis || is_byte (byte_at word p) left_brace) ≡ true →
     left_of text (dollar_left false (drop p word) left) ≡ None
 dollar_opens text word p left opens = rw (rest_stands word p 40, rest_stands word p 123, opens) refl
 
+-- another `$` is left, and if one follows it that is the second of `$$`
 pub dollar_on : (text word : List ℕ) (p : ℕ) (left : Bool → Option (List ℕ)) →
     (is_byte (byte_at word p) left_parenthesis || is_byte (byte_at word p) left_brace) ≡ false
     → left_of text (dollar_left false (drop p word) left)
@@ -105,6 +115,7 @@ dollar_on text word p left other =
 -- ---- another byte
 
 module _ (q : Quoting) (second : Bool) (text bs : List ℕ) (b : ℕ) (left : Quoting → Bool → Option (List ℕ)) where
+  -- by the byte: a quote is dropped, a backquote leaves nothing, a `$` is as above, another one is left
   pub byte_quote : is_quote q b ≡ true →
       left_of text (byte_left q second b bs left) ≡ left_of text (left (after_quote q b) false)
   byte_quote is = rw is refl
@@ -122,10 +133,12 @@ module _ (q : Quoting) (second : Bool) (text bs : List ℕ) (b : ℕ) (left : Qu
 
 -- ---- the byte at a place
 
+-- of two that do not both hold, the second does not where the first does
 second_false : (a b : Bool) → (a && b) ≡ false → a ≡ true → b ≡ false
 second_false true b e f = e
 second_false false b e f = absurd cc
 
+-- a byte that is the last one, or no backslash that quotes, is taken alone
 pub unquoted_byte : (q : Quoting) (second : Bool) (b : ℕ) (bs : List ℕ) →
     (nat_lt 0 (length bs) && is_live q 92 b) ≡ false →
     unquoted q second (b ∷ bs) ≡ byte_left q second b bs (λ r s. unquoted r s bs)
@@ -134,15 +147,18 @@ unquoted_byte q second b [] other = refl
 unquoted_byte q second b (c ∷ bs) other =
     rw (second_false (nat_lt 0 (length (c ∷ bs))) (is_live q 92 b) other (lt-ltb _ _ (omega arith))) refl
 
+-- a backslash that quotes is taken with the byte after it
 pub unquoted_escape : (q : Quoting) (second : Bool) (b c : ℕ) (bs : List ℕ) → is_live q 92 b ≡ true →
     unquoted q second (b ∷ c ∷ bs) ≡ escape_left q c (unquoted q second bs)
 unfolding unquoted
 unquoted_escape q second b c bs is = rw is refl
 
+-- a byte stands after the one at a place, in the word or in its rest
 longer : (word : List ℕ) (at : ℕ) → at < length word →
     nat_lt 0 (length (drop (at + 1) word)) ≡ nat_lt (at + 1) (length word)
 longer word at lt = grind (arith, nat_tests, length-drop (at + 1) word)
 
+-- the same two at a place in the word
 pub take_byte : (q : Quoting) (second : Bool) (text word : List ℕ) (at : ℕ) → at < length word →
     escapes q word at ≡ false
     → left_of text (unquoted q second (drop at word))
@@ -169,6 +185,7 @@ take_escape q second text word at lt is =
 
 -- ---- the whole word
 
+-- at the front of the word all is still left, and at its end the text alone
 pub nothing_left : (q : Quoting) (second : Bool) (word : List ℕ) →
     left_of [] (unquoted q second (drop 0 word)) ≡ unquoted q second word
 nothing_left q second word = same (unquoted q second word)
@@ -187,18 +204,22 @@ none_left left is = sym is
 
 -- ---- whether it is quoted
 
+-- the bytes by which a word is quoted: a backslash and both quotes
 abbrev quotes : ℕ → Bool
 quotes b = b == backslash || b == apostrophe || b == quotation_mark
 
+-- a continuation at the front is left out
 bare_pair : (b c : ℕ) (bs : List ℕ) → (b == backslash && c == newline_char) ≡ true → bare (b ∷ c ∷ bs) ≡ bare bs
 unfolding bare
 bare_pair b c bs is = rw is refl
 
+-- a continuation stands where a backslash and a newline do
 continues_at : (word : List ℕ) (at : ℕ) → at + 1 < length word →
     continues word at ≡ (get_or word at 0 == backslash && get_or word (at + 1) 0 == newline_char)
 unfolding continues raw_stands
 continues_at word at lt = rw (slice_get-get_or word at 0 (omega (arith, lt)), slice_get-get_or word (at + 1) 0 lt) refl
 
+-- a word is quoted from a continuation on just where it is from after that
 pub bare_on : (word : List ℕ) (at : ℕ) → continues word at ≡ true →
     list_any (λ b. b == backslash || b == apostrophe || b == quotation_mark) (bare (drop at word))
     ≡ list_any (λ b. b == backslash || b == apostrophe || b == quotation_mark) (bare (drop (at + 2) word))
@@ -212,6 +233,7 @@ bare_on word at c =
     (sym (continues_at word at (omega (arith, le))) ∙ c))
     ∙ ap (λ n. list_any quotes (bare (drop n word))) next
 
+-- a byte that begins no continuation is not left out, at the front or at a place in the word
 pub bare_one : (b : ℕ) (bs : List ℕ) →
     ((c : ℕ) (cs : List ℕ) → bs ≡ c ∷ cs → (b == backslash && c == newline_char) ≡ false) →
     bare (b ∷ bs) ≡ b ∷ bare bs
@@ -234,6 +256,7 @@ bare_step word at lt other = ap bare (drop_more word at 0 lt) ∙ bare_one (get_
         ap (λ (x : ℕ). get_or word at 0 == backslash && x == newline_char) (sym same) ∙ sym (continues_at word at more)
         ∙ other
 
+-- a word is quoted from such a byte on if it quotes, or else by the rest; at the end it is not
 pub bare_quotes : (word : List ℕ) (at : ℕ) → at < length word → continues word at ≡ false →
     (get_or word at 0 == backslash || get_or word at 0 == apostrophe || get_or word at 0 == quotation_mark) ≡ true
     → list_any (λ b. b == backslash || b == apostrophe || b == quotation_mark) (bare (drop at word)) ≡ true

@@ -27,10 +27,12 @@ pub stepped : {A : Type 0} (P : A → Type 0) (b : Bool) (a : A) → P a → Ste
 stepped P true a so = so
 stepped P false a so = so
 
+-- what follows from what a turn gives
 pub step_so : {A : Type 0} (P Q : A → Type 0) → ((a : A) → P a → Q a) → (c : Step A) → Stepped P c → Stepped Q c
 step_so P Q so (again a) one = so a one
 step_so P Q so (done a) one = so a one
 
+-- the same, where the turn does not end above the limit
 turned : (g : Given) (limit : ℕ) {A : Type 0} (P : A → Type 0) (c : Step A) (t : State) →
     (g.offset + t.at ≤ limit → Stepped P c) → Turned Whole g (λ a u. g.offset + u.at ≤ limit → P a) c t
 turned g limit P (again a) t so = so
@@ -42,6 +44,7 @@ module _ {g : Given} {limit : ℕ} where
       UpTo g limit r P s
   unless {P = P} {r = r} {s = s} so = record { told = unless_above g limit {P = λ x t. P x} r s (λ b. (so b).told) }
 
+  -- what is given, and a fault
   pub gives : {X : Type 0} {P : X → Type 0} {x : X} {s : State} → P x → UpTo g limit (give x) P s
   gives so = record { told = record { told = λ b. so } }
 
@@ -68,6 +71,7 @@ module _ {g : Given} {limit : ℕ} where
             (λ x t so. (unless (λ b. rest x t so.1 (so.0 b))).told);
       }
 
+  -- the same, wherever the second begins
   pub first : {X Y : Type 0} {P : X → Type 0} {Q : Y → Type 0} {r : Form X} {q : X → Form Y} {s : State} →
       UpTo g limit r P s → ((x : X) (t : State) → P x → UpTo g limit (q x) Q t) → UpTo g limit (both r q) Q s
   first one rest = first_on one (λ x t on so. rest x t so)
@@ -98,6 +102,7 @@ module _ {g : Given} {limit : ℕ} where
       UpTo g limit (push xs x) P s
   adds so = record { told = record { told = λ b. so } }
 
+  -- and so of each one of a row
   pub pushes : {A : Type 0} (P : A → Type 0) {xs : Row A} {x : A} {s : State} → All P xs → P x →
       UpTo g limit (push xs x) (All P) s
   pushes P {xs = xs} {x = x} all one = adds (All-push P xs x all one)
@@ -137,6 +142,7 @@ module _ {g : Given} {limit : ℕ} where
             (turned g limit Q)) (λ a t there. λ b. so a (there b)) (λ a t there. there) a s (λ b. one);
       }
 
+  -- the same, where one thing holds before and after each turn
   pub repeats : {A : Type 0} (P : A → Type 0) (turn : A → Form (Step A)) →
       ((a : A) (s : State) → P a → UpTo g limit (turn a) (Stepped P) s) → (a : A) (s : State) → P a →
       UpTo g limit (many turn a) P s
@@ -172,10 +178,12 @@ module _ {g : Given} {limit : ℕ} where
             (λ a t so. λ b. (so.0 b, so.1 b));
       }
 
+  -- what stands in a command substitution
   pub in_subst : {X : Type 0} {P : X → Type 0} {r : Form X} {s : State} → UpTo g limit r P s →
       UpTo g limit (in_substitution r) P s
   in_subst one = record { told = tells_inside Whole g one.told }
 
+  -- one form or the other, by a test
   pub picks : {X : Type 0} {P : X → Type 0} (b : Bool) {r q : Form X} {s : State} → UpTo g limit r P s →
       UpTo g limit q P s → UpTo g limit (pick b r q) P s
   picks true one two = one

@@ -177,10 +177,12 @@ module _ (keep : Keep) (g : Given) (limit : ℕ) where
         R (inner.function name) (λ c. CommandFits limit c.0) s
 
   module _ (inner : Inner) (fine : Fine inner) where
+    -- a construct in a word
     opened_fits : (mode : Mode) (b : ℕ) (h : WordSoFar) (s : State) → SubstsFit h →
         R (opened inner mode b h) (Stepped SubstsFit) s
     opened_fits mode b h s so = first (fine.construct mode b h.substs s so) (λ zs t good. gives good)
 
+    -- a piece of a word, by its kind
     piece_fits_by : (mode : Mode) (b : ℕ) (h : WordSoFar) (piece : Piece) (s : State) → SubstsFit h →
         R (piece_row inner mode b h piece) (Stepped SubstsFit) s
     piece_fits_by mode b h pieces.Closer s so = after (λ x t. gives so)
@@ -213,6 +215,7 @@ module _ (keep : Keep) (g : Given) (limit : ℕ) where
     unfolding a_piece
     piece_fits mode b h s so = after (λ piece t. piece_fits_by mode b h piece t so)
 
+    -- all that a construct or a word holds, and a word
     contents_fit : (mode : Mode) (b : ℕ) (ss : Row ASubst) (s : State) → All (SubstFits limit) ss →
         R (contents inner mode b ss) (All (SubstFits limit)) s
     unfolding contents
@@ -232,12 +235,14 @@ module _ (keep : Keep) (g : Given) (limit : ℕ) where
     abbrev ItemsFit : ItemsSoFar → Type 0
     ItemsFit i = All (ItemFits limit) i.items
 
+    -- an item that is a word fits where that does
     item_fits : (position : Position) (broken : Bool) (w : AWord) → WordFits limit w →
         ItemFits limit (item broken (as_item position w))
     item_fits Command broken w so = fits_argument limit broken w so
     item_fits Prefix broken w so = fits_assign limit broken w so
     item_fits Suffix broken w so = fits_argument limit broken w so
 
+    -- one more item that is a word
     one_item_fits : (i : ItemsSoFar) (position : Position) (s : State) → ItemsFit i →
         R (an_item inner i position) (Stepped ItemsFit) s
     unfolding an_item
@@ -245,9 +250,11 @@ module _ (keep : Keep) (g : Given) (limit : ℕ) where
         first (word_fits s) (λ w t good. first (pushes (ItemFits limit) so (item_fits position (breaks i) w good))
         (λ is u all. after (λ n v. gives all)))
 
+    -- where no row takes the token the reading stops, and nothing is said
     stopped : {X : Type 0} {P : X → Type 0} (n : Next) {s : State} → R (unexpected {X = X} inner n) P s
     stopped n = after (λ w t. record { told = tt })
 
+    -- the number of a redirection, where it has one, its operator and its target
     abbrev NumberFits : Option Span × Next → Type 0
     NumberFits x = MatchOption x.0 (Unit {0}) (IsSpanWithin limit)
 
@@ -275,6 +282,7 @@ module _ (keep : Keep) (g : Given) (limit : ℕ) where
     unfolding a_target
     target_fits s = after (λ n t. picks (is_word n.token) (with_its_bytes (word_fits t)) (stopped n))
 
+    -- one more redirection with all its parts, one more item of any kind, and a simple command
     redirect_fits : (broken : Bool) (position : Position) (is : Row AnItem) (n : Next) (s : State) →
         All (ItemFits limit) is → R (one_redirect inner broken position is n) (Stepped ItemsFit) s
     unfolding one_redirect
@@ -300,6 +308,7 @@ module _ (keep : Keep) (g : Given) (limit : ℕ) where
     simple_fits i s so = first (repeats ItemsFit (item_turn inner) item_turn_fits i s so)
         (λ is t all. gives (fits_simple limit is.items all))
 
+    -- a comment, where one stands, and the comments so far with it
     abbrev OwnComment : Option Span × Next → Type 0
     OwnComment x = MatchOption x.0 (Unit {0}) (CommentFits limit)
 
@@ -322,6 +331,7 @@ module _ (keep : Keep) (g : Given) (limit : ℕ) where
     with_fits cs (Some c) s all one = pushes (CommentFits limit) all one
     with_fits cs None s all one = gives all
 
+    -- the comments of a join
     abbrev JoinFits : JoinSoFar → Type 0
     JoinFits j = All (CommentFits limit) j.join.comments
 
@@ -336,6 +346,7 @@ module _ (keep : Keep) (g : Given) (limit : ℕ) where
     join_fits broken s = after (λ n t. first
         (repeats JoinFits join_turn join_turn_fits _ t (All-nil (CommentFits limit))) (λ j u all. gives all))
 
+    -- a compound command with the redirections after it
     redirect_turn_fits : (i : ItemsSoFar) (s : State) → ItemsFit i → R (redirect_turn inner i) (Stepped ItemsFit) s
     unfolding redirect_turn
     redirect_turn_fits i s so = picks (begins_redirect i.next.token)
@@ -359,6 +370,7 @@ module _ (keep : Keep) (g : Given) (limit : ℕ) where
     compound_fits_by n (Some o) s = first (fine.compound o s) with_redirect_list_fits
     compound_fits_by n None s = stopped n
 
+    -- a command that begins with a word, and any command
     place_fits : (w : AWord) → WordFits limit w → IsSpanWithin limit (word_span w)
     place_fits (word s ss) so = so.0
 
@@ -377,6 +389,7 @@ module _ (keep : Keep) (g : Given) (limit : ℕ) where
         (picks (begins_simple n.token) (simple_fits (items_so_far [] Command n) s (All-nil (ItemFits limit)))
         (compound_fits_by n (opener_of n.token) s))
 
+    -- the commands of a pipeline so far
     abbrev PipesFit : PipesSoFar → Type 0
     PipesFit p = All (PipeFits limit) p.parts
 
@@ -391,6 +404,7 @@ module _ (keep : Keep) (g : Given) (limit : ℕ) where
     unfolding pipe_turn
     pipe_turn_fits p s so = picks (is_pipe p.next.token) (one_command_fits p s so) (gives so)
 
+    -- a `!`, where one stands, and a whole pipeline
     bang_fits : (n : Next) (s : State) → R (a_bang n) (λ x. MatchOption x.0 (Unit {0}) (IsSpanWithin limit)) s
     unfolding a_bang
     bang_fits n s = picks (is_bang n.token)
@@ -404,6 +418,7 @@ module _ (keep : Keep) (g : Given) (limit : ℕ) where
         (λ c u two. first (repeats PipesFit (pipe_turn inner) pipe_turn_fits (pipes_so_far [] c.1) u
         (All-nil (PipeFits limit))) (λ p v all. gives (fits_pipeline limit b.0 c.0 p.parts one two all))))
 
+    -- the pipelines of an and-or list so far
     abbrev PartsFit : AndOrSoFar → Type 0
     PartsFit a = All (PartFits limit) a.parts
 
@@ -424,6 +439,7 @@ module _ (keep : Keep) (g : Given) (limit : ℕ) where
     unfolding and_or_turn
     and_or_turn_fits a s so = joined_fits_by a (and_or_operator_of a.next.token) s so
 
+    -- a whole and-or list
     and_or_fits : (n : Next) (s : State) → R (an_and_or inner n) (λ a. Nodes limit (and_or_nodes a.0)) s
     unfolding an_and_or
     and_or_fits n s =
@@ -435,6 +451,7 @@ module _ (keep : Keep) (g : Given) (limit : ℕ) where
     abbrev PartedFits : Option ℕ → Type 0
     PartedFits parted = MatchOption parted (Unit {0}) (λ p. p ≤ limit)
 
+    -- a separator, where one stands, and an entry with the offset after it
     separator_fits_by : (n : Next) (c : Option Separator) (s : State) →
         R (separator_by n c) (λ x. PartedFits (past_separator x.0)) s
     separator_fits_by n (Some c) s =
@@ -460,6 +477,7 @@ module _ (keep : Keep) (g : Given) (limit : ℕ) where
     abbrev ListFits : ListSoFar → Type 0
     ListFits l = All (EntryFits limit) l.list.entries × PartedFits l.list.parted
 
+    -- one more entry, and a comment that stands for itself
     one_entry_fits : (l : ListSoFar) (s : State) → ListFits l → R (one_entry inner l) (Stepped ListFits) s
     unfolding one_entry
     one_entry_fits l s so = first (entry_fits _ l.next s)
@@ -477,6 +495,7 @@ module _ (keep : Keep) (g : Given) (limit : ℕ) where
         (λ es t all. gives (all, so.1))
     remark_fits_by l (None, n) s so one = gives so
 
+    -- all of one line, one more line of a list, and a whole list
     on_line_fits : (l : ListSoFar) (s : State) → ListFits l → R (on_line inner l) ListFits s
     unfolding on_line a_remark
     on_line_fits l s so =
@@ -494,6 +513,7 @@ module _ (keep : Keep) (g : Given) (limit : ℕ) where
         (All-nil (EntryFits limit), tt))
         (λ l t all. picks l.list.commands (gives (fits_entries limit l.list.entries all.0)) (stopped l.next))
 
+    -- a line of a script, before the bodies are put into its entries
     open_line_fits : (blank : Bool) (s : State) → R (an_open_line inner blank) (λ x. All (EntryFits limit) x.0) s
     unfolding an_open_line
     open_line_fits blank s = after
@@ -512,6 +532,7 @@ module _ (keep : Keep) (g : Given) (limit : ℕ) where
 
     -- Each row of a compound command: what it holds fits within the limit, and so does what closes it.
 
+    -- a reserved word or a round bracket, and what has to stand here
     reserved_or_paren_fits : (text : Spelled) (paren : Bool) (position : Position) (s : State) →
         R (reserved_or_paren text paren position) (λ x. IsSpanWithin limit x.0) s
     unfolding reserved_or_paren
@@ -522,6 +543,7 @@ module _ (keep : Keep) (g : Given) (limit : ℕ) where
     unfolding closing
     closing_fits c n s = picks (is_closing c n.token) (reserved_or_paren_fits _ (is_close_paren c) _ s) (stopped n)
 
+    -- a condition and what it runs, and the branches after an `elif` so far
     branch_fits : (n : Next) (s : State) → R (a_branch inner n) (λ x. BranchFits limit x.0) s
     unfolding a_branch
     branch_fits n s =
@@ -540,6 +562,7 @@ module _ (keep : Keep) (g : Given) (limit : ℕ) where
         (λ x u one. first (pushes (BranchFits limit) so one) (λ bs v all. gives all))))
         (gives so)
 
+    -- what stands after `else`
     else_fits : (n : Next) (s : State) → R (an_else inner n) (λ x. Nodes limit (else_nodes x.0)) s
     unfolding an_else
     else_fits n s =
@@ -547,6 +570,7 @@ module _ (keep : Keep) (g : Given) (limit : ℕ) where
         (after (λ k t. first (list_fits k.1 t) (λ l u so. gives so)))
         (gives (All-nil _))
 
+    -- an `if`, a loop and a list, each with what closes it
     abbrev FormFits : Closed AForm → Type 0
     FormFits f = Nodes limit (form_nodes f.what) × IsSpanWithin limit f.closer
 
@@ -579,6 +603,7 @@ module _ (keep : Keep) (g : Given) (limit : ℕ) where
     unfolding a_group
     group_fits c n s = first (list_fits n s) (λ l t so. first (closing_fits c l.1 t) (λ k u last. gives (so, last)))
 
+    -- the name of a `for`
     for_name_fits : (n : Next) (s : State) → R (a_for_name inner n) (λ x. WordFits limit x.0) s
     unfolding a_for_name
     for_name_fits n s =
@@ -586,6 +611,7 @@ module _ (keep : Keep) (g : Given) (limit : ℕ) where
         (λ p t. after (λ good u. first (word_fits u)
         (λ w v one. picks good (after (λ m z. gives one)) (record { told = tt }))))) (stopped n)
 
+    -- newlines and comments after these comments, and the same where a `;` or a newline is asked for
     linebreak_fits : (cs : Row Span) (n : Next) (s : State) → All (CommentFits limit) cs →
         R (a_linebreak cs n) JoinFits s
     unfolding a_linebreak
@@ -597,6 +623,7 @@ module _ (keep : Keep) (g : Given) (limit : ℕ) where
     sequential_sep_fits cs n s all = after (λ x t. first (linebreak_fits cs x.1 t all)
         (λ l u so. picks _ (gives so) (stopped l.next)))
 
+    -- what stands between the name of a `for` and its `do`
     abbrev HeadFits : Headed → Type 0
     HeadFits h = Nodes limit (for_words_nodes h.words) × All (CommentFits limit) h.comments
 
@@ -618,6 +645,7 @@ module _ (keep : Keep) (g : Given) (limit : ℕ) where
         after (λ x t. first (linebreak_fits [] x.1 t (All-nil (CommentFits limit)))
         (λ l u so. picks _ (for_words_fit l.join.comments u so) (gives (All-nil _, so))))
 
+    -- comments before a list, as its first entries, and a whole `for`
     remarks_fit : (cs : Row Span) (es : Entries) → All (CommentFits limit) cs → NodesWithin limit es →
         NodesWithin limit (after_remarks cs es)
     remarks_fit [] es all so = so
@@ -639,11 +667,13 @@ module _ (keep : Keep) (g : Given) (limit : ℕ) where
           body.1,
         )))))
 
+    -- the word of a `case`
     case_word_fits : (n : Next) (s : State) → R (a_case_word inner n) (λ x. WordFits limit x.0) s
     unfolding a_case_word
     case_word_fits n s = picks (begins_word n.token) (first (word_fits s) (λ w t one. after (λ m u. gives one)))
         (stopped n)
 
+    -- the patterns of an item so far, and all of them
     abbrev PatternsFit : PatternsSoFar → Type 0
     PatternsFit p = All (WordFits limit) p.patterns
 
@@ -671,6 +701,7 @@ module _ (keep : Keep) (g : Given) (limit : ℕ) where
         (first (pattern_fits [] s (All-nil (WordFits limit)))
         (λ p t so. repeats PatternsFit (pattern_turn inner) pattern_turn_fits p t so)) (stopped n)
 
+    -- the list of an item, which may hold no command
     body_fits : (n : Next) (s : State) → R (a_body inner n) ListFits s
     unfolding a_body
     body_fits n s = repeats ListFits (list_turn inner) list_turn_fits (list_so_far (none_listed false) n) s
@@ -680,6 +711,7 @@ module _ (keep : Keep) (g : Given) (limit : ℕ) where
     here_fits : (s : State) → R (see here) (λ p. p ≤ limit) s
     here_fits s = record { told = λ b. b }
 
+    -- the offset after the last token of that list
     parted_or : (parted : Option ℕ) (other : ℕ) → PartedFits parted → other ≤ limit → unwrap_or parted other ≤ limit
     parted_or (Some p) other so low = so
     parted_or None other so low = low
@@ -688,6 +720,7 @@ module _ (keep : Keep) (g : Given) (limit : ℕ) where
         body_end before l ≤ limit
     body_end_fits before l low all part = parted_or l.parted _ part (fits_end limit before l.entries low all)
 
+    -- where an item ends, and the comments after it
     abbrev ItemEndFits : ItemEnd → Type 0
     ItemEndFits e = (e.at ≤ limit) × All (CommentFits limit) e.comments
 
@@ -708,6 +741,7 @@ module _ (keep : Keep) (g : Given) (limit : ℕ) where
     abbrev CasesFit : CasesSoFar → Type 0
     CasesFit c = All (CaseFits limit) c.items × All (CommentFits limit) c.comments
 
+    -- one more item of a `case`
     one_case_fits : (c : CasesSoFar) (s : State) → CasesFit c → R (one_case inner c) (Stepped CasesFit) s
     unfolding one_case
     one_case_fits c s so =
@@ -725,6 +759,7 @@ module _ (keep : Keep) (g : Given) (limit : ℕ) where
     unfolding case_turn
     case_turn_fits c s so = picks (is_closing closings.Esac c.next.token) (gives so) (one_case_fits c s so)
 
+    -- what stands between `case` and its items, and a whole `case`
     case_head_fits : (n : Next) (s : State) →
         R (a_case_head inner n) (λ h. WordFits limit h.0 × All (CommentFits limit) h.1) s
     unfolding a_case_head
@@ -741,6 +776,7 @@ module _ (keep : Keep) (g : Given) (limit : ℕ) where
         (λ c u all. first (closing_fits closings.Esac c.next u)
         (λ e v last. gives (fits_case_in limit h.0 c.items c.comments one.0 all.0 all.1, last))))
 
+    -- a compound command after its opener, by what that is
     form_fits : (o : Opener) (n : Next) (s : State) → R (a_form inner o n) FormFits s
     form_fits openers.Brace n s = first (group_fits closings.Brace n s) (λ l t so. gives so)
     form_fits openers.Paren n s = first (group_fits closings.Paren n s) (λ l t so. gives so)
@@ -755,6 +791,7 @@ module _ (keep : Keep) (g : Given) (limit : ℕ) where
     apart_fits [] all = fits_simple limit [] (All-nil (ItemFits limit))
     apart_fits (c ∷ cs) all = All-head BareFits c cs all
 
+    -- a compound command from its opener on
     compound_fits : (o : Opener) (s : State) → R (a_compound inner o) (λ c. BareFits c.0) s
     unfolding a_compound
     compound_fits o s = first (reserved_or_paren_fits _ (is_open_paren o) _ s) (λ x t begin. first (form_fits o x.1 t)

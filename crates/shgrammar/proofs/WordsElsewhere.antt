@@ -44,6 +44,7 @@ use Rattle.shgrammar.proofs.TokensShown.{Begins, paren_here, shown_level, shown_
 use Rattle.shgrammar.proofs.WordsWithin.{Last, contents_end, stays_in}
 use Rattle.shgrammar.specs.declared.edition.Edition.{Edition}
 
+-- the shape of a row of substitutions is the row of their shapes
 pub substs_shape : (B : List ℕ) (ss : Row ASubst) →
     shape_of_substs B (substs_of ss) ≡ substs_of (map (shape_of_subst B) ss)
 substs_shape B [] = refl
@@ -69,6 +70,7 @@ pub record Everywhere (inner : Inner) : Type 0 where
       (inner.function new)
 
 module _ (room : ℕ) (all : Everywhere (level room)) where
+  -- what may be opened, with this room
   abbrev inner : Inner
   inner = level room
 
@@ -76,6 +78,7 @@ module _ (room : ℕ) (all : Everywhere (level room)) where
 
   module _ {edition : Edition} {T U : List ℕ} {a M : ℕ} {to : ℕ → ℕ} {limit : ℕ} (E : ListEnds edition T U a M to limit)
       (o o2 : ℕ) (B B2 : List ℕ) (stands : T ≡ drop o B) (stands_there : U ≡ drop o2 B2) where
+    -- a word of the same shape is read in the second text
     abbrev FoundWord : State → AWord → State → Type 0
     FoundWord s w t = Found E o o2 B B2 stands stands_there (SameWord B B2)
         (a_word inner) s w t
@@ -88,6 +91,7 @@ module _ (room : ℕ) (all : Everywhere (level room)) where
       same = λ r from lt. E.kept.same r from (omega (arith, lt, le));
     }
 
+    -- a word that was read, by the substitutions in it, and any word
     word_there : (s : State) (ss : Row ASubst) (t : State) → a ≤ s.at → s.at ≤ t.at → ends_word T t.at ≡ true →
         does (contents inner Plain (o + s.at) []) Whole (given edition T o) s ≡ Ok (ss, t)
         → FoundWord s (word (span o s.at t.at) (substs_of ss)) t
@@ -140,6 +144,7 @@ module _ (room : ℕ) (all : Everywhere (level room)) where
         joined (Ok (ss, t)) = refl
         joined (Err f) = refl
 
+    -- so words, compound commands and functions in a list are read there
     fine : Fine E o o2 B B2 stands stands_there inner
     fine = record {
       word = record { go = word_go };
@@ -151,6 +156,7 @@ module _ (room : ℕ) (all : Everywhere (level room)) where
 
   module _ {edition : Edition} {T U : List ℕ} {a L : ℕ} {to : ℕ → ℕ} (K : Kept edition T U a L to) (o o2 : ℕ)
       (B B2 : List ℕ) (stands : T ≡ drop o B) (stands_there : U ≡ drop o2 B2) where
+    -- what is given of both texts
     abbrev g : Given
     g = given edition T o
 
@@ -167,9 +173,11 @@ module _ (room : ℕ) (all : Everywhere (level room)) where
       ender = bracket_ends;
     }
 
+    -- a byte that is read up to the `)` is read before the limit
     here_before : (M : ℕ) {p : ℕ} → M + 1 ≤ L → Here T U a (M + 1) to p → Here T U a L to p
     here_before M le i = let lt = i.inside in record { low = i.low; inside = omega (arith, lt, le); there = i.there }
 
+    -- the lines of a substitution, whether a `)` ends them, and what is read of it
     abbrev all_lines : Next → Form ListSoFar
     all_lines n = many (list_turn inner) (list_so_far (none_listed false) n)
 
@@ -189,12 +197,14 @@ module _ (room : ℕ) (all : Everywhere (level room)) where
       abbrev s : State
       s = own_level outer
 
+      -- its first token, and the state where that begins
       abbrev the_next : Next
       the_next = next_in edition (next_at Command T s.at)
 
       abbrev start : State
       start = record { at = past_blanks T s.at; waiting = s.waiting; bodies = s.bodies }
 
+      -- the substitution is read there as well, after others of the same shape
       abbrev There : Row ASubst → State → Type 0
       There x t = Holding K o o2 B B2 (a_substitution inner b2) ss outer x t
 
@@ -203,6 +213,7 @@ module _ (room : ℕ) (all : Everywhere (level room)) where
           (closed : closes l ≡ true) (none : first_waiting u ≡ None) (begins : Begins g l.next u)
           (onward : start.at ≤ u.at)
           (still : s.at ≤ start.at) where
+        -- where the `)` stands, and that it is the byte there
         abbrev M : ℕ
         M = u.at
 
@@ -213,12 +224,15 @@ module _ (room : ℕ) (all : Everywhere (level room)) where
         byte = ap (slice_get T) (sym shown.1) ∙ shown.0
 
         module _ (le : M + 1 ≤ L) where
+          -- its list ends at that place in both texts
           E : ListEnds edition T U a M to right_parenthesis
           E = limit_at M (omega (arith, from, still, onward)) le byte
 
+          -- a state, elsewhere
           abbrev over_there : State → State
           over_there v = over E o o2 B B2 stands stands_there v
 
+          -- what ends at a good place began at one, and so did the list
           back_start : Back E o o2 B B2 stands stands_there start l u
           back_start = subst (Holds (Back E o o2 B B2 stands stands_there start)) is
               (good E o o2 B B2 stands stands_there (all_lines the_next) start (omega (arith, from, still))).told
@@ -230,6 +244,7 @@ module _ (room : ℕ) (all : Everywhere (level room)) where
           same_bodies : map (text_at B) u.bodies ≡ map (text_at B2) (map (move_span E o o2) u.bodies)
           same_bodies = back_start.2 at_limit refl
 
+          -- the first byte that is read in it is before the limit
           begun : Here T U a L to s.at
           unfolding next_token
           begun = here_before M le (seen E
@@ -245,6 +260,7 @@ module _ (room : ℕ) (all : Everywhere (level room)) where
               subst (λ (n : Next). does (next_token Command) Whole h (over_there s) ≡ Ok (n, over_there start))
               (sym w.1.1) w.1.0
 
+          -- its lines are read there, with the same shape
           same_lines : (k : ListSoFar) ×
               ((does (all_lines the_next) Whole h (over_there start) ≡ Ok (k, over_there u))
               × SameList B B2 l k)
@@ -256,12 +272,14 @@ module _ (room : ℕ) (all : Everywhere (level room)) where
               (omega (arith, from, still)))
               at_limit
 
+          -- the state after the `)`, and the list that was read there
           abbrev last : State
           last = record { at = past_byte T M; waiting = u.waiting; bodies = u.bodies }
 
           abbrev k : ListSoFar
           k = same_lines.0
 
+          -- no here-document waits there either
           none_there : first_waiting (over_there u) ≡ None
           none_there = first_over E o o2 u ∙ ap first_there none
 
@@ -289,6 +307,7 @@ module _ (room : ℕ) (all : Everywhere (level room)) where
               ∙ ap (λ c. does (the_close k c) Whole h (over_there u)) closes_there
               ∙ close_there
 
+          -- a substitution with this list, from one offset up to another
           abbrev one_more : Entries → ℕ → ℕ → ASubst
           one_more es start end = a_subst es (record { start = start; «end» = end })
 
@@ -302,6 +321,7 @@ module _ (room : ℕ) (all : Everywhere (level room)) where
               (list_shape B B2 l k same_lines.1.1)
               ∙ sym (shape_filled B2 (map (move_span E o o2) u.bodies) (entries_of k.list.entries))
 
+          -- so the substitution is found there
           found : (zs : Row ASubst) → SameSubsts K o o2 B B2 ss zs
               → (y : Row ASubst) × ((does (a_substitution inner b2 zs) Whole h (over_there outer)
               ≡ Ok (y, over_there (outer_level outer last)))
@@ -325,6 +345,7 @@ module _ (room : ℕ) (all : Everywhere (level room)) where
             ),
           )
 
+      -- where the place after the byte at M is within the limit, so is M + 1
       ends_high : (M : ℕ) → past_continuations T M ≡ M → past_byte T M ≤ L → M + 1 ≤ L
       ends_high M still le = omega (arith, le, past_byte_is T M, still)
 
@@ -335,6 +356,7 @@ module _ (room : ℕ) (all : Everywhere (level room)) where
           (λ es t. Ok ((es, t.bodies), outer_level outer t)))
           (λ es t. Ok (ss ++ a_subst (filled es.1 es.0) (record { start = b; «end» = o + t.at }) ∷ [], t))
 
+      -- by whether a document waits, by whether a `)` ends the list, and by the lines that were read
       by_waiting : (l : ListSoFar) (u : State) → does (all_lines the_next) Whole g start ≡ Ok (l, u) → Begins g l.next u
           →
           start.at ≤ u.at → s.at ≤ start.at → closes l ≡ true → (w : Option ℕ) → first_waiting u ≡ w
@@ -367,6 +389,7 @@ module _ (room : ℕ) (all : Everywhere (level room)) where
       by_lines (Ok (l, u)) is begins onward still = by_close l u is begins onward still (closes l) refl
       by_lines (Err f) is begins onward still = tt
 
+      -- a substitution is read there as well
       substitution_there : Holds There (does (a_substitution inner b ss) Whole g outer)
       unfolding a_substitution one_substitution substitution_list next_token
       substitution_there =

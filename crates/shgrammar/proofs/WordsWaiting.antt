@@ -29,12 +29,15 @@ onto t (Ok x) = Ok (x.0, place_of t x.1.at)
 onto t (Err f) = Err f
 
 module _ (g : Given) where
+  -- r reads the same, whatever waits where it stands
   pub record Blind {X : Type 0} (r : Form X) : Type 0 where
     pub alike : (s t : State) → does r Whole g (place_of t s.at) ≡ onto t (does r Whole g s)
 
+  -- so it is with what is seen
   abbrev Unseen : {X : Type 0} → Sight X → Type 0
   Unseen f = (s t : State) → seen f g (place_of t s.at) ≡ seen f g s
 
+  -- so it is with what gives, stops, adds an element or moves
   blind_give : {X : Type 0} {x : X} → Blind (give x)
   blind_give = record { alike = λ s t. refl }
 
@@ -47,6 +50,7 @@ module _ (g : Given) where
   blind_move : {m : Move} → Blind (move m)
   blind_move = record { alike = λ s t. refl }
 
+  -- with one form and then another, with what sees or moves first, and with one form of two
   blind_both : {X Y : Type 0} {r : Form X} {q : X → Form Y} → Blind r → ((x : X) → Blind (q x)) → Blind (both r q)
   blind_both {X = X} {r = r} {q = q} one two =
       record {
@@ -82,6 +86,7 @@ module _ (g : Given) where
       by_test s t true = one.alike s t
       by_test s t false = two.alike s t
 
+  -- with one token
   blind_token : {X : Type 0} {told : Telling} {r : Form X} → Blind r → Blind (token told r)
   blind_token {X = X} {told = told} {r = r} one =
       record {
@@ -105,16 +110,19 @@ module _ (g : Given) where
       onto_level s t (Ok x) = refl
       onto_level s t (Err f) = refl
 
+  -- with what stands in a command substitution
   blind_inside : {X : Type 0} {r : Form X} → Blind r → Blind (in_substitution r)
   blind_inside one = record { alike = λ s t. one.alike s t }
 
   module _ {A : Type 0} (turn : A → Form (Step A)) (each : (a : A) → Blind (turn a)) where
+    -- at most n turns, and that this is so with them
     abbrev below_n : ℕ → A → State → Read A
     below_n n a s = turns_below g (λ b u. does (turn b) Whole g u) n a s
 
     abbrev Below : ℕ → Type 0
     Below n = (a : A) (s t : State) → below_n n a (place_of t s.at) ≡ onto t (below_n n a s)
 
+    -- what follows a turn: by whether it leads on, by what it says, and by its outcome
     on_by : (n : ℕ) → Below n → (t : State) (b : Bool) (c : A) (u : State) →
         cond b (below_n n c (place_of t u.at)) (Ok (c, place_of t u.at)) ≡ onto t (cond b (below_n n c u) (Ok (c, u)))
     on_by n more t true c u = more c u t
@@ -130,6 +138,7 @@ module _ (g : Given) where
     after_by n more s t (Ok x) = step_by n more s t x.0 x.1
     after_by n more s t (Err f) = refl
 
+    -- so it is with n turns, and with as many as there are
     below : (n : ℕ) → Below n
     unfolding turns_below
     below zero a s t = refl
@@ -142,6 +151,7 @@ module _ (g : Given) where
 
   -- ---- words
 
+  -- text in single quotes, in backquotes, and in dollar-single quotes
   single_blind : Blind single
   unfolding single
   single_blind = blind_sees (λ s t. refl)
@@ -163,11 +173,13 @@ module _ (g : Given) where
       (blind_when (λ s t. refl) blind_stop
       (blind_when (λ s t. refl) blind_stop (blind_sees (λ s t. refl) (λ x. blind_moves blind_give))))) tt)))
 
+  -- what may be opened in a word reads the same, too
   record Blinds (inner : Inner) : Type 0 where
     construct : (mode : Mode) (b : ℕ) (ss : Row ASubst) → Blind (inner.construct mode b ss)
     substitution : (b : ℕ) (ss : Row ASubst) → Blind (inner.substitution b ss)
 
   module _ (inner : Inner) (blinds : Blinds inner) where
+    -- a construct in a word, and each piece by its kind
     opened_blind : (mode : Mode) (b : ℕ) (h : WordSoFar) → Blind (opened inner mode b h)
     opened_blind mode b h = blind_both (blinds.construct mode b h.substs) (λ x. blind_give)
 
@@ -194,6 +206,7 @@ module _ (g : Given) where
     piece_blind mode b h pieces.BadClose = blind_sees (λ s t. refl) (λ x. blind_stop)
     piece_blind mode b h pieces.Ordinary = blind_moves blind_give
 
+    -- pieces up to the end of their construct, a word, and a command substitution
     contents_blind : (mode : Mode) (b : ℕ) (ss : Row ASubst) → Blind (contents inner mode b ss)
     unfolding contents a_piece
     contents_blind mode b ss = blind_both
@@ -208,6 +221,7 @@ module _ (g : Given) where
     unfolding a_substitution one_substitution
     substitution_blind b ss = blind_inside (blind_both blind_level (λ x. blind_sees (λ s t. refl) (λ q. blind_push)))
 
+  -- by how many more may be opened
   blind_rows : (room : ℕ) → Blinds (level room)
   unfolding level
   blind_rows zero = record { construct = λ mode b ss. blind_stop; substitution = λ b ss. blind_stop }
@@ -217,6 +231,7 @@ module _ (g : Given) where
         substitution = λ b ss. substitution_blind (level room) (blind_rows room) b ss;
       }
 
+  -- a word where so many constructs may be open
   pub blind_word : (room : ℕ) → Blind (a_word (level room))
   blind_word room = word_blind (level room) (blind_rows room)
 

@@ -47,6 +47,7 @@ not_last : (T : List ℕ) (q : ℕ) → is_last_backslash T q ≡ false → raw_
 not_last T q none e = not_end_low T (q + 1) (rw e at none)
 
 module _ (g : Given) where
+  -- the text that is given, and the state at another place
   abbrev T : List ℕ
   T = g.text
 
@@ -59,15 +60,18 @@ module _ (g : Given) where
 
   -- ---- turns that move on within the text
 
+  -- a turn that goes on moves on within the text, and Q holds after the last one
   abbrev Ends : {A : Type 0} → (State → Type 0) → State → Step A → State → Type 0
   Ends Q s (again a) t = On s a t
   Ends Q s (done a) t = Q t
 
   module _ {A : Type 0} (turn : A → Form (Step A)) (Q : State → Type 0)
       (each : (a : A) (s : State) → s.at ≤ length T → Holds (Ends Q s) (does (turn a) Whole g s)) where
+    -- Q holds after all turns
     abbrev Ended : A → State → Type 0
     Ended a s = Holds (λ (b : A) (t : State). Q t) (does (many turn a) Whole g s)
 
+    -- by what one turn gives, with less than n bytes left, and from each place of the text
     by_turn : (a : A) (s : State) (x : Read (Step A)) → does (turn a) Whole g s ≡ x → Holds (Ends Q s) x
         → ((b : A) (t : State) → length T - t.at < length T - s.at → t.at ≤ length T → Ended b t) → Ended a s
     unfolding many
@@ -89,6 +93,7 @@ module _ (g : Given) where
 
   -- ---- text that is not read
 
+  -- text in single quotes leads on within the text
   single_on : (s : State) → Holds (On s) (does single Whole g s)
   unfolding single
   single_on s =
@@ -102,13 +107,16 @@ module _ (g : Given) where
       q = next_quote T (past_byte T s.at)
 
   module _ (s0 : State) (how : Escaping) (b : ℕ) where
+    -- after each turn the reading is to the right of s0, and within the text
     abbrev LaterEnds : Step (Unit {0}) → State → Type 0
     LaterEnds x t = Turned Whole g (On s0) x t
 
+    -- a step that goes on, or ends, by a test
     later_step : (x : Bool) (t : State) → (s0.at < t.at) × (t.at ≤ length T) → LaterEnds (step_if x tt) t
     later_step true t so = so
     later_step false t so = so
 
+    -- one more backslash with its byte, or the byte that closes
     escaped_each : (u : Unit {0}) (s : State) → On s0 u s → Tells Whole g (escaped_turn how b u) LaterEnds s
     unfolding escaped_turn
     escaped_each u s so =
@@ -123,6 +131,7 @@ module _ (g : Given) where
         q : ℕ
         q = next_escaped how T s.at
 
+  -- text in backquotes, and in dollar-single quotes, leads on within the text
   backquoted_text_on : (s : State) → past_continuations T s.at < length T →
       Holds (On s) (does backquoted_text Whole g s)
   unfolding backquoted_text
@@ -146,6 +155,7 @@ module _ (g : Given) where
   abbrev pub Last : Mode → State → Type 0
   Last mode t = (t.at ≤ length T) × (mode ≡ Plain → ends_word T t.at ≡ true)
 
+  -- what may be opened ends within the text, and not before it begins
   pub record Stays (inner : Inner) : Type 0 where
     pub construct : (mode : Mode) (b : ℕ) (ss : Row ASubst) (s : State) → s.at ≤ length T →
         Holds (λ x t. (s.at ≤ t.at) × (t.at ≤ length T)) (does (inner.construct mode b ss) Whole g s)
@@ -178,6 +188,7 @@ module _ (g : Given) where
   Needs mode p pieces.Ordinary = past_continuations T p < length T
 
   module _ (mode : Mode) (n p : ℕ) where
+    -- what a piece needs is there: at a `)` in arithmetic, at the end, and at a `$`
     bracket_needs : (m : ℕ) (two : Bool) → stands T (past_byte T p) right_parenthesis ≡ two →
         past_continuations T p < length T →
         Needs Arith p (bracket_by m two)
@@ -205,6 +216,7 @@ module _ (g : Given) where
         (λ f. cond_both (v == left_brace) _ _ (Needs mode p) (λ d. next)
         (λ d. cond_both (v == apostrophe) _ _ (Needs mode p) (λ z. next) (λ z. lt))))
 
+    -- so it is at another byte, and by the byte that is read, or none
     byte_needs : (mode : Mode) (v : ℕ) → byte_at T p ≡ Some v → past_continuations T p < length T →
         Needs mode p (byte_by T p mode n v)
     unfolding ends_word
@@ -237,6 +249,7 @@ module _ (g : Given) where
         (λ f. cond_both (v == dollar_sign) _ _ (Needs mode p) (λ d. dollar_needs (byte_at T (past_byte T p)) refl lt)
         (λ d. byte_needs mode v is lt)))
 
+    -- and so for the piece that begins at p
     needs : Needs mode p (piece_at T mode n p)
     unfolding piece_at
     needs = needs_by (byte_at T p) refl
@@ -262,6 +275,7 @@ module _ (g : Given) where
     needs_known pieces.BadClose so = so
     needs_known pieces.Ordinary so = so
 
+  -- what closes a construct ends within the text; what closes a word stands where words end
   closer_last : (mode : Mode) (p : ℕ) → p ≤ length T → Closes mode p → (past_closer T mode p ≤ length T)
       × (mode ≡ Plain → ends_word T (past_closer T mode p) ≡ true)
   closer_last Plain p le so = (le, λ e. so)
@@ -272,12 +286,14 @@ module _ (g : Given) where
 
   module _ (inner : Inner) (stays : Stays inner) (mode : Mode) (b : ℕ) (c : WordSoFar) (s : State)
       (le : s.at ≤ length T) where
+    -- a turn moves on within the text, or the construct, or word, ends there
     abbrev Turn : Step WordSoFar → State → Type 0
     Turn x t = Ends (Last mode) s x t
 
     abbrev p : ℕ
     p = s.at
 
+    -- so it is where a construct opens
     opens : (m : Mode) (k : ℕ) (r : State) → s.at < r.at → r.at ≤ length T →
         Holds Turn (does (opened inner m k c) Whole g r)
     opens m k r on within =
@@ -285,6 +301,7 @@ module _ (g : Given) where
         (λ x t. Ok (again (word_so_far c.nested x), t))
         (stays.construct m k c.substs r within) (λ x t so. (omega (arith, on, so.0), so.1))
 
+    -- by the kind of the piece
     row : (x : Piece) → Needs mode p x → Holds Turn (does (piece_row inner mode b c x) Whole g s)
     row pieces.Closer so = closer_last mode p le so
     row pieces.Missing so = tt
@@ -319,6 +336,7 @@ module _ (g : Given) where
     row pieces.BadClose so = tt
     row pieces.Ordinary so = (after_low T p, after_high T p so)
 
+    -- and so for the piece that is there
     piece_turn : Holds Turn (does (a_piece inner mode b c) Whole g s)
     unfolding a_piece
     piece_turn = row (piece_in g.edition mode (piece_at T mode c.nested p))
@@ -328,6 +346,7 @@ module _ (g : Given) where
 
   module _ (inner : Inner) (stays : Stays inner) (mode : Mode) (b : ℕ) (ss : Row ASubst) (s : State)
       (le : s.at ≤ length T) where
+    -- pieces up to what closes them end within the text; those of a word, where a word may end
     pub contents_end : Holds (λ x t. Last mode t) (does (contents inner mode b ss) Whole g s)
     unfolding contents
     contents_end =
@@ -336,6 +355,7 @@ module _ (g : Given) where
         (many_end (a_piece inner mode b) (Last mode) (λ c t within. piece_turn inner stays mode b c t within)
         (word_so_far 0 ss) s le) (λ h t so. so)
 
+    -- and not before they begin
     contents_on : Holds (λ x t. (s.at ≤ t.at) × (t.at ≤ length T)) (does (contents inner mode b ss) Whole g s)
     contents_on = holds_both (does (contents inner mode b ss) Whole g s)
         (no_form_goes_back (contents inner mode b ss) Whole g s).told contents_end
@@ -376,6 +396,7 @@ module _ (g : Given) where
             (λ w t same. record { told = subst (λ (v : State). past_byte T v.at ≤ length T) (sym same) high })
         closed_by false l u e so = tells_after Whole g (λ w t. record { told = tt })
 
+    -- a command substitution ends within the text, and not before it begins
     substitution_high : (b : ℕ) (ss : Row ASubst) (s : State) →
         Tells Whole g (a_substitution inner b ss) (λ x t. t.at ≤ length T) s
     unfolding a_substitution one_substitution
@@ -393,6 +414,7 @@ module _ (g : Given) where
         holds_also (Ok (x, t)) one two = (one, two)
         holds_also (Err f) one two = tt
 
+  -- so it is with each number of constructs that may be opened
   pub stays_in : (room : ℕ) → Stays (level room)
   unfolding level
   stays_in zero = record { construct = λ mode b ss s le. tt; substitution = λ b ss s. tt }
@@ -402,6 +424,7 @@ module _ (g : Given) where
         substitution = λ b ss s. substitution_end (level room) (shown_level g room) b ss s;
       }
 
+  -- a word from p on ends within the text, where a byte ends words or the text ends
   word_last : (room p : ℕ) → p ≤ length T →
       Holds (λ x t. Last Plain t) (does (a_word (level room)) Whole g (standing p))
   unfolding a_word

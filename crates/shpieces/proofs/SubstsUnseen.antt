@@ -10,6 +10,7 @@ use Rattle.shprint.specs.declared.layout.Layout.{Layout}
 use Rattle.shprint.specs.Printed.{is_brace, is_broken_item, is_one_line, print_and_or, print_and_or_parts, print_bare, print_body, print_branch, print_branches, print_case, print_cases, print_command, print_compound, print_content, print_else, print_entries, print_entry, print_first_pattern, print_for_words, print_form, print_item, print_items, print_only, print_patterns, print_pipeline, print_pipes, print_simple, print_word}
 
 module _ (y : Layout) (B : List ℕ) (f h : Span → Span) where
+  -- the same with these trees and without: a word, an item, and whether an item is broken
   word_same : (x : AWord) → print_word (shape_of_word B (carried_word f h false x))
       ≡ print_word (shape_of_word B (carried_word f h true x))
   word_same (word span substs) = refl
@@ -25,6 +26,7 @@ module _ (y : Layout) (B : List ℕ) (f h : Span → Span) where
       ≡ is_broken_item (shape_of_item B (carried_item f h true x))
   broken_same (item broken what) = refl
 
+  -- items, and a simple command
   items_same : (margin : Text) (x : Items) →
       print_items y margin (shape_of_items B (carried_items f h false x))
       ≡ print_items y margin (shape_of_items B (carried_items f h true x))
@@ -37,6 +39,7 @@ module _ (y : Layout) (B : List ℕ) (f h : Span → Span) where
   simple_same margin no_item = refl
   simple_same margin (more_items i is) = rw (item_same i, items_same margin is) refl
 
+  -- the words of a `for`, and the patterns of an item of a `case`
   for_words_same : (margin : Text) (x : ForWords) →
       print_for_words y margin (shape_of_for_words B (carried_for_words f h false x))
       ≡ print_for_words y margin (shape_of_for_words B (carried_for_words f h true x))
@@ -55,6 +58,7 @@ module _ (y : Layout) (B : List ℕ) (f h : Span → Span) where
   first_pattern_same no_pattern = refl
   first_pattern_same (more_patterns w ws) = rw (word_same w, patterns_same ws) refl
 
+  -- whether a condition stands on one line, and whether the body of a function is in braces
   one_line_same : (x : Entries) →
       is_one_line (shape_of B (carried f h false x)) ≡ is_one_line (shape_of B (carried f h true x))
   one_line_same no_entry = refl
@@ -75,6 +79,7 @@ module _ (y : Layout) (B : List ℕ) (f h : Span → Span) where
   brace_same (formed (for_in name words body) mark redirects) = refl
   brace_same (formed (case_in w cases tail) mark redirects) = refl
 
+  -- a list and an entry, and what these hold
   mutual
     pub entries_same : (margin : Text) (x : Entries) →
         print_entries y margin (shape_of B (carried f h false x))
@@ -93,6 +98,7 @@ module _ (y : Layout) (B : List ℕ) (f h : Span → Span) where
     content_same margin (command a) = and_or_same margin a
     content_same margin (remark c) = refl
 
+    -- an and-or list, a pipeline, and their operands after the first
     and_or_same : (margin : Text) (x : AnAndOr) →
         print_and_or y margin (shape_of_and_or B (carried_and_or f h false x))
         ≡ print_and_or y margin (shape_of_and_or B (carried_and_or f h true x))
@@ -116,6 +122,7 @@ module _ (y : Layout) (B : List ℕ) (f h : Span → Span) where
     pipes_same margin broken no_pipe = refl
     pipes_same margin broken (more_pipes join c cs) = rw (command_same _ c, pipes_same margin _ cs) refl
 
+    -- commands by their kind, and compound commands by their form
     command_same : (margin : Text) (x : ACommand) →
         print_command y margin (shape_of_command B (carried_command f h false x))
         ≡ print_command y margin (shape_of_command B (carried_command f h true x))
@@ -142,6 +149,7 @@ module _ (y : Layout) (B : List ℕ) (f h : Span → Span) where
         rw (word_same name, for_words_same margin words, entries_same _ body) refl
     form_same margin (case_in w cases tail) = rw (word_same w, cases_same _ cases) refl
 
+    -- a condition and what it runs
     branch_same : (margin : Text) (opener opens_body : Text) (x : ABranch) →
         print_branch y margin opener opens_body (shape_of_branch B (carried_branch f h false x))
         ≡ print_branch y margin opener opens_body (shape_of_branch B (carried_branch f h true x))
@@ -158,6 +166,7 @@ module _ (y : Layout) (B : List ℕ) (f h : Span → Span) where
         ≡ print_bare y margin (shape_of_entry B (carried_entry f h true x))
     bare_same margin (entry what background blank comment) = content_same margin what
 
+    -- each `elif`, and `else`
     branches_same : (margin : Text) (x : Branches) →
         print_branches y margin (shape_of_branches B (carried_branches f h false x))
         ≡ print_branches y margin (shape_of_branches B (carried_branches f h true x))
@@ -170,6 +179,7 @@ module _ (y : Layout) (B : List ℕ) (f h : Span → Span) where
     else_same margin no_else = refl
     else_same margin (otherwise es) = rw (entries_same _ es) refl
 
+    -- the items of a `case`
     cases_same : (margin : Text) (x : CaseItems) →
         print_cases y margin (shape_of_cases B (carried_cases f h false x))
         ≡ print_cases y margin (shape_of_cases B (carried_cases f h true x))
@@ -187,6 +197,7 @@ module _ (y : Layout) (B : List ℕ) (f h : Span → Span) where
     body_same margin no_entry = refl
     body_same margin (more_entries e es) = rw (entry_same _ e, entries_same _ es) refl
 
+  -- the entries of a line
   row_same : (margin : Text) (es : Row AnEntry) →
       print_entries y margin (shape_of B (entries_of (map (carried_entry f h false) es)))
       ≡ print_entries y margin (shape_of B (entries_of (map (carried_entry f h true) es)))
