@@ -138,7 +138,6 @@ pub spelled_more : (T : List ℕ) (p x : ℕ) (xs : List ℕ) →
 unfolding is_word_at
 spelled_more T p x xs = refl
 
--- what is not true is false
 -- bytes that both texts have from a up to L, and the one there, which ends whatever is looked for
 pub record ListEnds (edition : Edition) (T T2 : List ℕ) (a L : ℕ) (to : ℕ → ℕ) (c : ℕ) : Type 0 where
   pub kept : Kept edition T T2 a (L + 1) to

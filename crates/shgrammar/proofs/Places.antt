@@ -251,7 +251,7 @@ pub blanks_high : (T : List ℕ) (p : ℕ) → p ≤ length T → past_blanks T 
 unfolding past_blanks
 blanks_high T p within = place_high T (past is_blank T p) (past_high is_blank T p within)
 
--- nor a blank
+-- where blanks end, no blank stands
 pub blanks_stop : (T : List ℕ) (p : ℕ) → stands_in is_blank T (past_blanks T p) ≡ false
 unfolding past_blanks
 blanks_stop T p = stands_in_past is_blank T (past is_blank T p) ∙ past_stops is_blank T p

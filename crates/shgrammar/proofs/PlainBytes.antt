@@ -79,7 +79,7 @@ no_backslash Brace = refl
 no_backslash DoubleBrace = refl
 no_backslash Arith = refl
 
--- what ends a word begins no piece
+-- a byte that ends a word closes it
 closer_by : (T : List ℕ) (p n b : ℕ) → ends (Some b) ≡ true → piece_by T p Plain n (Some b) ≡ pieces.Closer
 closer_by T p n b end =
     let other : (b == backslash) ≡ false = grind (arith, nat_tests) in
@@ -91,7 +91,7 @@ pub closer_at : (T : List ℕ) (p n : ℕ) (a : Option ℕ) → ends a ≡ true 
 closer_at T p n None end = refl
 closer_at T p n (Some b) end = closer_by T p n b end
 
--- a word ends where no piece begins
+-- where a word ends, what is there closes it
 word_closes : (T : List ℕ) (q : ℕ) → ends_word T q ≡ true → piece_at T Plain 0 q ≡ pieces.Closer
 unfolding piece_at ends_word
 word_closes T q end = closer_at T q 0 (byte_at T q) end
