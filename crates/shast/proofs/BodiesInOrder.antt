@@ -2,51 +2,18 @@
 -- one more part says of the bodies.
 use Rattle.std.proofs.Common.{◌≡◌, List as Row, [], ◌∷◌, ◌++◌, refl}
 use Rattle.std.specs.Prelude.{Some, None}
-use Rattle.shast.specs.Tree.{EntriesOf, AnAndOrPartOf, APipelinePartOf, entries_of, and_or_parts_of, pipeline_parts_of, branches_of, cases_of, items_of, no_entry, more_entries, AnEntryOf, entry, AContentOf, command, remark, AnAndOrOf, and_or, AndOrPartsOf, no_and_or, more_and_or, APipelineOf, pipeline, PipelinePartsOf, no_pipe, more_pipes, ACommandOf, simple, compound, function, ACompoundOf, formed, AFormOf, brace, subshell, if_then, while_do, until_do, for_in, case_in, ABranchOf, branch, BranchesOf, no_branch, more_branches, OtherwiseOf, no_else, otherwise, CaseItemsOf, no_case, more_cases, ACaseItemOf, case_item, ItemsOf, no_item, more_items, AnItemOf, item, AnItemContentOf, assign, argument, redirect}
+use Rattle.shast.specs.Tree.{EntriesOf, entries_of, no_entry, more_entries, AnEntryOf, entry, AContentOf, command, remark, AnAndOrOf, and_or, AndOrPartsOf, no_and_or, more_and_or, APipelineOf, pipeline, PipelinePartsOf, no_pipe, more_pipes, ACommandOf, simple, compound, function, ACompoundOf, formed, AFormOf, brace, subshell, if_then, while_do, until_do, for_in, case_in, ABranchOf, branch, BranchesOf, no_branch, more_branches, OtherwiseOf, no_else, otherwise, CaseItemsOf, no_case, more_cases, ACaseItemOf, case_item, ItemsOf, no_item, more_items, AnItemOf, item, AnItemContentOf, assign, argument, redirect}
 use Rattle.shast.specs.Opened.{item_content_bodies, item_bodies, items_bodies, entries_bodies, entry_bodies, content_bodies, and_or_bodies, and_or_parts_bodies, pipeline_bodies, pipes_bodies, command_bodies, compound_bodies, form_bodies, branch_bodies, branches_bodies, else_bodies, cases_bodies, case_bodies, bodies_of}
 
 module _ {T M : Type 0} where
-  -- ---- a row of parts and another
+  -- ---- a row of entries and another
 
-  -- for each kind of part: the bodies of two rows are those of the first and then those of the second
+  -- the bodies of two rows are those of the first and then those of the second
   pub entries_append : (xs ys : Row (AnEntryOf T M)) (ts : Row T) →
       entries_bodies (entries_of (xs ++ ys)) ts ≡ entries_bodies (entries_of xs) (entries_bodies (entries_of ys) ts)
   unfolding entries_bodies
   entries_append [] ys ts = refl
   entries_append (x ∷ xs) ys ts = rw (entries_append xs ys ts) refl
-
-  pub and_or_parts_append : (xs ys : Row (AnAndOrPartOf T M)) (ts : Row T) →
-      and_or_parts_bodies (and_or_parts_of (xs ++ ys)) ts
-      ≡ and_or_parts_bodies (and_or_parts_of xs) (and_or_parts_bodies (and_or_parts_of ys) ts)
-  unfolding and_or_parts_bodies
-  and_or_parts_append [] ys ts = refl
-  and_or_parts_append (x ∷ xs) ys ts = rw (and_or_parts_append xs ys ts) refl
-
-  pub pipes_append : (xs ys : Row (APipelinePartOf T M)) (ts : Row T) →
-      pipes_bodies (pipeline_parts_of (xs ++ ys)) ts
-      ≡ pipes_bodies (pipeline_parts_of xs) (pipes_bodies (pipeline_parts_of ys) ts)
-  unfolding pipes_bodies
-  pipes_append [] ys ts = refl
-  pipes_append (x ∷ xs) ys ts = rw (pipes_append xs ys ts) refl
-
-  pub branches_append : (xs ys : Row (ABranchOf T M)) (ts : Row T) →
-      branches_bodies (branches_of (xs ++ ys)) ts
-      ≡ branches_bodies (branches_of xs) (branches_bodies (branches_of ys) ts)
-  unfolding branches_bodies
-  branches_append [] ys ts = refl
-  branches_append (x ∷ xs) ys ts = rw (branches_append xs ys ts) refl
-
-  pub cases_append : (xs ys : Row (ACaseItemOf T M)) (ts : Row T) →
-      cases_bodies (cases_of (xs ++ ys)) ts ≡ cases_bodies (cases_of xs) (cases_bodies (cases_of ys) ts)
-  unfolding cases_bodies
-  cases_append [] ys ts = refl
-  cases_append (x ∷ xs) ys ts = rw (cases_append xs ys ts) refl
-
-  pub items_append : (xs ys : Row (AnItemOf T M)) (ts : Row T) →
-      items_bodies (items_of (xs ++ ys)) ts ≡ items_bodies (items_of xs) (items_bodies (items_of ys) ts)
-  unfolding items_bodies
-  items_append [] ys ts = refl
-  items_append (x ∷ xs) ys ts = rw (items_append xs ys ts) refl
 
   -- ---- the bodies of a part stand before what follows
 
