@@ -1,17 +1,8 @@
--- How long an edited text is, and how an edit is undone.
+-- How an edit is undone.
 use Rattle.std.proofs.Common.{◌≡◌, ℕ, ◌+◌, ◌-◌, ◌≤◌, List, ◌++◌, length, take, drop, sym, ap, ◌∙◌, arith}
-use Rattle.std.proofs.lemmas.List.{length-append, length-take, length-take-le, length-drop, drop-drop, take-append-drop}
+use Rattle.std.proofs.lemmas.List.{length-take-le, drop-drop, take-append-drop}
 use Rattle.std.proofs.Math.Seq.{take-append_seam, drop-append_seam, drop-append-add}
 use Rattle.shtext.specs.Edit.{spliced}
-
-pub edited_length : (bytes : List ℕ) (a b : ℕ) (new : List ℕ) → a ≤ b → b ≤ length bytes
-    → length (spliced bytes a b new) ≡ length bytes - (b - a) + length new
-edited_length bytes a b new order within =
-    let all = length-append (take a bytes) (new ++ drop b bytes) in
-    let rest = length-append new (drop b bytes) in
-    let before = length-take a bytes in
-    let after = length-drop b bytes in
-    grind (arith, all, rest, before, after, order, within)
 
 pub undone : (bytes new : List ℕ) (a b : ℕ) → a ≤ b → b ≤ length bytes
     → spliced (spliced bytes a b new) a (a + length new) (take (b - a) (drop a bytes)) ≡ bytes

@@ -1,6 +1,6 @@
 -- Chunks that are filled one after the other.
-use Rattle.std.proofs.Common.{◌≡◌, ℕ, ◌+◌, ◌-◌, ◌<◌, ◌≤◌, List, ◌++◌, List as Row, length, take, drop, set, sym, ap, subst, ◌∙◌, arith}
-use Rattle.std.proofs.lemmas.List.{drop-drop, drop_at, length-append, length-drop, length-take-le, take_more_set}
+use Rattle.std.proofs.Common.{◌≡◌, ℕ, ◌+◌, ◌<◌, ◌≤◌, List, ◌++◌, List as Row, length, take, drop, set, sym, ap, subst, ◌∙◌, arith}
+use Rattle.std.proofs.lemmas.List.{drop-drop, drop_at, length-take-le, take_more_set}
 use Rattle.std.proofs.Math.Seq.{take-add}
 use Rattle.shtext.specs.Chunks.{AreFull, EachHas, LeavesFull, Refilled, joined, most, needed, put_between}
 use Rattle.shtext.proofs.Fullness.{Each, each_between, each_push, full_between, full_filled, not_empty, not_small}
@@ -26,17 +26,6 @@ module _ (ks js : Row (List ℕ)) (from to : ℕ) (bytes : List ℕ) (is : Refil
       ap joined is.row ∙ joined_append (take from ks) (is.filled ++ drop to ks)
       ∙ ap (λ l. joined (take from ks) ++ l)
       (joined_append is.filled (drop to ks) ∙ ap (λ l. l ++ joined (drop to ks)) is.all)
-
-  -- how many chunks there are
-  pub refilled_count : from ≤ to → to ≤ length ks → length js + (to - from) ≡ length ks + needed (length bytes)
-  refilled_count order within =
-      let all = ap length is.row in
-      let one = length-append (take from ks) (is.filled ++ drop to ks) in
-      let two = length-append is.filled (drop to ks) in
-      let three = length-take-le from ks (omega (arith, order, within)) in
-      let four = length-drop to ks in
-      let count : length is.filled ≡ needed (length bytes) = is.count in
-      omega (arith, all, one, two, three, four, count, order, within)
 
   -- those after them stay
   pub refilled_after : from ≤ to → to ≤ length ks → drop (from + needed (length bytes)) js ≡ drop to ks

@@ -1,5 +1,5 @@
 -- Chunks of which none is empty, none too long, and none but the last small.
-use Rattle.std.proofs.Common.{zero, suc, ◌*◌, ◌≡◌, ◌⊎◌, ℕ, ◌+◌, ◌-◌, ◌<◌, ◌≤◌, List, [], ◌∷◌, ◌++◌, List as Row, length, take, drop, min, refl, sym, ap, subst, ◌∙◌, arith, ⊎_elim, Result, Ok, Err, IfOk}
+use Rattle.std.proofs.Common.{zero, suc, ◌*◌, ◌≡◌, ◌⊎◌, ℕ, ◌+◌, ◌-◌, ◌<◌, ◌≤◌, List, [], ◌∷◌, ◌++◌, List as Row, length, take, drop, min, refl, sym, ap, subst, ◌∙◌, arith, ⊎_elim}
 use Rattle.std.proofs.lemmas.Bool.{cases_lt}
 use Rattle.std.proofs.lemmas.List.{get_or-append_right, get_or_append_left, get_or-drop, get_or_default, get_or_push, get_or-take, length-append, length-drop, length-take, length-take-le, take_all}
 use Rattle.shtext.specs.Chunks.{AreFull, EachHas, chunk_at, fewest, joined, most, needed}
@@ -142,12 +142,6 @@ last_few least ks n all last =
 -- so they are enough for as many bytes, with those that others need
 pub needed_more : (held count len more : ℕ) → held ≤ count * most → len ≤ held + more → needed len ≤ count + needed more
 needed_more held count len more few all = omega (arith, few, all)
-
--- two facts of a value
-pub both : {X E : Type 0} {P Q R : X → Type 0} (r : Result X E) → IfOk r P → IfOk r Q → ((x : X) → P x → Q x → R x) →
-    IfOk r R
-both (Ok x) p q f = f x p q
-both (Err e) p q f = p
 
 -- so there are not many
 full_sum : (ks : Row (List ℕ)) (n : ℕ) → n + 1 ≤ length ks → AreFull ks → n * fewest ≤ length (joined (take n ks))

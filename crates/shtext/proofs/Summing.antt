@@ -1,24 +1,11 @@
 -- Sums over chunks.
-use Rattle.std.proofs.Common.{zero, suc, ◌≡◌, ℕ, ◌+◌, ◌<◌, ◌≤◌, List, [], ◌∷◌, ◌++◌, List as Row, length, get_or, set, ◌≢◌, sym, ap, ◌∙◌, subst, arith, ⊎_elim, count_by}
+use Rattle.std.proofs.Common.{zero, suc, ◌≡◌, ℕ, ◌+◌, ◌<◌, ◌≤◌, List, [], ◌++◌, List as Row, length, get_or, set, ◌≢◌, sym, ap, ◌∙◌, subst, arith, ⊎_elim, count_by}
 use Rattle.std.proofs.lemmas.Bool.{cases_lt}
-use Rattle.std.proofs.lemmas.List.{get_or-set_other, get_or-set_same, get_or_append_left, get_or_push}
+use Rattle.std.proofs.lemmas.List.{get_or-set_other, get_or-set_same}
 use Rattle.shtext.specs.Chunks.{HasSums, before}
 use Rattle.shsource.specs.Text.{is_newline}
 use Rattle.shtext.proofs.Joined.{joined_nil}
 use Rattle.std.proofs.lemmas.List.Sums.{sum_by-append}
-
--- one more sum
-pub sums_push : (F : ℕ → ℕ) (sums : List ℕ) (n x : ℕ) → length sums ≡ n → ((m : ℕ) → m ≤ n → before sums m ≡ F m) →
-    x ≡ F (n + 1)
-    → (m : ℕ) → m ≤ n + 1 → before (sums ++ x ∷ []) m ≡ F m
-sums_push F sums n x long all is zero low = all zero (omega arith)
-sums_push F sums n x long all is (suc m) low =
-    ⊎_elim
-    (λ (lt : m < n). get_or_append_left sums (x ∷ []) 0 m (omega (arith, lt, long)) ∙ all (suc m) (omega (arith, lt)))
-    (λ (ge : n ≤ m).
-    let same : n + 1 ≡ suc m = omega (arith, ge, low) in
-    get_or_push sums x 0 m (omega (arith, long, same)) ∙ is ∙ ap F same)
-    (cases_lt m n)
 
 -- one that is another than it was
 pub sums_set : (F : ℕ → ℕ) (sums : List ℕ) (n x : ℕ) → n < length sums → ((m : ℕ) → m ≤ n → before sums m ≡ F m) →
