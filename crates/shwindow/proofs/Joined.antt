@@ -160,11 +160,6 @@ from_some ks p x is =
     (λ (high : length ks ≤ p.block). let none = ap first_of (from_end ks p high) in absurd cc)
     (cases_lt p.block (length ks))
 
--- and it is the line that stands at the place
-pub from_first : {X : Type 0} (ks : Row (Row X)) (p : BlockPlace) (h : X) → p.line < length (block_at ks p.block) →
-    h ≡ get_or (block_at ks p.block) p.line h → first_of (lines_from ks p) ≡ Some h
-from_first ks p h low is = ap first_of (from_line ks p h low) ∙ ap Some (sym is)
-
 -- a row that has a first element begins with it, and a row that has none is empty
 pub first_some : {X : Type 0} (xs : Row X) (x : X) → Some x ≡ first_of xs → (ys : Row X) × (xs ≡ x ∷ ys)
 first_some [] x is = absurd cc

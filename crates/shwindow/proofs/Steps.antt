@@ -7,7 +7,7 @@ use Rattle.shwindow.specs.Lines.{Reads, extent, IsRow, last_line, more_lines, Is
 use Rattle.shwindow.specs.Hand.{Passes, none_passed, one_passed}
 use Rattle.shwindow.specs.Window.{Apart, Begins, IsShared, Ends, meets, never}
 use Rattle.shwindow.proofs.Boundaries.{gap, boundary_stays, boundary_within}
-use Rattle.shwindow.proofs.Rows.{extent_push, row_at, row_extent, row_head, row_some}
+use Rattle.shwindow.proofs.Rows.{extent_push, row_at, row_head, row_some}
 
 -- lines begin at o or after it, if there are any
 abbrev pub Past : {K : Type 0} → ℕ → ℕ → Row (HeldLine K) → Type 0
@@ -95,14 +95,6 @@ module _ {K : Type 0} (Is : List ℕ → HeldLine K → Type 0) (laws : Reads Is
       let same : p ≡ o = omega (arith, low, high) in
       some (none same)
   found_none o p _ (empty_hand none) past at_o not_met = let lt = none o at_o in omega arith
-
-  -- the first one in hand ends in the old text
-  hold_fits : (o p : ℕ) (h : HeldLine K) (hs : Row (HeldLine K)) → Holds Is B o p (h ∷ hs) → p + h.len ≤ length B
-  unfolding extent
-  hold_fits o p h hs (in_hand at row least) =
-      let within = boundary_within Is laws B p at in
-      let all = row_extent Is laws (drop p B) (h ∷ hs) row in
-      omega (arith, within, all, length-drop p B)
 
 -- ---- the window
 
