@@ -13,7 +13,7 @@ use Rattle.shgrammar.specs.declared.token.Token.TheVariants as tokens
 use Rattle.shgrammar.specs.Tokens.{Spelling, is_word_at, first_of_words, reserved_words, reserved_at, begins_assignment, greater_at, is_name_at, is_number, less_at, word_by, token_of, token_at, next_at}
 use Rattle.shgrammar.proofs.Stretches.{place_low, past_more, past_none, stands_in_low, joined_none, joined_more, raw_more, raw_none}
 use Rattle.shgrammar.proofs.Places.{must_fail, after_low, past_low}
-use Rattle.shgrammar.proofs.SameBytes.{Kept, WordEnds, goes_on, Safe, at_limit, halts, one_byte, two_bytes, Place, inside, outside, Here, no_backslash, on_no_backslash, continued, safe_high, safe_low, safe_place, safe_after, none_same, pair_same, place, raw_same, here_byte, here_after, on_no_backslash_by}
+use Rattle.shgrammar.proofs.SameBytes.{Kept, goes_on, Safe, at_limit, halts, one_byte, two_bytes, Place, inside, outside, Here, no_backslash, on_no_backslash, continued, safe_high, safe_low, safe_place, safe_after, none_same, pair_same, place, raw_same, here_byte, here_after, on_no_backslash_by}
 use Rattle.shgrammar.specs.declared.edition.Edition.{Edition}
 
 -- the place after a byte is one past the continuations before it
@@ -69,16 +69,9 @@ pub record Goes (c : ℕ) (test : ℕ → Bool) : Type 0 where
   pub on : (b : ℕ) → test b ≡ true → goes_on b ≡ true
   pub not_limit : test c ≡ false
 
--- such tests: for a byte of a name, a letter, a digit, a blank, and for one such byte
+-- such tests: for a byte of a name, a digit, a blank, and for one such byte
 pub goes_name : (c : ℕ) → Ender c → Goes c is_name
 goes_name c e = record {
-  on = λ b f. grind (arith, nat_tests);
-  not_limit = let f = e.ends_it in
-      grind (arith, nat_tests);
-}
-
-pub goes_letter : (c : ℕ) → Ender c → Goes c is_letter
-goes_letter c e = record {
   on = λ b f. grind (arith, nat_tests);
   not_limit = let f = e.ends_it in
       grind (arith, nat_tests);
@@ -170,20 +163,6 @@ module _ {edition : Edition} {T T2 : List ℕ} {a L : ℕ} {to : ℕ → ℕ} {c
 
   limit_place_there : past_continuations T2 (to L) ≡ to L
   limit_place_there = joined_none T2 (to L) (no_backslash T2 (to L) limit_clear_there)
-
-  limit_byte : byte_at T L ≡ Some c
-  limit_byte = ap (slice_get T) limit_place ∙ E.byte
-
-  limit_byte_there : byte_at T2 (to L) ≡ Some c
-  limit_byte_there = ap (slice_get T2) limit_place_there ∙ E.kept.same L E.under (omega arith) ∙ E.byte
-
-  -- a word ends there in both
-  pub W : WordEnds T T2 L to
-  W = record {
-    here = ap ends limit_byte ∙ E.ender.ends_it;
-    there = ap ends limit_byte_there ∙ E.ender.ends_it;
-    closed = ap (λ b. is_byte b left_parenthesis) limit_byte_there ∙ E.ender.no_open;
-  }
 
   -- where no continuation begins in the first text none begins in the second
   at_limit_same : (p : ℕ) → a ≤ p → p < L → continues T p ≡ false → continues T2 (to p) ≡ false

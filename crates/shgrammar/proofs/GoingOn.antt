@@ -1,6 +1,6 @@
 -- What a form reads up to a good place it reads in another text that has the bytes up to
 -- there: the laws of forms, for what is of the same shape.
-use Rattle.std.proofs.Common.{◌≡◌, ℕ, zero, suc, ◌+◌, ◌-◌, ◌≤◌, ◌<◌, Bool, true, false, Ok, Err, Option, Some, None, option_map, Result, List, List as Row, [], ◌∷◌, ◌++◌, length, map, drop, refl, sym, ap, subst, ◌∙◌, arith}
+use Rattle.std.proofs.Common.{◌≡◌, ℕ, zero, suc, ◌+◌, ◌-◌, ◌≤◌, ◌<◌, Bool, true, false, Ok, Err, Option, Some, None, Result, List, List as Row, [], ◌∷◌, ◌++◌, length, map, drop, refl, sym, ap, subst, ◌∙◌, arith}
 use Rattle.std.proofs.lemmas.Bool.{ltb-true}
 use Rattle.std.proofs.lemmas.List.{map-append}
 use Rattle.shgrammar.specs.declared.keep.Keep.TheVariants.{Whole}
@@ -9,7 +9,7 @@ use Rattle.shgrammar.specs.declared.fault.FaultKind.{FaultKind}
 use Rattle.shast.specs.declared.tree.Span.{Span}
 use Rattle.shast.specs.Shape.{text_at}
 use Rattle.shgrammar.specs.Comments.{span}
-use Rattle.shgrammar.specs.Sights.{Given, given, State, Waiting, Sight, a_document_waits, seen, Move}
+use Rattle.shgrammar.specs.Sights.{Given, given, State, Waiting, Sight, seen, Move}
 use Rattle.shgrammar.specs.HereDocuments.{Change, waits, bodies_here, changed, past_line, delimiter_from, body_by, bodies_from, state_by, with_waiting, own_level}
 use Rattle.shgrammar.specs.Form.{change, with_bytes, a_level, nothing_read, raw, Spelled, Telling, Read, ◌▸◌, Form, give, see, move, push, stop, both, when, token, loop, many, ends_as, Step, again, done, leads_on, turns, does, in_substitution}
 use Rattle.shgrammar.specs.Commands.{pick}
@@ -22,7 +22,7 @@ use Rattle.shgrammar.proofs.Inside.{same_leads}
 use Rattle.shgrammar.proofs.Places.{next_newline_low}
 use Rattle.shgrammar.proofs.Delimiters.{between, bodies_low}
 use Rattle.shgrammar.proofs.Shifted.{shifted, from_to, state_from}
-use Rattle.shgrammar.proofs.BodiesThere.{move_span, move_waiting, moved_to, bodies_over, waits_over, first_over, change_good}
+use Rattle.shgrammar.proofs.BodiesThere.{move_span, move_waiting, moved_to, bodies_over, waits_over, change_good}
 use Rattle.shgrammar.proofs.Spelling.{raw_at}
 use Rattle.shgrammar.specs.declared.edition.Edition.{Edition}
 
@@ -218,11 +218,6 @@ module _ {edition : Edition} {T U : List ℕ} {a M : ℕ} {to : ℕ → ℕ} {li
     go =
         λ s from. λ e. (tt, (ap nothing_read (waits_over E o o2 w s (with_waiting w s) refl), tt));
   }
-
-  -- whether one waits
-  pub go_first : Goes (λ (x y : Option ℕ). y ≡ option_map (λ (n : ℕ). shifted (o + a) (o2 + to a) n) x)
-      (see a_document_waits) (see a_document_waits)
-  go_first = record { go = λ s from. λ e. (seen a_document_waits h (over s), (refl, first_over E o o2 s)) }
 
   module _ {X Y V W : Type 0} {S : X → Y → Type 0} {R : V → W → Type 0} {r : Form X} {q : Form Y} {f : X → Form V}
       {k : Y → Form W} (first : Goes S r q) (rest : (x : X) (y : Y) → S x y → Goes R (f x) (k y))

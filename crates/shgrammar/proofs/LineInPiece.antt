@@ -101,17 +101,7 @@ alone_by edition deep H q blank newline es t (Ok ((fs, ended), u)) is same =
     (fs, u, is ∙ ap (λ (b : Bool). Ok ((fs, b), u)) (sym same.1), same.0, same.2)
 alone_by edition deep H q blank newline es t (Err f) is same = absurd same
 
--- the line by itself
-pub alone : (edition : Edition) → (H : List ℕ) (q : ℕ) (blank newline : Bool) (es : Row AnEntry) (t : State) →
-    line_from edition H Whole blank q ≡ Ok ((es, newline), t)
-    → (fs : Row AnEntry) × (u : State) × (line_told edition H Whole false q 0 ≡ Ok ((fs, newline), u))
-    × (es ≡ blanked_row blank (map (moved_entry q) fs)) × (t.at ≡ u.at)
-alone edition H q blank newline es t read =
-    alone_by edition true H q blank newline es t (line_told edition H Whole false q 0) refl
-    (subst (λ (y : Read (Row AnEntry × Bool)). Same q blank y (line_told edition H Whole false q 0)) read
-    (line_moved edition H q blank))
-
--- the same of one that was read without the trees in its command substitutions
+-- the line by itself, of one that was read without the trees in its command substitutions
 pub outer_alone : (edition : Edition) → (H : List ℕ) (q : ℕ) (blank newline : Bool) (es : Row AnEntry) (t : State) →
     line_from edition H Outer blank q ≡ Ok ((es, newline), t)
     → (fs : Row AnEntry) × (u : State) × (line_told edition H Whole false q 0 ≡ Ok ((fs, newline), u))

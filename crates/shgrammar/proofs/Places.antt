@@ -60,11 +60,6 @@ pub stands_in_past : (test : ℕ → Bool) (T : List ℕ) (p : ℕ) →
 unfolding stands_in
 stands_in_past test T p = ap (λ q. passes test (slice_get T q)) (place_same T p)
 
--- what is read is the byte past continuations
-pub stands_raw : (T : List ℕ) (p c : ℕ) → stands T p c ≡ raw_stands T (past_continuations T p) c
-unfolding stands raw_stands
-stands_raw T p c = refl
-
 -- ---- one byte
 
 -- where a byte is got there is one
@@ -105,11 +100,6 @@ end_high T p e = high (slice_get T p) refl e
 pub after_low : (T : List ℕ) (p : ℕ) → p < past_byte T p
 unfolding past_byte
 after_low T p = omega (arith, place_low T p)
-
--- the place past continuations is before the one after the byte
-pub after_place : (T : List ℕ) (p : ℕ) → past_continuations T p < past_byte T p
-unfolding past_byte
-after_place T p = omega arith
 
 -- where a byte is read, the place after it is within the text
 pub after_high : (T : List ℕ) (p : ℕ) → past_continuations T p < length T → past_byte T p ≤ length T

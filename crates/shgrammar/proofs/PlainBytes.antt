@@ -10,7 +10,7 @@ use Rattle.shgrammar.specs.Pieces.{piece_by, piece_at, piece_in, past_closer}
 use Rattle.shgrammar.specs.Comments.{span}
 use Rattle.shgrammar.specs.Sights.{Given, State, Waiting, given}
 use Rattle.shast.specs.declared.tree.Span.{Span}
-use Rattle.shgrammar.specs.Form.{Read, ◌▸◌, again, done, does, many}
+use Rattle.shgrammar.specs.Form.{Read, ◌▸◌, again, does, many}
 use Rattle.shgrammar.specs.Words.{Inner, WordSoFar, word_so_far, a_piece, contents, a_word}
 use Rattle.shgrammar.specs.Levels.{level}
 use Rattle.shgrammar.specs.Plain.{is_special_in, is_plain, ArePlain}
@@ -154,14 +154,6 @@ module _ (inner : Inner) (keep : Keep) (g : Given) (mode : Mode) (b : ℕ) (ws :
       sym (plain_turns i q r plain low high)
       ∙ sym (many_again (a_piece inner mode b) keep g h i (placed vs es p) (placed ws ds q) piece onward within)
       ∙ before
-
-  -- the last piece
-  pub contents_done : (h : WordSoFar) (ss : Row ASubst) (vs : Row Waiting) (es : Row Span) (p s q : ℕ) →
-      all h p ≡ all_from vs es (word_so_far 0 ss) s → turn h (placed ws ds p) ≡ Ok (done h, placed ws ds q)
-      → does (contents inner mode b ss) keep g (placed vs es s) ≡ Ok (h.substs, placed ws ds q)
-  unfolding contents
-  contents_done h ss vs es p s q so last =
-      ap given_by (sym so ∙ many_done (a_piece inner mode b) keep g h h (placed ws ds p) (placed ws ds q) last)
 
   -- plain bytes, and what closes after them
   pub plain_closed : (ss : Row ASubst) (p q : ℕ) → ArePlain mode g.text p q → p ≤ q → q ≤ length g.text →

@@ -1,12 +1,12 @@
 -- One text and another that has the same bytes from a place on up to a limit: what is read there is the same.
 use Rattle.std.proofs.Common.{◌≡◌, ℕ, zero, suc, ◌+◌, ◌-◌, ◌≤◌, ◌<◌, ◌==◌, Bool, true, false, not, ◌&&◌, ◌||◌, List, Option, Some, None, slice_get, refl, sym, ap, subst, ◌∙◌, arith, ⊎_elim}
-use Rattle.std.proofs.lemmas.Bool.{and_parts, and_left, both_ways, cases_lt, cases_Bool}
+use Rattle.std.proofs.lemmas.Bool.{and_parts, and_left, both_ways, cases_Bool}
 use Rattle.std.proofs.lemmas.Bool.Decides.{nat_tests}
 use Rattle.shgrammar.specs.Standing.{is_byte, passes, raw_stands, raw_in, raw_past, continues}
 use Rattle.shgrammar.specs.Bytes.{ends, past_continuations, byte_at, past_byte, stands, stands_in}
 use Rattle.shgrammar.specs.Characters.{left_parenthesis, backslash, newline_char, number_sign}
 use Rattle.shgrammar.proofs.Stretches.{joined_more, joined_none, place_low, raw_is}
-use Rattle.shgrammar.proofs.Places.{must_fail, after_low, raw_past_low, raw_past_all, raw_past_stops}
+use Rattle.shgrammar.proofs.Places.{must_fail, raw_past_low, raw_past_all, raw_past_stops}
 use Rattle.shgrammar.specs.declared.edition.Edition.{Edition}
 
 -- `to` says where the places of the first text from `a` on are in the second; the bytes are the same below L
@@ -114,37 +114,6 @@ module _ {edition : Edition} {T T2 : List ℕ} {a L : ℕ} {to : ℕ → ℕ} (K
   pub safe_place : (p : ℕ) → a ≤ p → Safe T a L (past_continuations T p) → Safe T a L p
   safe_place p low rest = safe_place_below (suc (L - p)) p (omega arith) low (safe_high rest) rest
 
-  -- over any bytes of which the last is no backslash
-  safe_over_below : (n p e : ℕ) → e + 1 - p ≤ n → a ≤ p → p ≤ e + 1 → raw_stands T e backslash ≡ false →
-      Safe T a L (e + 1) →
-      Safe T a L p
-  safe_over_below zero p e few low le end rest = let is : e + 1 ≡ p = omega (arith, le, few) in
-      subst (Safe T a L) is rest
-  safe_over_below (suc n) p e few low le end rest = ⊎_elim
-      (λ lt. ⊎_elim
-      (λ c. let other : p < e = ⊎_elim (λ l. l)
-      (λ g. let is : p ≡ e = omega (arith, lt, g) in
-      absurd (both_ways (raw_stands T e backslash) end
-      (subst (λ x. raw_stands T x backslash ≡ true) is (continued T p c).0)))
-      (cases_lt p e) in
-      two_bytes low c (safe_over_below n (p + 2) e (omega (arith, few)) (omega (arith, low))
-      (omega (arith, other)) end rest))
-      (λ c. ⊎_elim
-      (λ b. let other : p < e = ⊎_elim (λ l. l)
-      (λ g. let is : p ≡ e = omega (arith, lt, g) in
-      absurd (both_ways (raw_stands T e backslash) end (subst (λ x. raw_stands T x backslash ≡ true) is b)))
-      (cases_lt p e) in
-      safe_escape p low c b (omega (arith, other, safe_high rest)))
-      (λ b. safe_byte p low b (safe_over_below n (p + 1) e (omega (arith, few)) (omega (arith, low))
-      (omega (arith, lt)) end rest))
-      (cases_Bool (raw_stands T p backslash)))
-      (cases_Bool (continues T p)))
-      (λ ge. let is : e + 1 ≡ p = omega (arith, le, ge) in subst (Safe T a L) is rest)
-      (cases_lt p (e + 1))
-
-  pub safe_over : (p e : ℕ) → a ≤ p → p ≤ e + 1 → raw_stands T e backslash ≡ false → Safe T a L (e + 1) → Safe T a L p
-  safe_over p e low le end rest = safe_over_below (suc (e + 1)) p e (omega arith) low le end rest
-
   -- ---- what is the same
 
   -- a byte before the limit, as it stands
@@ -250,13 +219,6 @@ module _ {edition : Edition} {T T2 : List ℕ} {a L : ℕ} {to : ℕ → ℕ} (K
     unfolding past_byte
     here_after = let low = place_low T p in
         ap (λ q. q + 1) h.there ∙ sym (K.on (past_continuations T p) 1 (omega (arith, h.low)))
-
-    pub here_high : past_byte T p ≤ L
-    unfolding past_byte
-    here_high = omega (arith, h.inside)
-
-    pub here_low : a ≤ past_byte T p
-    here_low = omega (arith, h.low, after_low T p)
 
   -- before a byte that is read and is no backslash
   pub safe_after : (p : ℕ) → a ≤ p → raw_stands T (past_continuations T p) backslash ≡ false →

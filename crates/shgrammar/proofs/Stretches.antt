@@ -183,10 +183,6 @@ no_blanks_before T (suc q) lt e =
     let back : suc q - 1 ≡ q = omega arith in
     rw (rw back at e) refl
 
-pub nothing_before : (T : List ℕ) (q : ℕ) → q ≡ 0 → before_blanks T q ≡ q
-unfolding before_blanks
-nothing_before T q e = rw e refl
-
 -- ---- words spelled out
 
 -- the rest of a word stands there, by its next byte, which is read or not, or by where the word ends

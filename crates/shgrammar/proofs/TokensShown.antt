@@ -635,12 +635,7 @@ close_byte position T p (Some b) is =
     let same : b ≡ right_parenthesis = grind (arith, nat_tests) in
     rw same refl
 
--- what closes as a `)` is that token
-closes_by : (t : Token) → is_closing closings.Paren t ≡ true → t ≡ tokens.CloseParen
-closes_by tokens.CloseParen e = refl
-closes_by _ e = absurd cc
-
--- an edition has it where the text has it
+-- an edition has a `)` where the text has one
 closes_in : (later : Bool) → is_closing closings.Paren (cond later tokens.SemicolonAmpersand tokens.Semicolon) ≡ true →
     ⊥
 closes_in true e = absurd cc
@@ -713,12 +708,7 @@ newline_byte position T p (Some b) is =
     let same : b ≡ newline_char = grind (arith, nat_tests, here) in
     rw same refl
 
--- only that token is a newline
-newline_is : (t : Token) → is_newline_token t ≡ true → t ≡ tokens.Newline
-newline_is tokens.Newline e = refl
-newline_is _ e = absurd cc
-
--- an edition has it where the text has it
+-- an edition has a newline where the text has one
 newline_in : (later : Bool) → is_newline_token (cond later tokens.SemicolonAmpersand tokens.Semicolon) ≡ true → ⊥
 newline_in true e = absurd cc
 newline_in false e = absurd cc
