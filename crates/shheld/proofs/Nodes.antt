@@ -77,18 +77,6 @@ pub row_nodes : (edition : Edition) (B : List ℕ) (row : Row (HeldLine AKind)) 
     entries_nodes (script_of row).entries ≡ lines_nodes 0 row
 row_nodes edition B row is = ap entries_nodes (row_entries edition B row is) ∙ walk_nodes edition B row is no_line
 
--- the nodes of two rows of lines, the second of which stands where the first ends
-pub lines_nodes_append : (base : ℕ) (xs ys : Row (HeldLine AKind)) →
-    lines_nodes base (xs ++ ys) ≡ lines_nodes base xs ++ lines_nodes (base + extent xs) ys
-unfolding extent
-lines_nodes_append base [] ys = let same : base ≡ base + 0 = omega arith in ap (λ b. lines_nodes b ys) same
-lines_nodes_append base (x ∷ xs) ys =
-    let same : base + x.len + extent xs ≡ base + (x.len + extent xs) = omega arith in
-    ap (λ ns. line_nodes base x ++ ns)
-    (lines_nodes_append (base + x.len) xs ys ∙ ap (λ b. lines_nodes (base + x.len) xs ++ lines_nodes b ys) same)
-    ∙ sym (append_assoc (line_nodes base x) (lines_nodes (base + x.len) xs)
-    (lines_nodes (base + (x.len + extent xs)) ys))
-
 -- ---- their places
 
 -- nodes that name no offset above n name none above base + n when they stand at the base
