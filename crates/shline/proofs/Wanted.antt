@@ -1,7 +1,6 @@
 -- Where memory is wanted: for a tree, or for a here-document.
-use Rattle.std.proofs.Common.{◌≡◌, ℕ, ◌<◌, ◌==◌, ◌||◌, Bool, true, false, List, [], ◌∷◌, Option, Some, None, All, drop, length, map, slice_get, zero, suc, refl, ap, ◌∙◌, arith}
+use Rattle.std.proofs.Common.{◌≡◌, ℕ, ◌<◌, ◌==◌, ◌||◌, Bool, true, false, List, [], ◌∷◌, Option, Some, None, drop, length, map, slice_get, zero, suc, refl, ap, ◌∙◌, arith}
 use Rattle.std.proofs.lemmas.Bool.{or_right}
-use Rattle.std.proofs.lemmas.List.Elements.{All-head}
 use Rattle.std.proofs.lemmas.List.Folds.{list_any_at}
 use Rattle.std.proofs.lemmas.Option.{get_or_from_slice_get, slice_get_within}
 use Rattle.std.specs.List.{list_any}
@@ -17,8 +16,7 @@ use Rattle.shgrammar.specs.Shows.{IsRead, Shows}
 use Rattle.shgrammar.specs.Tokens.{is_end}
 use Rattle.shgrammar.specs.Standing.{is_byte, raw_stands}
 use Rattle.shline.specs.Clauses.{is_compound}
-use Rattle.shline.specs.declared.documents.Waiting as the_waiting
-use Rattle.shline.specs.Limits.{Waits, limits, wants_memory}
+use Rattle.shline.specs.Limits.{wants_memory}
 
 -- a `<` at p is one in the text
 byte_some : (T : List ℕ) (p : ℕ) (b : Option ℕ) → slice_get T p ≡ b → is_byte b less_than_sign ≡ true →
@@ -42,12 +40,6 @@ is_operator _ o is = absurd cc
 pub operator_read : (T : List ℕ) (token : Token) (p : ℕ) (o : RedirectOperator) → Shows token T p →
     redirect_operator_of token ≡ Some o → IsRead T p
 operator_read T token p o shows is = shows.read (is_operator token o is)
-
--- one that waits has taken some
-pub waits_memory : (k origin : ℕ) (T : List ℕ) (ws : List the_waiting.Waiting) (i : ℕ) →
-    All (Waits (limits k origin T)) ws → i < length ws → wants_memory k T ≡ true
-waits_memory k origin T [] i all lt = absurd (omega (arith, lt))
-waits_memory k origin T (w ∷ ws) i all lt = (All-head (Waits (limits k origin T)) w ws all).1
 
 -- where comments are kept, and are none without a tree, there is a tree, whatever x is
 kept_by : (tree x : Bool) (cs : List Comment) → (tree ≡ false → map view_comment cs ≡ []) → 0 < length cs →
