@@ -1,6 +1,6 @@
 -- Text that is copied from a source, stretch by stretch or byte by byte.
 use Rattle.std.proofs.Common.{◌≡◌, ℕ, zero, suc, ◌+◌, ◌-◌, ◌<◌, ◌≤◌, ◌==◌, ◌&&◌, false, Option, Some, None, slice_get, List, [], ◌∷◌, ◌++◌, length, drop, take, refl, sym, ap, ◌∙◌, arith, length-drop}
-use Rattle.std.proofs.lemmas.List.{drop-drop, drop_all, places, take-take}
+use Rattle.std.proofs.lemmas.List.{drop-drop, places, take-take}
 use Rattle.std.proofs.Math.Seq.{take-add}
 use Rattle.std.specs.Option.{option_eq}
 use Rattle.std.proofs.lemmas.Grind.{same_number_lists}
@@ -33,10 +33,6 @@ module _ (B : List ℕ) (at : ℕ) (run : List ℕ) (is : IsRun B at run) where
       let parts : n ≡ length run + (n - length run) = omega (arith, le) in
       ap (λ m. take m (drop at B)) parts ∙ take-add (length run) (n - length run) (drop at B)
       ∙ rw (run_is, drop-drop (length run) at B) refl
-
-  -- it is empty where the text has ended
-  pub run_none : length run ≡ 0 → drop at B ≡ []
-  run_none empty = grind (arith, is.some, drop_all at B)
 
 -- ---- by the byte
 

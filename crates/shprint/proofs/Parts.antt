@@ -8,14 +8,14 @@ use Rattle.shast.specs.declared.tree.List as the_list
 use Rattle.shast.specs.declared.tree.Command.TheViews.{out-Function, out-List}
 use Rattle.shast.specs.declared.tree.Command.TheFolds.{fold_out-List}
 use Rattle.shast.specs.Shape.{Text, Shape, shape_of, shape_of_command, shape_of_comments, shape_of_compound, text_at}
-use Rattle.shast.specs.Tree.{ACompoundOf, AWordOf, AnEntryOf, EntriesOf, command, entries_of, entry, more_entries, no_entry, remark, word}
+use Rattle.shast.specs.Tree.{ACompoundOf, AWordOf, AnEntryOf, EntriesOf, command, entries_of, entry, more_entries, remark, word}
 use Rattle.shast.specs.View.{view_comment, view_compound, view_entry, view_function, view_list}
 use Rattle.shast.proofs.Seen.{function_seen}
 use Rattle.shprint.specs.declared.layout.Layout.{Layout}
 use Rattle.shprint.specs.declared.page.Page.{Page}
 use Rattle.shprint.specs.Marks.{Marks, text, line_end, deeper, one}
 use Rattle.shprint.specs.Printed.{case_margin, is_brace, is_one_line, operand_margin, print_body, print_command, print_comments, print_compound, print_entries, print_function_gap, print_here, print_only}
-use Rattle.shprint.specs.Written.{Prints, Sheet, is_bare, sheet, written}
+use Rattle.shprint.specs.Written.{Prints, Sheet, sheet, written}
 use Rattle.shprint.proofs.Writing.{written_append, written_cons}
 
 -- a list is seen by its entries
@@ -76,15 +76,6 @@ case_cut y m = operand_cut y m y.case_indent
 
 -- ---- conditions
 
--- one entry stands on the line where it is a command with nothing beside it
-pub one_alone : (e : Shape AnEntryOf) → is_one_line (more_entries e no_entry) ≡ is_bare e
-one_alone (entry (command a) false blank None) = refl
-one_alone (entry (command a) false blank (Some c)) = refl
-one_alone (entry (command a) true blank c) = refl
-one_alone (entry (remark r) false blank None) = refl
-one_alone (entry (remark r) false blank (Some c)) = refl
-one_alone (entry (remark r) true blank c) = refl
-
 -- two or more entries never do
 pub one_of_two : (e f : Shape AnEntryOf) (es : Shape EntriesOf) →
     is_one_line (more_entries e (more_entries f es)) ≡ false
@@ -107,12 +98,7 @@ module _ (B : List ℕ) (y : Layout) (m : Text) where
 
   -- ---- the body of an item of a `case`
 
-  -- without entries a space, and with some their lines
-  pub body_none : (es : Row Entry) → length es ≡ 0 →
-      print_body y m (shape_of B (entries_of (map view_entry es))) ≡ one (codes " ")
-  body_none [] e = refl
-  body_none (x ∷ es) e = absurd (omega (arith, e))
-
+  -- with entries their lines
   pub body_some : (es : Row Entry) → 0 < length es → print_body y m (shape_of B (entries_of (map view_entry es)))
       ≡ line_end ∷ print_entries y (deeper y m) (shape_of B (entries_of (map view_entry es))) ++ one (deeper y m)
   body_some [] lt = absurd (omega (arith, lt))

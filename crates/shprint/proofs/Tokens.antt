@@ -85,7 +85,7 @@ byte_here T p c xs clear at =
       rest = next_one T p c xs at;
     }
 
--- the class of a byte that is read, and which byte it is, with and without continuations before it
+-- the class of a byte that is read, and which byte it is
 pub in_class : {T : List ℕ} {p c : ℕ} {xs : List ℕ} (test : ℕ → Bool) → Reads T p c xs → stands_in test T p ≡ test c
 unfolding stands_in
 in_class test r = ap (passes test) r.byte
@@ -93,10 +93,6 @@ in_class test r = ap (passes test) r.byte
 pub is_here : {T : List ℕ} {p c : ℕ} {xs : List ℕ} (x : ℕ) → Reads T p c xs → stands T p x ≡ (c == x)
 unfolding stands
 is_here x r = ap (λ b. is_byte b x) r.byte
-
-pub is_here_raw : {T : List ℕ} {p c : ℕ} {xs : List ℕ} (x : ℕ) → Reads T p c xs → raw_stands T p x ≡ (c == x)
-unfolding raw_stands
-is_here_raw x r = ap (λ b. is_byte b x) r.raw
 
 -- ---- gaps
 
@@ -228,10 +224,6 @@ token_here {T = T} {p = p} position r = ap (token_of position T p) r.byte
 pub newline_token : (position : Position) (T : List ℕ) (p : ℕ) (xs : List ℕ) → drop p T ≡ newline_char ∷ xs →
     token_at position T p ≡ tokens.Newline
 newline_token position T p xs at = token_here position (byte_here T p newline_char xs refl at)
-
-pub comment_token : (position : Position) (T : List ℕ) (p : ℕ) (xs : List ℕ) → drop p T ≡ number_sign ∷ xs →
-    token_at position T p ≡ tokens.Comment
-comment_token position T p xs at = token_here position (byte_here T p number_sign xs refl at)
 
 pub open_token : (position : Position) (T : List ℕ) (p : ℕ) (xs : List ℕ) → drop p T ≡ left_parenthesis ∷ xs →
     token_at position T p ≡ tokens.OpenParen
