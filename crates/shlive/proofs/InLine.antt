@@ -4,11 +4,7 @@ use Rattle.shsource.specs.Text.{is_newline}
 use Rattle.shlive.specs.Requests.{Lined, first_line, with_text_before}
 use Rattle.shlive.specs.Lines.{IsInLine}
 
--- no text before a line leaves it, and two texts before it are one
-after_nothing : (l : Lined) → l ≡ with_text_before [] l
-after_nothing None = refl
-after_nothing (Some (line, rest)) = refl
-
+-- two texts before a line are one
 after_both : (t u : List ℕ) (l : Lined) → with_text_before t (with_text_before u l) ≡ with_text_before (t ++ u) l
 after_both t u None = refl
 after_both t u (Some (line, rest)) = ap (λ l. Some (l, rest)) (sym (append_assoc t u line))

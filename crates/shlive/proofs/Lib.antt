@@ -6,7 +6,6 @@ pub mod Printing
 pub mod Windows
 pub mod Passed
 pub mod Words
-pub mod Numbers
 pub mod Taken
 pub mod Came
 pub mod InLine

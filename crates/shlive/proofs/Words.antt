@@ -1,6 +1,5 @@
 -- The words of a line, found from left to right.
-use Rattle.std.proofs.Common.{◌≡◌, ℕ, ◌+◌, ◌<◌, ◌≤◌, ◌==◌, cond, Bool, true, false, List, [], ◌∷◌, ◌++◌, length, take, drop, get_or, refl, sym, ap, ◌∙◌, append_assoc, append-nil, add-one, drop-cons, None}
-use Rattle.std.proofs.lemmas.List.{take_more}
+use Rattle.std.proofs.Common.{◌≡◌, ℕ, ◌≤◌, ◌==◌, cond, Bool, true, false, List, [], ◌∷◌, ◌++◌, refl, sym, ap, append_assoc, None}
 use Rattle.shgrammar.specs.Characters.{space}
 use Rattle.shlive.specs.RequestKinds.{before, number_alone, kind_by_name, kind_of_words, part_of_words, words}
 
@@ -19,28 +18,6 @@ words_case b bs false = before_both [] (b ∷ []) (words bs)
 pub from_start : (line : List ℕ) → words line ≡ before [] (words line)
 from_start [] = refl
 from_start (b ∷ bs) = sym (words_case b bs (b == space))
-
--- the words from a byte on
-at_byte : (line : List ℕ) (at : ℕ) → at < length line
-    → words (drop at line) ≡ cond (get_or line at 0 == space) ([] ∷ words (drop (at + 1) line))
-    (before (get_or line at 0 ∷ []) (words (drop (at + 1) line)))
-at_byte line at low = rw (add-one, drop-cons line at 0) refl
-
--- a byte that is no blank goes on with the word before it
-pub goes_on : (line : List ℕ) (at : ℕ) → at < length line → (get_or line at 0 == space) ≡ false
-    → before (take at line) (words (drop at line)) ≡ before (take (at + 1) line) (words (drop (at + 1) line))
-goes_on line at low other =
-    let here : words (drop at line) ≡ before (get_or line at 0 ∷ []) (words (drop (at + 1) line)) = at_byte line at low
-    ∙ rw other refl in
-    ap (before (take at line)) here ∙ before_both (take at line) (get_or line at 0 ∷ []) (words (drop (at + 1) line))
-    ∙ ap (λ t. before t (words (drop (at + 1) line))) (sym (take_more line at 0 low))
-
--- a blank ends that word, and so does the end of the line
-pub cut_here : (line : List ℕ) (at : ℕ) → at < length line → (get_or line at 0 == space) ≡ true
-    → before (take at line) (words (drop at line)) ≡ take at line ∷ words (drop (at + 1) line)
-cut_here line at low blank =
-    let here : words (drop at line) ≡ [] ∷ words (drop (at + 1) line) = at_byte line at low ∙ rw blank refl in
-    ap (before (take at line)) here ∙ ap (λ t. t ∷ words (drop (at + 1) line)) (append-nil (take at line))
 
 -- ---- words too many
 
