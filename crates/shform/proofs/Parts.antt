@@ -5,7 +5,7 @@ use Rattle.std.proofs.lemmas.List.{append-nil, append_assoc, drop-append-le, tak
 use Rattle.std.proofs.lemmas.List.Sums.{fold-append, sum_by-append}
 use Rattle.std.proofs.lemmas.Option.{get_or_from_slice_get, slice_get_within}
 use Rattle.std.proofs.Math.Seq.{drop-drop, take-add}
-use Rattle.shform.specs.PartialScript.{EndsLine, Held, Holds, HoldsPrinted, IsLocatedAt, bytes_read}
+use Rattle.shform.specs.PartialScript.{EndsLine, Held, Holds, HoldsPrinted, IsLocatedAt}
 use Rattle.shform.specs.declared.partial_script.LocatedFault.{LocatedFault}
 use Rattle.shform.specs.declared.printed_part.PrintedPart.{PrintedPart}
 use Rattle.shpieces.specs.declared.by_line.Printing.{Printing}
@@ -20,10 +20,6 @@ use Rattle.shgrammar.specs.Scripts.{FirstFault}
 use Rattle.shgrammar.proofs.Stretches.{get_drop}
 use Rattle.shsource.specs.Text.{column_of, is_newline, line_of, since_newline}
 use Rattle.shtext.proofs.Newlines.{since_start}
-
--- how many bytes were read
-pub size_is : (read : List ℕ) (part : PartialScript) → Held read part → length read ≡ bytes_read part
-size_is read part is = omega (arith, is.low, length-drop part.passed read, ap length is.text)
 
 -- a fault that is moved twice, or not at all
 twice : (p n : ℕ) (f : Option Fault) →
