@@ -38,6 +38,10 @@ pub fn put_bodies_in(entries: &mut [Entry], bodies: &[Span])
     fill_entries(entries, bodies, &mut next);
 }
 
+// Each puts the bodies from that at `next` on into the documents of one kind of part, in their order, and
+// leaves `next` at the first that is left. What stands in words is passed over.
+
+/// Puts bodies into a list.
 #[cycle(fill)]
 fn fill_list(list: &mut List, bodies: &[Span], next: &mut usize)
     ensures { (view_list list.new, drop next.new bodies.now)
@@ -46,6 +50,7 @@ fn fill_list(list: &mut List, bodies: &[Span], next: &mut usize)
     fill_entries(&mut list.entries, bodies, next);
 }
 
+/// Puts bodies into the entries of a list.
 #[cycle(fill)]
 #[tactic(auto, using(shast::proofs::Going::going_more, shast::proofs::Going::going_over, shast::proofs::Going::entries_going, shast::proofs::Going::row_going))]
 fn fill_entries(entries: &mut [Entry], bodies: &[Span], next: &mut usize)
@@ -59,6 +64,7 @@ fn fill_entries(entries: &mut [Entry], bodies: &[Span], next: &mut usize)
     }
 }
 
+/// Puts bodies into an entry.
 #[cycle(fill)]
 #[tactic(auto, unfolding(shast::specs::Bodies::fill_entry), using(shast::proofs::Going::none_left))]
 fn fill_entry(entry: &mut Entry, bodies: &[Span], next: &mut usize)
@@ -71,6 +77,7 @@ fn fill_entry(entry: &mut Entry, bodies: &[Span], next: &mut usize)
     }
 }
 
+/// Puts bodies into an entry's content; a comment takes none.
 #[cycle(fill)]
 #[tactic(auto, unfolding(shast::specs::Bodies::fill_content))]
 fn fill_content(content: &mut Content, bodies: &[Span], next: &mut usize)
@@ -83,6 +90,7 @@ fn fill_content(content: &mut Content, bodies: &[Span], next: &mut usize)
     }
 }
 
+/// Puts bodies into an and-or list.
 #[cycle(fill)]
 #[tactic(auto, unfolding(shast::specs::Bodies::fill_and_or))]
 fn fill_and_or(and_or: &mut AndOr, bodies: &[Span], next: &mut usize)
@@ -93,6 +101,7 @@ fn fill_and_or(and_or: &mut AndOr, bodies: &[Span], next: &mut usize)
     fill_and_or_parts(&mut and_or.rest, bodies, next);
 }
 
+/// Puts bodies into the pipelines of an and-or list after its first one.
 #[cycle(fill)]
 #[tactic(auto, using(shast::proofs::Going::going_more, shast::proofs::Going::going_over, shast::proofs::Going::and_or_parts_going))]
 fn fill_and_or_parts(parts: &mut [AndOrPart], bodies: &[Span], next: &mut usize)
@@ -105,6 +114,7 @@ fn fill_and_or_parts(parts: &mut [AndOrPart], bodies: &[Span], next: &mut usize)
     }
 }
 
+/// Puts bodies into one of these.
 #[cycle(fill)]
 fn fill_and_or_part(part: &mut AndOrPart, bodies: &[Span], next: &mut usize)
     ensures { (view_and_or_part part.new, drop next.new bodies.now)
@@ -113,6 +123,7 @@ fn fill_and_or_part(part: &mut AndOrPart, bodies: &[Span], next: &mut usize)
     fill_pipeline(&mut part.pipeline, bodies, next);
 }
 
+/// Puts bodies into a pipeline.
 #[cycle(fill)]
 #[tactic(auto, unfolding(shast::specs::Bodies::fill_pipeline))]
 fn fill_pipeline(pipeline: &mut Pipeline, bodies: &[Span], next: &mut usize)
@@ -123,6 +134,7 @@ fn fill_pipeline(pipeline: &mut Pipeline, bodies: &[Span], next: &mut usize)
     fill_pipes(&mut pipeline.rest, bodies, next);
 }
 
+/// Puts bodies into the commands of a pipeline after its first one.
 #[cycle(fill)]
 #[tactic(auto, using(shast::proofs::Going::going_more, shast::proofs::Going::going_over, shast::proofs::Going::pipes_going))]
 fn fill_pipes(parts: &mut [PipelinePart], bodies: &[Span], next: &mut usize)
@@ -135,6 +147,7 @@ fn fill_pipes(parts: &mut [PipelinePart], bodies: &[Span], next: &mut usize)
     }
 }
 
+/// Puts bodies into one of these.
 #[cycle(fill)]
 fn fill_pipe(part: &mut PipelinePart, bodies: &[Span], next: &mut usize)
     ensures { (view_pipeline_part part.new, drop next.new bodies.now)
@@ -143,6 +156,7 @@ fn fill_pipe(part: &mut PipelinePart, bodies: &[Span], next: &mut usize)
     fill_command(&mut part.command, bodies, next);
 }
 
+/// Puts bodies into a command of any kind.
 #[cycle(fill)]
 #[tactic(auto, unfolding(shast::specs::Bodies::fill_command))]
 fn fill_command(command: &mut Command, bodies: &[Span], next: &mut usize)
@@ -156,6 +170,7 @@ fn fill_command(command: &mut Command, bodies: &[Span], next: &mut usize)
     }
 }
 
+/// Puts bodies into a compound command, as a command has it.
 #[cycle(fill)]
 fn fill_boxed(compound: &mut Box<Compound>, bodies: &[Span], next: &mut usize)
     ensures { (view_compound compound.new.value, drop next.new bodies.now)
@@ -164,6 +179,7 @@ fn fill_boxed(compound: &mut Box<Compound>, bodies: &[Span], next: &mut usize)
     fill_compound(compound, bodies, next);
 }
 
+/// Puts bodies into the definition of a function, as a command has it.
 #[cycle(fill)]
 fn fill_function(function: &mut Box<Function>, bodies: &[Span], next: &mut usize)
     ensures { (view_function function.new.value, drop next.new bodies.now)
@@ -172,6 +188,7 @@ fn fill_function(function: &mut Box<Function>, bodies: &[Span], next: &mut usize
     fill_body(function, bodies, next);
 }
 
+/// Puts bodies into the compound command of a function.
 #[cycle(fill)]
 #[tactic(auto, unfolding(shast::specs::Bodies::fill_command))]
 fn fill_body(function: &mut Function, bodies: &[Span], next: &mut usize)
@@ -181,6 +198,7 @@ fn fill_body(function: &mut Function, bodies: &[Span], next: &mut usize)
     fill_compound(&mut function.body, bodies, next);
 }
 
+/// Puts bodies into a compound command: into its form, and then its redirections.
 #[cycle(fill)]
 #[tactic(auto, unfolding(shast::specs::Bodies::fill_compound))]
 fn fill_compound(compound: &mut Compound, bodies: &[Span], next: &mut usize)
@@ -191,6 +209,7 @@ fn fill_compound(compound: &mut Compound, bodies: &[Span], next: &mut usize)
     fill_items(&mut compound.redirects, bodies, next);
 }
 
+/// Puts bodies into the lists of a form. Its words take none.
 #[cycle(fill)]
 #[tactic(auto, unfolding(shast::specs::Bodies::fill_form))]
 fn fill_form(form: &mut Form, bodies: &[Span], next: &mut usize)
@@ -216,6 +235,7 @@ fn fill_form(form: &mut Form, bodies: &[Span], next: &mut usize)
     }
 }
 
+/// Puts bodies into a condition, and then into what is run by it.
 #[cycle(fill)]
 #[tactic(auto, unfolding(shast::specs::Bodies::fill_branch))]
 fn fill_branch(branch: &mut Branch, bodies: &[Span], next: &mut usize)
@@ -226,6 +246,7 @@ fn fill_branch(branch: &mut Branch, bodies: &[Span], next: &mut usize)
     fill_list(&mut branch.body, bodies, next);
 }
 
+/// Puts bodies into the branches of `elif`.
 #[cycle(fill)]
 #[tactic(auto, using(shast::proofs::Going::going_more, shast::proofs::Going::going_over, shast::proofs::Going::branches_going))]
 fn fill_branches(branches: &mut [Branch], bodies: &[Span], next: &mut usize)
@@ -237,6 +258,7 @@ fn fill_branches(branches: &mut [Branch], bodies: &[Span], next: &mut usize)
     }
 }
 
+/// Puts bodies into what follows an `else`, where there is one.
 #[cycle(fill)]
 #[tactic(auto, unfolding(shast::specs::Bodies::fill_else))]
 fn fill_else(otherwise: &mut Option<List>, bodies: &[Span], next: &mut usize)
@@ -248,6 +270,7 @@ fn fill_else(otherwise: &mut Option<List>, bodies: &[Span], next: &mut usize)
     }
 }
 
+/// Puts bodies into the items of a `case`.
 #[cycle(fill)]
 #[tactic(auto, using(shast::proofs::Going::going_more, shast::proofs::Going::going_over, shast::proofs::Going::cases_going))]
 fn fill_cases(items: &mut [CaseItem], bodies: &[Span], next: &mut usize)
@@ -259,6 +282,7 @@ fn fill_cases(items: &mut [CaseItem], bodies: &[Span], next: &mut usize)
     }
 }
 
+/// Puts bodies into the list of an item of a `case`.
 #[cycle(fill)]
 #[tactic(auto, unfolding(shast::specs::Bodies::fill_case))]
 fn fill_case(item: &mut CaseItem, bodies: &[Span], next: &mut usize)
@@ -268,6 +292,7 @@ fn fill_case(item: &mut CaseItem, bodies: &[Span], next: &mut usize)
     fill_list(&mut item.body, bodies, next);
 }
 
+/// Puts bodies into the items of a simple command, or the redirections of a compound one.
 #[tactic(auto, using(shast::proofs::Going::going_more, shast::proofs::Going::going_over, shast::proofs::Going::items_going))]
 fn fill_items(items: &mut [Item], bodies: &[Span], next: &mut usize)
     ensures { (items_of (map view_item items.new), drop next.new bodies.now)
@@ -278,6 +303,7 @@ fn fill_items(items: &mut [Item], bodies: &[Span], next: &mut usize)
     }
 }
 
+/// Puts bodies into an item.
 #[tactic(auto, unfolding(shast::specs::Bodies::fill_item))]
 fn fill_item(item: &mut Item, bodies: &[Span], next: &mut usize)
     ensures { (view_item item.new, drop next.new bodies.now)
@@ -286,6 +312,7 @@ fn fill_item(item: &mut Item, bodies: &[Span], next: &mut usize)
     fill_item_content(&mut item.what, bodies, next);
 }
 
+/// Puts bodies into an item's content; a redirection alone may take one.
 #[tactic(auto, unfolding(shast::specs::Bodies::fill_item_content))]
 fn fill_item_content(content: &mut ItemContent, bodies: &[Span], next: &mut usize)
     ensures { (view_item_content content.new, drop next.new bodies.now)
@@ -296,6 +323,7 @@ fn fill_item_content(content: &mut ItemContent, bodies: &[Span], next: &mut usiz
     }
 }
 
+/// Puts bodies into a redirection, as an item has it.
 fn fill_boxed_redirection(redirect: &mut Box<Redirection>, bodies: &[Span], next: &mut usize)
     ensures { (view_redirection redirect.new.value, drop next.new bodies.now)
         ≡ fill_item_content (view_redirection redirect.old.value) (drop next.old bodies.now) }
@@ -303,6 +331,7 @@ fn fill_boxed_redirection(redirect: &mut Box<Redirection>, bodies: &[Span], next
     fill_redirection(redirect, bodies, next);
 }
 
+/// Puts bodies into a redirection.
 #[tactic(auto, unfolding(shast::specs::Bodies::fill_item_content))]
 fn fill_redirection(redirect: &mut Redirection, bodies: &[Span], next: &mut usize)
     ensures { (view_redirection redirect.new, drop next.new bodies.now)
@@ -311,6 +340,7 @@ fn fill_redirection(redirect: &mut Redirection, bodies: &[Span], next: &mut usiz
     fill_here(&mut redirect.here, bodies, next);
 }
 
+/// Puts the next body into a here-document, where both are there.
 fn fill_here(here: &mut Option<HereDocument>, bodies: &[Span], next: &mut usize)
     ensures { (option_map view_here here.new, drop next.new bodies.now)
         ≡ fill_here (option_map view_here here.old) (drop next.old bodies.now) }

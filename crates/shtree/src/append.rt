@@ -73,6 +73,7 @@ fn carried_body(body: Span, base: usize) -> Span
     }
 }
 
+/// The span of what may be missing, at this base.
 fn carry_span(span: Option<Span>, base: usize) -> Option<Span>
     ensures { result ≡ option_map (capped base) span }
 {
@@ -82,6 +83,7 @@ fn carry_span(span: Option<Span>, base: usize) -> Option<Span>
     }
 }
 
+/// A comment at this base.
 fn carry_comment(comment: Comment, base: usize) -> Comment
     ensures { view_comment result ≡ capped base (view_comment comment) }
 {
@@ -90,6 +92,7 @@ fn carry_comment(comment: Comment, base: usize) -> Comment
     }
 }
 
+/// The comment after a command on its line, at this base, where there is one.
 fn carry_own_comment(comment: Option<Comment>, base: usize) -> Option<Comment>
     ensures { option_map view_comment result
         ≡ option_map (capped base) (option_map view_comment comment) }
@@ -100,6 +103,7 @@ fn carry_own_comment(comment: Option<Comment>, base: usize) -> Option<Comment>
     }
 }
 
+/// What is told of a here-document, at this base, where there is one.
 fn carry_here(here: Option<HereDocument>, base: usize) -> Option<HereDocument>
     ensures { option_map view_here result
         ≡ option_map (carried_here (capped base) (capped_body base)) (option_map view_here here) }
@@ -114,6 +118,7 @@ fn carry_here(here: Option<HereDocument>, base: usize) -> Option<HereDocument>
     }
 }
 
+/// A copy of these comments at this base.
 #[tactic(auto, using(crate::proofs::Carrying::still_first, crate::proofs::Carrying::still_last))]
 fn carry_comments(
     alloc: Global,
@@ -130,6 +135,7 @@ fn carry_comments(
     Ok(made)
 }
 
+/// A copy of what stands between two operands, with its comments at this base.
 fn carry_join(alloc: Global, join: &Join, base: usize) -> Result<Join, AllocError>
     ensures { IfOk result (λ made. view_join made
         ≡ carried_join (capped base) (capped_body base) (view_join join.now)) }
@@ -153,12 +159,14 @@ fn entry_of(what: Content, background: bool, blank: bool, comment: Option<Commen
     }
 }
 
+/// An and-or list as the content of an entry.
 fn command_content(and_or: AndOr) -> Content
     ensures { view_content result ≡ command (view_and_or and_or) }
 {
     Content::AndOr(and_or)
 }
 
+/// A comment as the content of an entry.
 fn comment_content(comment: Comment) -> Content
     ensures { view_content result ≡ remark (view_comment comment) }
 {
@@ -172,24 +180,30 @@ fn item_of(broken: bool, what: ItemContent) -> Item
     Item { broken, what }
 }
 
+/// A word as an assignment.
 fn assign_content(word: Word) -> ItemContent
     ensures { view_item_content result ≡ assign (view_word word) }
 {
     ItemContent::Assign(word)
 }
 
+/// A word as a simple command's name or argument.
 fn word_content(word: Word) -> ItemContent
     ensures { view_item_content result ≡ argument (view_word word) }
 {
     ItemContent::Word(word)
 }
 
+/// A redirection as the content of an item.
 fn redirect_content(redirection: Box<Redirection>) -> ItemContent
     ensures { view_item_content result ≡ view_redirection redirection.value }
 {
     ItemContent::Redirect(redirection)
 }
 
+// Each makes a copy of one kind of part at this base: its spans are moved up, and all else is as it was.
+
+/// A copy of a list.
 #[cycle(carry)]
 fn carry_list(alloc: Global, list: &List, base: usize) -> Result<List, AllocError>
     ensures { Carries base carried view_list list.now result }
@@ -197,6 +211,7 @@ fn carry_list(alloc: Global, list: &List, base: usize) -> Result<List, AllocErro
     Ok(list_of(carry_entries(alloc, &list.entries, base)?))
 }
 
+/// A copy of the entries of a list.
 #[cycle(carry)]
 #[tactic(auto, using(crate::proofs::Carrying::still_first, crate::proofs::Carrying::still_last))]
 fn carry_entries(alloc: Global, entries: &[Entry], base: usize) -> Result<Vec<Entry>, AllocError>
@@ -209,6 +224,7 @@ fn carry_entries(alloc: Global, entries: &[Entry], base: usize) -> Result<Vec<En
     Ok(made)
 }
 
+/// A copy of an entry, with the comment after it on its line.
 #[cycle(carry)]
 fn carry_entry(alloc: Global, entry: &Entry, base: usize) -> Result<Entry, AllocError>
     ensures { Carries base carried_entry view_entry entry.now result }
@@ -218,6 +234,7 @@ fn carry_entry(alloc: Global, entry: &Entry, base: usize) -> Result<Entry, Alloc
     Ok(entry_of(what, entry.background, entry.blank, comment))
 }
 
+/// A copy of an entry's content: an and-or list, or a comment on a line of its own.
 #[cycle(carry)]
 fn carry_content(alloc: Global, content: &Content, base: usize) -> Result<Content, AllocError>
     ensures { Carries base carried_content view_content content.now result }
@@ -228,6 +245,7 @@ fn carry_content(alloc: Global, content: &Content, base: usize) -> Result<Conten
     }
 }
 
+/// A copy of an and-or list.
 #[cycle(carry)]
 fn carry_and_or(alloc: Global, and_or: &AndOr, base: usize) -> Result<AndOr, AllocError>
     ensures { Carries base carried_and_or view_and_or and_or.now result }
@@ -236,6 +254,7 @@ fn carry_and_or(alloc: Global, and_or: &AndOr, base: usize) -> Result<AndOr, All
     Ok(and_or_of(first, carry_and_or_parts(alloc, &and_or.rest, base)?))
 }
 
+/// A copy of the pipelines of an and-or list after its first one.
 #[cycle(carry)]
 #[tactic(auto, using(crate::proofs::Carrying::still_first, crate::proofs::Carrying::still_last))]
 fn carry_and_or_parts(
@@ -252,6 +271,7 @@ fn carry_and_or_parts(
     Ok(made)
 }
 
+/// A copy of one of these, with its operator and what stands around that.
 #[cycle(carry)]
 fn carry_and_or_part(alloc: Global, part: &AndOrPart, base: usize) -> Result<AndOrPart, AllocError>
     ensures { Carries base carried_and_or_part view_and_or_part part.now result }
@@ -261,6 +281,7 @@ fn carry_and_or_part(alloc: Global, part: &AndOrPart, base: usize) -> Result<And
     Ok(and_or_part_of(part.operator, join, pipeline))
 }
 
+/// A copy of a pipeline, with the `!` before it.
 #[cycle(carry)]
 fn carry_pipeline(alloc: Global, pipeline: &Pipeline, base: usize) -> Result<Pipeline, AllocError>
     ensures { Carries base carried_pipeline view_pipeline pipeline.now result }
@@ -270,6 +291,7 @@ fn carry_pipeline(alloc: Global, pipeline: &Pipeline, base: usize) -> Result<Pip
     Ok(pipeline_of(bang, first, carry_pipes(alloc, &pipeline.rest, base)?))
 }
 
+/// A copy of the commands of a pipeline after its first one.
 #[cycle(carry)]
 #[tactic(auto, using(crate::proofs::Carrying::still_first, crate::proofs::Carrying::still_last))]
 fn carry_pipes(
@@ -286,6 +308,7 @@ fn carry_pipes(
     Ok(made)
 }
 
+/// A copy of one of these, with what stands around its `|`.
 #[cycle(carry)]
 fn carry_pipe(alloc: Global, part: &PipelinePart, base: usize) -> Result<PipelinePart, AllocError>
     ensures { Carries base carried_pipe view_pipeline_part part.now result }
@@ -294,6 +317,7 @@ fn carry_pipe(alloc: Global, part: &PipelinePart, base: usize) -> Result<Pipelin
     Ok(pipeline_part_of(join, carry_command(alloc, &part.command, base)?))
 }
 
+/// A copy of a command of any kind.
 #[cycle(carry)]
 fn carry_command(alloc: Global, command: &Command, base: usize) -> Result<Command, AllocError>
     ensures { Carries base carried_command view_command command.now result }
@@ -311,6 +335,7 @@ fn carry_command(alloc: Global, command: &Command, base: usize) -> Result<Comman
     }
 }
 
+/// A copy of the definition of a function.
 #[cycle(carry)]
 fn carry_function(alloc: Global, function: &Function, base: usize) -> Result<Function, AllocError>
     ensures { Carries base carried_command view_function function.now result }
@@ -320,6 +345,7 @@ fn carry_function(alloc: Global, function: &Function, base: usize) -> Result<Fun
     Ok(function_of(carried_span(function.name, base), comments, body))
 }
 
+/// A copy of a compound command, with its redirections.
 #[cycle(carry)]
 fn carry_compound(alloc: Global, compound: &Compound, base: usize) -> Result<Compound, AllocError>
     ensures { Carries base carried_compound view_compound compound.now result }
@@ -329,6 +355,7 @@ fn carry_compound(alloc: Global, compound: &Compound, base: usize) -> Result<Com
     Ok(compound_of(form, carried_span(compound.span, base), redirects))
 }
 
+/// A copy of a form, with the words and lists in it.
 #[cycle(carry)]
 fn carry_form(alloc: Global, form: &Form, base: usize) -> Result<Form, AllocError>
     ensures { Carries base carried_form view_form form.now result }
@@ -363,6 +390,7 @@ fn carry_form(alloc: Global, form: &Form, base: usize) -> Result<Form, AllocErro
     }
 }
 
+/// A copy of what follows an `else`, where there is one.
 #[cycle(carry)]
 fn carry_else(
     alloc: Global,
@@ -377,6 +405,7 @@ fn carry_else(
     }
 }
 
+/// A copy of a condition, and of what is run by it.
 #[cycle(carry)]
 fn carry_branch(alloc: Global, branch: &Branch, base: usize) -> Result<Branch, AllocError>
     ensures { Carries base carried_branch view_branch branch.now result }
@@ -385,6 +414,7 @@ fn carry_branch(alloc: Global, branch: &Branch, base: usize) -> Result<Branch, A
     Ok(branch_of(condition, carry_list(alloc, &branch.body, base)?))
 }
 
+/// A copy of the branches of `elif`.
 #[cycle(carry)]
 #[tactic(auto, using(crate::proofs::Carrying::still_first, crate::proofs::Carrying::still_last))]
 fn carry_branches(
@@ -401,6 +431,7 @@ fn carry_branches(
     Ok(made)
 }
 
+/// A copy of the items of a `case`.
 #[cycle(carry)]
 #[tactic(auto, using(crate::proofs::Carrying::still_first, crate::proofs::Carrying::still_last))]
 fn carry_cases(alloc: Global, items: &[CaseItem], base: usize) -> Result<Vec<CaseItem>, AllocError>
@@ -413,6 +444,7 @@ fn carry_cases(alloc: Global, items: &[CaseItem], base: usize) -> Result<Vec<Cas
     Ok(made)
 }
 
+/// A copy of an item of a `case`.
 #[cycle(carry)]
 fn carry_case(alloc: Global, item: &CaseItem, base: usize) -> Result<CaseItem, AllocError>
     ensures { Carries base carried_case view_case_item item.now result }
@@ -429,6 +461,7 @@ fn carry_case(alloc: Global, item: &CaseItem, base: usize) -> Result<CaseItem, A
     ))
 }
 
+/// A copy of the patterns of an item of a `case`.
 #[cycle(carry)]
 #[tactic(auto, using(crate::proofs::Carrying::still_first, crate::proofs::Carrying::still_last))]
 fn carry_words(alloc: Global, words: &[Word], base: usize) -> Result<Vec<Word>, AllocError>
@@ -441,6 +474,7 @@ fn carry_words(alloc: Global, words: &[Word], base: usize) -> Result<Vec<Word>, 
     Ok(made)
 }
 
+/// A copy of the items of a simple command, the redirections of a compound one or the words of a `for`.
 #[cycle(carry)]
 #[tactic(auto, using(crate::proofs::Carrying::still_first, crate::proofs::Carrying::still_last))]
 fn carry_items(alloc: Global, items: &[Item], base: usize) -> Result<Vec<Item>, AllocError>
@@ -453,6 +487,7 @@ fn carry_items(alloc: Global, items: &[Item], base: usize) -> Result<Vec<Item>, 
     Ok(made)
 }
 
+/// A copy of an item.
 #[cycle(carry)]
 fn carry_item(alloc: Global, item: &Item, base: usize) -> Result<Item, AllocError>
     ensures { Carries base carried_item view_item item.now result }
@@ -461,6 +496,7 @@ fn carry_item(alloc: Global, item: &Item, base: usize) -> Result<Item, AllocErro
     Ok(item_of(item.broken, what))
 }
 
+/// A copy of an item's content: an assignment, a word or a redirection.
 #[cycle(carry)]
 fn carry_item_content(
     alloc: Global,
@@ -479,6 +515,7 @@ fn carry_item_content(
     }
 }
 
+/// A copy of a redirection, with what is told of its here-document.
 #[cycle(carry)]
 fn carry_redirection(
     alloc: Global,
@@ -497,6 +534,7 @@ fn carry_redirection(
     ))
 }
 
+/// A copy of a word, with the substitutions in it.
 #[cycle(carry)]
 fn carry_word(alloc: Global, word: &Word, base: usize) -> Result<Word, AllocError>
     ensures { Carries base carried_word view_word word.now result }
@@ -505,6 +543,7 @@ fn carry_word(alloc: Global, word: &Word, base: usize) -> Result<Word, AllocErro
     Ok(word_of(carried_span(word.span, base), substs))
 }
 
+/// A copy of the substitutions in a word.
 #[cycle(carry)]
 #[tactic(auto, using(crate::proofs::Carrying::still_first, crate::proofs::Carrying::still_last))]
 fn carry_substs(alloc: Global, substs: &[Subst], base: usize) -> Result<Vec<Subst>, AllocError>
@@ -517,6 +556,7 @@ fn carry_substs(alloc: Global, substs: &[Subst], base: usize) -> Result<Vec<Subs
     Ok(made)
 }
 
+/// A copy of a command substitution, with the list in it.
 #[cycle(carry)]
 fn carry_subst(alloc: Global, subst: &Subst, base: usize) -> Result<Subst, AllocError>
     ensures { Carries base carried_subst view_subst subst.now result }

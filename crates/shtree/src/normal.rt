@@ -40,6 +40,7 @@ fn first_not_broken(items: &[Item]) -> bool
     }
 }
 
+/// An entry is a command, and no comment on a line of its own.
 fn is_command(entry: &Entry) -> bool
     ensures { result ≡ is_command (view_entry entry.now) }
 {
@@ -49,6 +50,7 @@ fn is_command(entry: &Entry) -> bool
     }
 }
 
+/// A command is among the entries of a list.
 #[tactic(auto, using(crate::proofs::AllFrom::any_end, crate::proofs::AllFrom::command_among))]
 fn holds_command(entries: &[Entry]) -> bool
     ensures { result ≡ holds_command (entries_of (map view_entry entries.now)) }
@@ -68,6 +70,8 @@ fn is_normal_join(join: &Join) -> bool
     join.broken || join.comments.is_empty()
 }
 
+// Each says whether one kind of part is in normal form, with the parts in it.
+
 /// The list of a group, a condition or a body.
 #[cycle(normal)]
 fn is_normal_body(list: &List) -> bool
@@ -76,6 +80,7 @@ fn is_normal_body(list: &List) -> bool
     holds_command(&list.entries) && first_not_blank(&list.entries) && are_normal(&list.entries)
 }
 
+/// The entries of a list.
 #[cycle(normal)]
 #[tactic(auto, using(crate::proofs::AllFrom::all_end, crate::proofs::AllFrom::entries_all))]
 fn are_normal(entries: &[Entry]) -> bool
@@ -100,6 +105,7 @@ fn is_normal_entry(entry: &Entry) -> bool
     }
 }
 
+/// An and-or list: its pipelines, and what stands between them.
 #[cycle(normal)]
 fn is_normal_and_or(and_or: &AndOr) -> bool
     ensures { result ≡ is_normal_and_or (view_and_or and_or.now) }
@@ -107,6 +113,7 @@ fn is_normal_and_or(and_or: &AndOr) -> bool
     is_normal_pipeline(&and_or.first) && are_normal_and_ors(&and_or.rest)
 }
 
+/// The pipelines of an and-or list after its first one.
 #[cycle(normal)]
 #[tactic(auto, using(crate::proofs::AllFrom::all_end, crate::proofs::AllFrom::parts_all))]
 fn are_normal_and_ors(parts: &[AndOrPart]) -> bool
@@ -120,6 +127,7 @@ fn are_normal_and_ors(parts: &[AndOrPart]) -> bool
     true
 }
 
+/// One of these, and what stands around its operator.
 #[cycle(normal)]
 fn is_normal_part(part: &AndOrPart) -> bool
     ensures { let p = view_and_or_part part.now in
@@ -128,6 +136,7 @@ fn is_normal_part(part: &AndOrPart) -> bool
     is_normal_join(&part.join) && is_normal_pipeline(&part.pipeline)
 }
 
+/// A pipeline: its commands, and what stands between them.
 #[cycle(normal)]
 fn is_normal_pipeline(pipeline: &Pipeline) -> bool
     ensures { result ≡ is_normal_pipeline (view_pipeline pipeline.now) }
@@ -135,6 +144,7 @@ fn is_normal_pipeline(pipeline: &Pipeline) -> bool
     is_normal_command(&pipeline.first) && are_normal_pipes(&pipeline.rest)
 }
 
+/// The commands of a pipeline after its first one.
 #[cycle(normal)]
 #[tactic(auto, using(crate::proofs::AllFrom::all_end, crate::proofs::AllFrom::pipes_all))]
 fn are_normal_pipes(parts: &[PipelinePart]) -> bool
@@ -148,6 +158,7 @@ fn are_normal_pipes(parts: &[PipelinePart]) -> bool
     true
 }
 
+/// One of these, and what stands around its `|`.
 #[cycle(normal)]
 fn is_normal_pipe(part: &PipelinePart) -> bool
     ensures { let p = view_pipeline_part part.now in
@@ -156,6 +167,7 @@ fn is_normal_pipe(part: &PipelinePart) -> bool
     is_normal_join(&part.join) && is_normal_command(&part.command)
 }
 
+/// A command of any kind. Nothing stands before the first item of a simple one.
 #[cycle(normal)]
 fn is_normal_command(command: &Command) -> bool
     ensures { result ≡ is_normal_command (view_command command.now) }
@@ -167,6 +179,7 @@ fn is_normal_command(command: &Command) -> bool
     }
 }
 
+/// A compound command: its form, and its redirections.
 #[cycle(normal)]
 fn is_normal_compound(compound: &Compound) -> bool
     ensures { result ≡ is_normal_compound (view_compound compound.now) }
@@ -174,6 +187,7 @@ fn is_normal_compound(compound: &Compound) -> bool
     is_normal_form(&compound.form) && are_normal_items(&compound.redirects)
 }
 
+/// A form: the words and lists in it. Nothing stands before the first word of a `for`.
 #[cycle(normal)]
 fn is_normal_form(form: &Form) -> bool
     ensures { result ≡ is_normal_form (view_form form.now) }
@@ -205,6 +219,7 @@ fn is_normal_form(form: &Form) -> bool
     }
 }
 
+/// A condition, and what is run by it.
 #[cycle(normal)]
 fn is_normal_branch(branch: &Branch) -> bool
     ensures { result ≡ is_normal_branch (view_branch branch.now) }
@@ -212,6 +227,7 @@ fn is_normal_branch(branch: &Branch) -> bool
     is_normal_body(&branch.condition) && is_normal_body(&branch.body)
 }
 
+/// The branches of `elif`.
 #[cycle(normal)]
 #[tactic(auto, using(crate::proofs::AllFrom::all_end, crate::proofs::AllFrom::branches_all))]
 fn are_normal_branches(branches: &[Branch]) -> bool
@@ -225,6 +241,7 @@ fn are_normal_branches(branches: &[Branch]) -> bool
     true
 }
 
+/// The items of a `case`.
 #[cycle(normal)]
 #[tactic(auto, using(crate::proofs::AllFrom::all_end, crate::proofs::AllFrom::cases_all))]
 fn are_normal_cases(items: &[CaseItem]) -> bool
@@ -238,6 +255,7 @@ fn are_normal_cases(items: &[CaseItem]) -> bool
     true
 }
 
+/// An item of a `case`. Its list may be without a command.
 #[cycle(normal)]
 fn is_normal_case(item: &CaseItem) -> bool
     ensures { result ≡ is_normal_case (view_case_item item.now) }
@@ -247,6 +265,7 @@ fn is_normal_case(item: &CaseItem) -> bool
         && are_normal(&item.body.entries)
 }
 
+/// The patterns of an item of a `case`.
 #[cycle(normal)]
 #[tactic(auto, using(crate::proofs::AllFrom::all_end, crate::proofs::AllFrom::patterns_all))]
 fn are_normal_patterns(patterns: &[Word]) -> bool
@@ -260,6 +279,7 @@ fn are_normal_patterns(patterns: &[Word]) -> bool
     true
 }
 
+/// The items of a simple command, the redirections of a compound one or the words of a `for`.
 #[cycle(normal)]
 #[tactic(auto, using(crate::proofs::AllFrom::all_end, crate::proofs::AllFrom::items_all))]
 fn are_normal_items(items: &[Item]) -> bool
@@ -273,6 +293,7 @@ fn are_normal_items(items: &[Item]) -> bool
     true
 }
 
+/// An item: its word.
 #[cycle(normal)]
 fn is_normal_item(item: &Item) -> bool
     ensures { result ≡ is_normal_item (view_item item.now) }
@@ -283,6 +304,7 @@ fn is_normal_item(item: &Item) -> bool
     }
 }
 
+/// A word: the substitutions in it.
 #[cycle(normal)]
 fn is_normal_word(word: &Word) -> bool
     ensures { result ≡ is_normal_word (view_word word.now) }
@@ -290,6 +312,7 @@ fn is_normal_word(word: &Word) -> bool
     are_normal_substs(&word.substs)
 }
 
+/// The substitutions in a word.
 #[cycle(normal)]
 #[tactic(auto, using(crate::proofs::AllFrom::all_end, crate::proofs::AllFrom::substs_all))]
 fn are_normal_substs(substs: &[Subst]) -> bool
@@ -303,6 +326,7 @@ fn are_normal_substs(substs: &[Subst]) -> bool
     true
 }
 
+/// A command substitution: the list in it, which may be without a command.
 #[cycle(normal)]
 fn is_normal_subst(subst: &Subst) -> bool
     ensures { result ≡ is_normal_subst (view_subst subst.now) }

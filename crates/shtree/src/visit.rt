@@ -24,6 +24,7 @@ use std::alloc::AllocError;
 pub(crate) trait Wanted: Copy {
     ghost is_wanted: { Self → NodeLine → Bool };
 
+    /// Whether this node is one of them.
     fn wants(self, line: &NodeLine) -> bool
         ensures { result ≡ is_wanted self line.now };
 }
@@ -39,6 +40,7 @@ fn add<W: Wanted>(line: NodeLine, wanted: W, lines: &mut Vec<NodeLine>) -> Resul
     Ok(())
 }
 
+/// Adds the node of a comment, if it is wanted.
 fn add_comment<W: Wanted>(
     comment: &Comment,
     wanted: W,
@@ -70,6 +72,7 @@ fn add_own_comment<W: Wanted>(
     }
 }
 
+/// Adds the nodes of these comments that are wanted.
 fn add_comments<W: Wanted>(
     comments: &[Comment],
     wanted: W,
@@ -138,6 +141,10 @@ fn form_line(form: &Form, span: Span) -> NodeLine
     NodeLine::new(kind, span)
 }
 
+// Each adds the wanted nodes of one kind of part: its own, where it has one, and then those of its parts in
+// their order.
+
+/// The nodes of a list.
 #[cycle(visit)]
 pub(crate) fn visit_list<W: Wanted>(
     list: &List,
@@ -150,6 +157,7 @@ pub(crate) fn visit_list<W: Wanted>(
     visit_entries(&list.entries, wanted, lines)
 }
 
+/// The nodes of the entries of a list.
 #[cycle(visit)]
 fn visit_entries<W: Wanted>(
     entries: &[Entry],
@@ -165,6 +173,7 @@ fn visit_entries<W: Wanted>(
     Ok(())
 }
 
+/// The nodes of an entry, with the comment after it on its line.
 #[cycle(visit)]
 fn visit_entry<W: Wanted>(
     entry: &Entry,
@@ -178,6 +187,7 @@ fn visit_entry<W: Wanted>(
     add_own_comment(&entry.comment, wanted, lines)
 }
 
+/// The nodes of an entry's content: an and-or list, or a comment on a line of its own.
 #[cycle(visit)]
 fn visit_content<W: Wanted>(
     content: &Content,
@@ -193,6 +203,7 @@ fn visit_content<W: Wanted>(
     }
 }
 
+/// The nodes of an and-or list.
 #[cycle(visit)]
 fn visit_and_or<W: Wanted>(
     and_or: &AndOr,
@@ -207,6 +218,7 @@ fn visit_and_or<W: Wanted>(
     visit_and_or_parts(&and_or.rest, wanted, lines)
 }
 
+/// The nodes of the pipelines of an and-or list after its first one.
 #[cycle(visit)]
 fn visit_and_or_parts<W: Wanted>(
     parts: &[AndOrPart],
@@ -222,6 +234,7 @@ fn visit_and_or_parts<W: Wanted>(
     Ok(())
 }
 
+/// The nodes of one of these, after those of the comments around its operator.
 #[cycle(visit)]
 fn visit_and_or_part<W: Wanted>(
     part: &AndOrPart,
@@ -236,6 +249,7 @@ fn visit_and_or_part<W: Wanted>(
     visit_pipeline(&part.pipeline, wanted, lines)
 }
 
+/// The nodes of a pipeline.
 #[cycle(visit)]
 fn visit_pipeline<W: Wanted>(
     pipeline: &Pipeline,
@@ -250,6 +264,7 @@ fn visit_pipeline<W: Wanted>(
     visit_pipes(&pipeline.rest, wanted, lines)
 }
 
+/// The nodes of the commands of a pipeline after its first one.
 #[cycle(visit)]
 fn visit_pipes<W: Wanted>(
     parts: &[PipelinePart],
@@ -265,6 +280,7 @@ fn visit_pipes<W: Wanted>(
     Ok(())
 }
 
+/// The nodes of one of these, after those of the comments around its `|`.
 #[cycle(visit)]
 fn visit_pipe<W: Wanted>(
     part: &PipelinePart,
@@ -279,6 +295,7 @@ fn visit_pipe<W: Wanted>(
     visit_command(&part.command, wanted, lines)
 }
 
+/// The nodes of a command of any kind.
 #[cycle(visit)]
 fn visit_command<W: Wanted>(
     command: &Command,
@@ -302,6 +319,7 @@ fn visit_command<W: Wanted>(
     }
 }
 
+/// The nodes of the definition of a function.
 #[cycle(visit)]
 fn visit_function<W: Wanted>(
     function: &Function,
@@ -321,6 +339,7 @@ fn visit_function<W: Wanted>(
     visit_compound(&function.body, wanted, lines)
 }
 
+/// The nodes of a compound command, with those of its redirections.
 #[cycle(visit)]
 fn visit_compound<W: Wanted>(
     compound: &Compound,
@@ -339,6 +358,7 @@ fn visit_compound<W: Wanted>(
     visit_items(&compound.redirects, wanted, lines)
 }
 
+/// The nodes in a form: those of its words, lists and comments.
 #[cycle(visit)]
 fn visit_form<W: Wanted>(
     form: &Form,
@@ -379,6 +399,7 @@ fn visit_form<W: Wanted>(
     }
 }
 
+/// The nodes of a condition, and of what is run by it.
 #[cycle(visit)]
 fn visit_branch<W: Wanted>(
     branch: &Branch,
@@ -392,6 +413,7 @@ fn visit_branch<W: Wanted>(
     visit_list(&branch.body, wanted, lines)
 }
 
+/// The nodes of the branches of `elif`.
 #[cycle(visit)]
 fn visit_branches<W: Wanted>(
     branches: &[Branch],
@@ -407,6 +429,7 @@ fn visit_branches<W: Wanted>(
     Ok(())
 }
 
+/// The nodes of the items of a `case`.
 #[cycle(visit)]
 fn visit_cases<W: Wanted>(
     items: &[CaseItem],
@@ -422,6 +445,7 @@ fn visit_cases<W: Wanted>(
     Ok(())
 }
 
+/// The nodes of an item of a `case`.
 #[cycle(visit)]
 fn visit_case<W: Wanted>(
     item: &CaseItem,
@@ -437,6 +461,7 @@ fn visit_case<W: Wanted>(
     visit_list(&item.body, wanted, lines)
 }
 
+/// The nodes of the patterns of an item of a `case`.
 #[cycle(visit)]
 fn visit_patterns<W: Wanted>(
     patterns: &[Word],
@@ -452,6 +477,7 @@ fn visit_patterns<W: Wanted>(
     Ok(())
 }
 
+/// The nodes of the items of a simple command, the redirections of a compound one or the words of a `for`.
 #[cycle(visit)]
 fn visit_items<W: Wanted>(
     items: &[Item],
@@ -487,6 +513,7 @@ fn visit_item<W: Wanted>(
     }
 }
 
+/// The nodes of a redirection.
 #[cycle(visit)]
 fn visit_redirection<W: Wanted>(
     redirect: &Redirection,
@@ -504,6 +531,7 @@ fn visit_redirection<W: Wanted>(
     visit_word(&redirect.word, wanted, lines)
 }
 
+/// The nodes of a word.
 #[cycle(visit)]
 fn visit_word<W: Wanted>(
     word: &Word,
@@ -517,6 +545,7 @@ fn visit_word<W: Wanted>(
     visit_substs(&word.substs, wanted, lines)
 }
 
+/// The nodes of the substitutions in a word.
 #[cycle(visit)]
 fn visit_substs<W: Wanted>(
     substs: &[Subst],
@@ -532,6 +561,7 @@ fn visit_substs<W: Wanted>(
     Ok(())
 }
 
+/// The nodes of a command substitution, with those of the list in it.
 #[cycle(visit)]
 fn visit_subst<W: Wanted>(
     subst: &Subst,
