@@ -1,8 +1,8 @@
 # make             proves and builds the program, if it is older than its sources
 # make test        the gate: proves every crate from nothing, runs every test; then the scripts over what the
 #                  gate has built
-# make scripts     those scripts alone, over what the last gate has left: all of them, and then it names those
-#                  that failed
+# make scripts     those scripts alone, over what the last gate has left, with a warning where that is older
+#                  than the sources: all of them, and then it names those that failed
 # make bench       times the program beside dash and cat, and prints a table
 # make install     installs the program, its language server, its manual page and its completions for bash,
 #                  zsh and fish below PREFIX, itself below DESTDIR where that is given
@@ -30,7 +30,12 @@ test:
 	RT_JOBS=$(LANES) rt ci
 	$(MAKE) scripts
 
+# A program is older than its sources where one was changed, added or removed since, of whichever crate.
 scripts: $(PROGRAM) $(TESTS)
+	@for program in $(PROGRAM) $(TESTS); do \
+		[ -z "$$(find crates.txt crates/*/src crates/*/specs crates/*/proofs -newer "$$program")" ] || \
+			echo "make scripts: $$program is older than its sources: run make test" >&2; \
+	done
 	@failed=; for script in $(SCRIPTS); do \
 		echo "$$script"; "$$script" || failed="$$failed $$script"; \
 	done; [ -z "$$failed" ] || { echo "make scripts: FAILED:$$failed" >&2; exit 1; }
