@@ -16,8 +16,8 @@ ghost use Rattle.shlive.specs.Ahead.{IsOpen};
 ghost use Rattle.shtext.specs.Device.{output_failed};
 
 mod asked;
+mod drop_front;
 mod engine;
-mod front;
 mod gathering;
 mod partial_script;
 mod passing;

@@ -6,7 +6,7 @@ ghost use Rattle.shgrammar.specs.declared.edition.Edition.{Edition as AnEdition}
 ghost use Rattle.shgrammar.specs.Moved.{moved_fault};
 ghost use Rattle.shtext.specs.Edit.{limit};
 
-use crate::front::drop_front;
+use crate::drop_front::drop_front;
 use crate::partial_script::{LocatedFault, PartialScript};
 use crate::sink::Sink;
 use shpass::faultless_front;

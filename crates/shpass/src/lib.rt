@@ -7,10 +7,10 @@
 //! of the crate `shgrammar`.
 #![tactic(auto)]
 
-mod front;
 mod newline;
+mod passable_front;
 mod script_lines;
 
-pub use front::faultless_front;
 pub use newline::ends_in_newline;
+pub use passable_front::faultless_front;
 pub use script_lines::{LinesBefore, ScriptLines};

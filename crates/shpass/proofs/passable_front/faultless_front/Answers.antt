@@ -1,7 +1,7 @@
 use Rattle.std.proofs.Common.{rules, ◌≡◌, None}
 use Rattle.shgrammar.specs.Search.{LineBefore}
 use Rattle.shgrammar.proofs.Passing.{may_pass, newline_before, passed_more}
-use Rattle.shpass.proofs.front.faultless_front.Goals as goal
+use Rattle.shpass.proofs.passable_front.faultless_front.Goals as goal
 
 pub lines-preserved : goal.lines-preserved
 lines-preserved g c =

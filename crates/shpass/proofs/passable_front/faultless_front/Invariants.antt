@@ -1,7 +1,7 @@
 use Rattle.std.proofs.Common.{◌≡◌, ◌<◌, ◌≤◌, ◌-◌, length, slice_get, Some}
 use Rattle.shgrammar.specs.Characters.{newline_char}
 use Rattle.shgrammar.specs.Search.{ArePassed}
-use Rattle.shpass.proofs.front.faultless_front.Given as goal
+use Rattle.shpass.proofs.passable_front.faultless_front.Given as goal
 
 abbrev pub invariant-lines : goal.invariant-lines
 invariant-lines g l =
