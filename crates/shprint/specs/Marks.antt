@@ -1,7 +1,7 @@
 -- What is printed, from left to right.
 use Rattle.std.specs.Prelude.{◌==◌, ◌++◌, [], ◌∷◌, List as Row, codes, if◌then◌else◌}
 use Rattle.std.proofs.Math.ListN.{replicate}
-use Rattle.shgrammar.specs.Characters.{space}
+use Rattle.shgrammar.specs.Characters.{newline_char, space}
 use Rattle.shast.specs.Shape.{Text}
 use Rattle.shprint.specs.declared.layout.Layout.{Layout}
 
@@ -20,7 +20,7 @@ Marks = Row Mark
 unfoldable pub laid_after : Text → Marks → Text
 laid_after held [] = []
 laid_after held (text t ∷ ms) = t ++ laid_after held ms
-laid_after held (line_end ∷ ms) = 10 ∷ held ++ laid_after [] ms
+laid_after held (line_end ∷ ms) = newline_char ∷ held ++ laid_after [] ms
 laid_after held (document t ∷ ms) = laid_after (held ++ t) ms
 
 -- what waits after them

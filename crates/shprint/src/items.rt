@@ -6,6 +6,7 @@ ghost use Rattle.shast.specs.Shape.{bare_at, shape_of_here, shape_of_item, shape
 ghost use Rattle.shast.specs.Spelling.{redirect_text};
 ghost use Rattle.shast.specs.Tree.{item, items_of, patterns_of};
 ghost use Rattle.shast.specs.View.{view_here, view_item, view_redirection, view_word};
+ghost use Rattle.shgrammar.specs.Characters.{newline_char};
 ghost use Rattle.shprint.specs.Printed.{duplicates, print_first_pattern, print_gap, print_here, print_item, print_items, print_number, print_operator, print_patterns, print_simple, print_word, would_lengthen};
 ghost use Rattle.shprint.specs.Written.{LaysOut, Prints, Puts, delimiter_line_at};
 
@@ -152,7 +153,8 @@ impl<'a, S: Source> Printer<'a, S> {
     #[tactic(auto, using(crate::proofs::Copying::run_enough))]
     fn delimiter_here(&self, word: Span) -> Option<&[u8]>
         ensures { IfSome result
-            (λ text. text.now ++ 10 ∷ [] ≡ delimiter_line_at (S.bytes self.now.source.now) word) }
+            (λ text. text.now ++ newline_char ∷ []
+            ≡ delimiter_line_at (S.bytes self.now.source.now) word) }
     {
         let length = word.end.checked_sub(word.start)?;
         let run = self.source.run(word.start);
