@@ -26,7 +26,7 @@ use shmake::make::{
 use std::alloc::{AllocError, Global};
 
 /// Adds the entries of a list that stands in the text from the offset `base` on to the end of `into`, whose
-/// base is the text's begin: each of their spans is moved up by `base`.
+/// base is the text's start: each of their spans is moved up by `base`.
 ///
 /// # Errors
 ///
