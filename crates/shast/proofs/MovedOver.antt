@@ -15,7 +15,10 @@ use Rattle.shast.specs.Capped.{capped, capped_body, capped_by}
 
 module _ (f h g fb hb gb : Span → Span) (P : Span → Type 0) (Q : Items → Type 0) (is : (s : Span) → P s → f (h s) ≡ g s)
     (body_is : (s : Span) → P s → fb (hb s) ≡ gb s) where
-  -- for each kind of part: what f makes of what h makes of it is what g makes of it
+  -- For each kind of part: what f makes of what h makes of it is what g makes of it.
+
+  -- carried by h and then by f, a span that may be missing, a row of comments, a join, and a here-document
+  -- that may be missing are as g carries them
   some_over : (c : Option Span) → OfSome P c → option_map f (option_map h c) ≡ option_map g c
   some_over None so = refl
   some_over (Some s) so = ap Some (is s so)
@@ -34,6 +37,7 @@ module _ (f h g fb hb gb : Span → Span) (P : Span → Type 0) (Q : Items → T
       (body_is d.body so)
 
   mutual
+    -- carried by h and then by f, a list is as g carries it, and so are an entry and what stands in it
     pub over : (es : Entries) → Throughout P Q es → carried f fb true (carried h hb true es) ≡ carried g gb true es
     over no_entry so = refl
     over (more_entries e es) so = rw (entry_over e so.0, over es so.1) refl
@@ -47,6 +51,8 @@ module _ (f h g fb hb gb : Span → Span) (P : Span → Type 0) (Q : Items → T
     content_over (command a) so = ap command (and_or_over a so)
     content_over (remark c) so = ap remark (is c so)
 
+    -- carried by h and then by f, an and-or list and a pipeline are as g carries them, with the parts after
+    -- their first operand
     and_or_over : (a : AnAndOr) → InAndOr P Q a →
         carried_and_or f fb true (carried_and_or h hb true a) ≡ carried_and_or g gb true a
     and_or_over (and_or first rest) so = rw (pipeline_over first so.0, and_or_parts_over rest so.1) refl
@@ -67,6 +73,7 @@ module _ (f h g fb hb gb : Span → Span) (P : Span → Type 0) (Q : Items → T
     pipes_over no_pipe so = refl
     pipes_over (more_pipes join c cs) so = rw (join_over join so.0, command_over c so.1, pipes_over cs so.2) refl
 
+    -- carried by h and then by f, a command, a compound command and a form of each kind are as g carries them
     command_over : (c : ACommand) → InCommand P Q c →
         carried_command f fb true (carried_command h hb true c) ≡ carried_command g gb true c
     command_over (simple items) so = ap simple (items_over items so.1)
@@ -90,6 +97,8 @@ module _ (f h g fb hb gb : Span → Span) (P : Span → Type 0) (Q : Items → T
     form_over (for_in name words body) so = rw (word_over name so.0, for_words_over words so.1, over body so.2) refl
     form_over (case_in w cases tail) so = rw (word_over w so.0, cases_over cases so.1, each_over tail so.2) refl
 
+    -- carried by h and then by f, a branch, the branches after it, an `else`, and the words of a `for` are as
+    -- g carries them
     branch_over : (b : ABranch) → InBranch P Q b →
         carried_branch f fb true (carried_branch h hb true b) ≡ carried_branch g gb true b
     branch_over (branch condition body) so = rw (over condition so.0, over body so.1) refl
@@ -109,6 +118,7 @@ module _ (f h g fb hb gb : Span → Span) (P : Span → Type 0) (Q : Items → T
     for_words_over no_in so = refl
     for_words_over (in_words items) so = ap in_words (items_over items so)
 
+    -- carried by h and then by f, the items of a `case`, each of them, and its patterns are as g carries them
     cases_over : (cs : CaseItems) → InCases P Q cs →
         carried_cases f fb true (carried_cases h hb true cs) ≡ carried_cases g gb true cs
     cases_over no_case so = refl
@@ -124,6 +134,7 @@ module _ (f h g fb hb gb : Span → Span) (P : Span → Type 0) (Q : Items → T
     patterns_over no_pattern so = refl
     patterns_over (more_patterns w ws) so = rw (word_over w so.0, patterns_over ws so.1) refl
 
+    -- carried by h and then by f, a row of items, each of them, and what it is are as g carries them
     items_over : (is2 : Items) → InItems P Q is2 →
         carried_items f fb true (carried_items h hb true is2) ≡ carried_items g gb true is2
     items_over no_item so = refl
@@ -140,6 +151,7 @@ module _ (f h g fb hb gb : Span → Span) (P : Span → Type 0) (Q : Items → T
     item_content_over (redirect number operator span w d) so =
         rw (some_over number so.0, is span so.1, word_over w so.2, here_over d so.3) refl
 
+    -- carried by h and then by f, a word, its substitutions, and each of these are as g carries them
     word_over : (w : AWord) → InWord P Q w →
         carried_word f fb true (carried_word h hb true w) ≡ carried_word g gb true w
     word_over (word span substs) so = rw (is span so.0, substs_over substs so.1) refl
@@ -156,7 +168,10 @@ module _ (f h g fb hb gb : Span → Span) (P : Span → Type 0) (Q : Items → T
 -- ---- where f leaves each span as it is, and fb each body
 
 module _ (f fb : Span → Span) (is : (s : Span) → f s ≡ s) (body_is : (s : Span) → fb s ≡ s) where
-  -- for each kind of part: it stays as it is
+  -- For each kind of part: it stays as it is.
+
+  -- a span that may be missing stays as it is, and so do a row of comments, a join, and a here-document that
+  -- may be missing
   some_same : (c : Option Span) → option_map f c ≡ c
   some_same None = refl
   some_same (Some s) = ap Some (is s)
@@ -174,6 +189,7 @@ module _ (f fb : Span → Span) (is : (s : Span) → f s ≡ s) (body_is : (s : 
       (body_is d.body)
 
   mutual
+    -- a list stays as it is, and so do an entry and what stands in it
     pub same : (es : Entries) → carried f fb true es ≡ es
     same no_entry = refl
     same (more_entries e es) = rw (entry_same e, same es) refl
@@ -185,6 +201,7 @@ module _ (f fb : Span → Span) (is : (s : Span) → f s ≡ s) (body_is : (s : 
     content_same (command a) = ap command (and_or_same a)
     content_same (remark c) = ap remark (is c)
 
+    -- an and-or list and a pipeline stay as they are, each with the parts after its first operand
     and_or_same : (a : AnAndOr) → carried_and_or f fb true a ≡ a
     and_or_same (and_or first rest) = rw (pipeline_same first, and_or_parts_same rest) refl
 
@@ -199,6 +216,7 @@ module _ (f fb : Span → Span) (is : (s : Span) → f s ≡ s) (body_is : (s : 
     pipes_same no_pipe = refl
     pipes_same (more_pipes join c cs) = rw (join_same join, command_same c, pipes_same cs) refl
 
+    -- a command stays as it is, and so do a compound command and a form of each kind
     command_same : (c : ACommand) → carried_command f fb true c ≡ c
     command_same (simple items) = ap simple (items_same items)
     command_same (compound c) = ap compound (compound_same c)
@@ -216,6 +234,7 @@ module _ (f fb : Span → Span) (is : (s : Span) → f s ≡ s) (body_is : (s : 
     form_same (for_in name words body) = rw (word_same name, for_words_same words, same body) refl
     form_same (case_in w cases tail) = rw (word_same w, cases_same cases, each_same tail) refl
 
+    -- a branch stays as it is, and so do the branches after it, an `else`, and the words of a `for`
     branch_same : (b : ABranch) → carried_branch f fb true b ≡ b
     branch_same (branch condition body) = rw (same condition, same body) refl
 
@@ -231,6 +250,7 @@ module _ (f fb : Span → Span) (is : (s : Span) → f s ≡ s) (body_is : (s : 
     for_words_same no_in = refl
     for_words_same (in_words items) = ap in_words (items_same items)
 
+    -- the items of a `case` stay as they are, and so do each of them and its patterns
     cases_same : (cs : CaseItems) → carried_cases f fb true cs ≡ cs
     cases_same no_case = refl
     cases_same (more_cases c cs) = rw (case_same c, cases_same cs) refl
@@ -243,6 +263,7 @@ module _ (f fb : Span → Span) (is : (s : Span) → f s ≡ s) (body_is : (s : 
     patterns_same no_pattern = refl
     patterns_same (more_patterns w ws) = rw (word_same w, patterns_same ws) refl
 
+    -- a row of items stays as it is, and so do each of them and what it is
     items_same : (is2 : Items) → carried_items f fb true is2 ≡ is2
     items_same no_item = refl
     items_same (more_items i rest) = rw (item_same i, items_same rest) refl
@@ -256,6 +277,7 @@ module _ (f fb : Span → Span) (is : (s : Span) → f s ≡ s) (body_is : (s : 
     item_content_same (redirect number operator span w d) =
         rw (some_same number, is span, word_same w, here_same d) refl
 
+    -- a word stays as it is, and so do its substitutions and each of these
     word_same : (w : AWord) → carried_word f fb true w ≡ w
     word_same (word span substs) = rw (is span, substs_same substs) refl
 
@@ -269,7 +291,9 @@ module _ (f fb : Span → Span) (is : (s : Span) → f s ≡ s) (body_is : (s : 
 -- ---- what holds of every span and of all items holds throughout
 
 module _ (P : Span → Type 0) (Q : Items → Type 0) (p : (s : Span) → P s) (q : (items : Items) → Q items) where
-  -- for each kind of part: P holds of each of its spans, and Q of the items of each simple command in it
+  -- For each kind of part: P holds of each of its spans, and Q of the items of each simple command in it.
+
+  -- P holds of a span that may be missing, of each comment of a row or a join, and of a here-document's body
   some_all : (c : Option Span) → OfSome P c
   some_all None = tt
   some_all (Some s) = p s
@@ -286,6 +310,7 @@ module _ (P : Span → Type 0) (Q : Items → Type 0) (p : (s : Span) → P s) (
   here_all (Some d) = p d.body
 
   mutual
+    -- P and Q hold throughout a list, an entry, and what stands in it
     pub all : (es : Entries) → Throughout P Q es
     all no_entry = tt
     all (more_entries e es) = (entry_all e, all es)
@@ -297,6 +322,7 @@ module _ (P : Span → Type 0) (Q : Items → Type 0) (p : (s : Span) → P s) (
     content_all (command a) = and_or_all a
     content_all (remark c) = p c
 
+    -- P and Q hold throughout an and-or list and a pipeline, and the parts after their first operand
     and_or_all : (a : AnAndOr) → InAndOr P Q a
     and_or_all (and_or first rest) = (pipeline_all first, and_or_parts_all rest)
 
@@ -311,6 +337,7 @@ module _ (P : Span → Type 0) (Q : Items → Type 0) (p : (s : Span) → P s) (
     pipes_all no_pipe = tt
     pipes_all (more_pipes join c cs) = (join_all join, command_all c, pipes_all cs)
 
+    -- P and Q hold throughout a command, a compound command, and a form of each kind
     command_all : (c : ACommand) → InCommand P Q c
     command_all (simple items) = (q items, items_all items)
     command_all (compound c) = compound_all c
@@ -328,6 +355,7 @@ module _ (P : Span → Type 0) (Q : Items → Type 0) (p : (s : Span) → P s) (
     form_all (for_in name words body) = (word_all name, for_words_all words, all body)
     form_all (case_in w cases tail) = (word_all w, cases_all cases, each_all tail)
 
+    -- P and Q hold throughout a branch, the branches after it, an `else`, and the words of a `for`
     branch_all : (b : ABranch) → InBranch P Q b
     branch_all (branch condition body) = (all condition, all body)
 
@@ -343,6 +371,7 @@ module _ (P : Span → Type 0) (Q : Items → Type 0) (p : (s : Span) → P s) (
     for_words_all no_in = tt
     for_words_all (in_words items) = items_all items
 
+    -- P and Q hold throughout the items of a `case`, each of them, and its patterns
     cases_all : (cs : CaseItems) → InCases P Q cs
     cases_all no_case = tt
     cases_all (more_cases c cs) = (case_all c, cases_all cs)
@@ -354,6 +383,7 @@ module _ (P : Span → Type 0) (Q : Items → Type 0) (p : (s : Span) → P s) (
     patterns_all no_pattern = tt
     patterns_all (more_patterns w ws) = (word_all w, patterns_all ws)
 
+    -- P and Q hold throughout a row of items, each of them, and what it is
     items_all : (is2 : Items) → InItems P Q is2
     items_all no_item = tt
     items_all (more_items i rest) = (item_all i, items_all rest)
@@ -366,6 +396,7 @@ module _ (P : Span → Type 0) (Q : Items → Type 0) (p : (s : Span) → P s) (
     item_content_all (argument w) = word_all w
     item_content_all (redirect number operator span w d) = (some_all number, p span, word_all w, here_all d)
 
+    -- P and Q hold throughout a word, its substitutions, and each of these
     word_all : (w : AWord) → InWord P Q w
     word_all (word span substs) = (p span, substs_all substs)
 

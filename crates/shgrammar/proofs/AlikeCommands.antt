@@ -30,39 +30,40 @@ use Rattle.shgrammar.proofs.Alike.{SameStep, SameHeld, All, Alike, alike_give, a
 abbrev pub SameNext : {X Y : Type 0} → X × Next → Y × Next → Type 0
 SameNext x y = x.1 ≡ y.1
 
--- words that stand at the same place
+-- two words stand at the same place
 abbrev pub SamePlace : AWord → AWord → Type 0
 SamePlace w v = word_span w ≡ word_span v
 
--- the same position and the same token, whatever items were read
+-- two rows of items end at the same position, and the same token comes after both, whatever items were read
 abbrev pub SameItems : ItemsSoFar → ItemsSoFar → Type 0
 SameItems i j = (i.position ≡ j.position) × (i.next ≡ j.next)
 
--- words at the same place, of the same bytes
+-- two words of redirections stand at the same place, and have the same bytes
 abbrev pub SameTarget : AWord × Spelled → AWord × Spelled → Type 0
 SameTarget x y = SamePlace x.0 y.0 × (x.1 ≡ y.1)
 
--- both break their line or both do not, and the same token comes after
+-- two joins break their line or neither does, and the same token comes after both
 abbrev pub SameJoin : JoinSoFar → JoinSoFar → Type 0
 SameJoin j k = (j.join.broken ≡ k.join.broken) × (j.next ≡ k.next)
 
--- the same token after the commands so far, and after the pipelines so far
+-- the same token comes after the commands of two pipelines so far, and after the pipelines
+-- of two and-or lists
 abbrev pub SamePipes : PipesSoFar → PipesSoFar → Type 0
 SamePipes p q = p.next ≡ q.next
 
 abbrev pub SameAndOrs : AndOrSoFar → AndOrSoFar → Type 0
 SameAndOrs a b = a.next ≡ b.next
 
--- both are ended by a separator or both are not, and the same token comes after
+-- two entries end at the same separator or at none, and the same token comes after both
 abbrev pub SameEntered : Entered → Entered → Type 0
 SameEntered e f = (e.parted ≡ f.parted) × (e.next ≡ f.next)
 
--- by the same test both turns go on, or both end
+-- by the same test the turns of two joins go on, or both end
 join_step : (p : Bool) (j k : JoinSoFar) → SameJoin j k → SameStep SameJoin (step_if p j) (step_if p k)
 join_step true j k same = same
 join_step false j k same = same
 
--- the same after a newline, or none
+-- after the same newline, or none, the turns of two joins go on, or both end
 join_steps : (l m : Bool × Next) → l ≡ m → (broken pale : Bool) → broken ≡ pale → (cs ds : Row Span)
     → SameStep SameJoin (step_if l.0 (join_so_far (a_join_of (broken || l.0) cs) l.1))
     (step_if m.0 (join_so_far (a_join_of (pale || m.0) ds) m.1))
@@ -110,11 +111,11 @@ module _ {g : Given} where
 
   -- ---- tokens
 
-  -- an operator, told in whatever way
+  -- an operator is passed the same way, told in whatever way
   pub alike_mark : {how : Telling} {m : Move} → Alike g All (token how (move m)) (token how (move m))
   alike_mark = alike_token {R = All} (alike_move {S = All} tt) (λ a b z so. tt)
 
-  -- an operator, and where it stands
+  -- an operator is passed the same way, and stands at the same place
   pub alike_place : {how : Telling} {m : Move} → Alike g (λ x y. x ≡ y) (token how (move m)) (token how (move m))
   alike_place = alike_token {R = λ x y. x ≡ y} (alike_move {S = All} tt) (λ a b z so. refl)
 
@@ -132,7 +133,7 @@ module _ {g : Given} where
   unfolding a_comment
   alike_comment n m same = rw (← same) (alike_see (λ c. alike_comment_by n c))
 
-  -- a newline or none, and the same token after it
+  -- a newline or none goes the same way, with the same token after it
   pub alike_newline : (n : Next) → Alike g (λ x y. x ≡ y) (a_newline n) (a_newline n)
   unfolding a_newline
   alike_newline n = alike_pick (is_newline_token n.token) _ refl
@@ -148,7 +149,7 @@ module _ {g : Given} where
   unfolding nothing_waits
   alike_nothing_waits = alike_see (λ w. alike_none_waits w)
 
-  -- a `;` or none, a separator or none, and the same token after it
+  -- a `;` or none goes the same way, with the same token after it, and so does a separator or none
   pub alike_semicolon : (n : Next) → Alike g (λ x y. x ≡ y) (a_semicolon n) (a_semicolon n)
   unfolding a_semicolon
   alike_semicolon n = alike_pick (is_semicolon n.token) _ refl
@@ -166,12 +167,13 @@ module _ {g : Given} where
 
   -- ---- joins and linebreaks
 
-  -- whichever comments are kept
+  -- whichever comments are kept, one more goes the same way, or none
   alike_with : (cs ds : Row Span) (c : Option Span) → Alike g All (with_comment cs c) (with_comment ds c)
   alike_with cs ds (Some c) = alike_push tt
   alike_with cs ds None = alike_give tt
 
-  -- a turn over comments and newlines, a join, and a linebreak, with the same token after each
+  -- a turn over comments and newlines, a join, and a linebreak go the same way, with the
+  -- same token after each
   alike_join_turn : (j k : JoinSoFar) → SameJoin j k → Alike g (SameStep SameJoin) (join_turn j) (join_turn k)
   unfolding join_turn
   alike_join_turn j k same =
@@ -193,7 +195,7 @@ module _ {g : Given} where
 
   -- ---- the parts of a redirection
 
-  -- its number, and the token after it
+  -- the number of a redirection goes the same way, or none, with the same token after it
   alike_number : (n : Next) → Alike g (λ x y. x ≡ y) (a_number n) (a_number n)
   unfolding a_number
   alike_number n =
@@ -202,7 +204,7 @@ module _ {g : Given} where
       (λ x y so. alike_then (alike_next _) (λ m k same. alike_give (rw (so, same) refl))))
       (alike_give refl)
 
-  -- its operator, and where that stands
+  -- the operator of a redirection goes the same way, and stands at the same place
   alike_operator : (o : RedirectOperator) → Alike g (λ x y. x.1 ≡ y.1) (an_operator o) (an_operator o)
   unfolding an_operator
   alike_operator o = alike_token {S = All} {R = λ x y. x.1 ≡ y.1}
@@ -213,7 +215,7 @@ module _ {g : Given} where
   alike_operator_by p (Some o) = alike_then (alike_operator o) (λ x y so. alike_give (ap (λ z. (o, z)) so))
   alike_operator_by p None = alike_stop
 
-  -- its here-document or none, by the same bytes of its word
+  -- the here-document of a redirection goes the same way, or none, by the same bytes of its word
   alike_document_by : (b p : ℕ) (strip : Bool) (d : Option ADelimiter) →
       Alike g (λ x y. x ≡ y) (document_by b p strip d) (document_by b p strip d)
   alike_document_by b p strip (Some d) = alike_then {S = All} (alike_change tt) (λ u v so. alike_give refl)
@@ -233,7 +235,7 @@ module _ {g : Given} where
 
 -- ---- words
 
--- what may be opened goes the same way
+-- what may be opened goes the same way, with its tree and without
 module _ (g : Given) where
   pub record Fits (inner : Inner) : Type 0 where
     pub construct : (mode : Mode) (b : ℕ) (ss zs : Row ASubst) →
@@ -243,12 +245,12 @@ module _ (g : Given) where
     pub function : (name : Span) → Alike g SameNext (inner.function name) (inner.function name)
 
 module _ {g : Given} {inner : Inner} (fits : Fits g inner) where
-  -- a construct in a word
+  -- a construct that opens in a word goes the same way
   alike_opened : (mode : Mode) (b : ℕ) (h i : WordSoFar) → SameHeld h i →
       Alike g (SameStep SameHeld) (opened inner mode b h) (opened inner mode b i)
   alike_opened mode b h i same = alike_then (fits.construct mode b h.substs i.substs) (λ x y so. alike_give same)
 
-  -- a piece of a word, by its kind
+  -- a piece of a word goes the same way, by its kind
   alike_piece_by : (mode : Mode) (b : ℕ) (h i : WordSoFar) (piece : Piece) → SameHeld h i →
       Alike g (SameStep SameHeld) (piece_row inner mode b h piece) (piece_row inner mode b i piece)
   alike_piece_by mode b h i pieces.Closer same = alike_on (alike_give same)
@@ -272,13 +274,13 @@ module _ {g : Given} {inner : Inner} (fits : Fits g inner) where
   alike_piece_by mode b h i pieces.BadClose same = alike_see (λ q. alike_stop)
   alike_piece_by mode b h i pieces.Ordinary same = alike_on (alike_give same)
 
-  -- the piece that begins here
+  -- the piece that begins here is the same in both, and goes the same way
   alike_piece : (mode : Mode) (b : ℕ) (h i : WordSoFar) → SameHeld h i →
       Alike g (SameStep SameHeld) (a_piece inner mode b h) (a_piece inner mode b i)
   unfolding a_piece
   alike_piece mode b h i same = alike_same (ap (the_piece mode) same) (λ piece. alike_piece_by mode b h i piece same)
 
-  -- pieces up to the end of their construct, or of the word
+  -- all pieces up to the end of their construct, or of the word, go the same way
   pub alike_contents : (mode : Mode) (b : ℕ) (ss zs : Row ASubst) →
       Alike g All (contents inner mode b ss) (contents inner mode b zs)
   unfolding contents
@@ -287,7 +289,7 @@ module _ {g : Given} {inner : Inner} (fits : Fits g inner) where
       (word_so_far 0 ss)
       (word_so_far 0 zs) refl) (λ x y so. alike_give tt)
 
-  -- words that stand at the same place
+  -- a word goes the same way, and stands at the same place
   pub alike_word : Alike g SamePlace (a_word inner) (a_word inner)
   unfolding a_word
   alike_word = alike_see (λ p. alike_then
@@ -295,19 +297,19 @@ module _ {g : Given} {inner : Inner} (fits : Fits g inner) where
 
   -- ---- commands, if what may be opened goes the same way
 
-  -- what is wrong with it
+  -- what is wrong with a token is the same in both
   alike_wrong : (n : Next) → Alike g (λ x y. x ≡ y) (what_is_wrong inner n) (what_is_wrong inner n)
   unfolding what_is_wrong
   alike_wrong n =
       alike_pick (begins_word n.token) _ refl (alike_see (λ p. alike_then alike_word (λ w v so. alike_give refl)))
       (alike_then (alike_comment n n refl) (λ c d so. rw (← so) (alike_see (λ p. alike_see (λ w. alike_give refl)))))
 
-  -- a token that may not stand here
+  -- a token that may not stand here stops both
   pub alike_unexpected : {X : Type 0} {S : X → X → Type 0} (n : Next) →
       Alike g S (unexpected inner n) (unexpected inner n)
   alike_unexpected n = alike_then (alike_wrong n) (λ w v so. rw (← so) alike_stop)
 
-  -- a word or an assignment, with the same token after it
+  -- a word or an assignment goes the same way, with the same token after it
   pub alike_item : (i j : ItemsSoFar) (position : Position) →
       Alike g (SameStep SameItems) (an_item inner i position) (an_item inner j position)
   unfolding an_item
@@ -315,14 +317,14 @@ module _ {g : Given} {inner : Inner} (fits : Fits g inner) where
       alike_then alike_word (λ w v so. alike_pushed
       (alike_then (alike_next position) (λ n m same. alike_give (refl, same))))
 
-  -- the word of a redirection, at the same place and of the same bytes
+  -- the word of a redirection goes the same way, at the same place and of the same bytes
   alike_target : Alike g SameTarget (a_target inner) (a_target inner)
   unfolding a_target
   alike_target = alike_then (alike_next _)
       (λ n m same. rw (← same) (alike_pick (is_word n.token) _ refl
       (alike_with_bytes alike_word (λ a b k so. (so, refl))) (alike_unexpected n)))
 
-  -- a redirection with the same token after it, whatever items were read before it
+  -- a redirection goes the same way, with the same token after it, whatever items were read before it
   alike_redirect : (broken pale : Bool) (position : Position) (is js : Row AnItem) (n : Next)
       → Alike g (SameStep SameItems) (one_redirect inner broken position is n) (one_redirect inner pale position js n)
   unfolding one_redirect
@@ -338,7 +340,7 @@ module _ {g : Given} {inner : Inner} (fits : Fits g inner) where
       → Alike g (SameStep SameItems) (one_redirect inner broken p is n) (one_redirect inner pale q js m)
   alike_redirect_at broken pale p q is js n m one two = rw (← one, ← two) (alike_redirect broken pale p is js n)
 
-  -- an item of either kind, a turn over items, and a simple command
+  -- an item of either kind, a turn over items, and a simple command go the same way
   alike_item_by : (i j : ItemsSoFar) (position : Option Position) → SameItems i j →
       Alike g (SameStep SameItems) (item_by inner i position) (item_by inner j position)
   alike_item_by i j (Some position) same = alike_item i j position
@@ -361,7 +363,7 @@ module _ {g : Given} {inner : Inner} (fits : Fits g inner) where
       (alike_many SameItems (item_turn inner) (item_turn inner) alike_item_turn i j same)
       (λ is js so. alike_give so.1)
 
-  -- the redirections after a compound command
+  -- the redirections after a compound command go the same way
   alike_redirect_turn : (i j : ItemsSoFar) → SameItems i j →
       Alike g (SameStep SameItems) (redirect_turn inner i) (redirect_turn inner j)
   unfolding redirect_turn
@@ -376,13 +378,13 @@ module _ {g : Given} {inner : Inner} (fits : Fits g inner) where
       alike_then (alike_many SameItems (redirect_turn inner) (redirect_turn inner) alike_redirect_turn
       (items_so_far [] Command c.1) (items_so_far [] Command d.1) (refl, same)) (λ i j so. alike_give so.1)
 
-  -- a compound command by its opener, or a fault where there is none
+  -- a compound command goes the same way by its opener; where there is none, both stop
   pub alike_compound_by : (n : Next) (o : Option Opener) →
       Alike g SameNext (compound_by inner n o) (compound_by inner n o)
   alike_compound_by n (Some o) = alike_then (fits.compound o) alike_with_redirect_list
   alike_compound_by n None = alike_unexpected n
 
-  -- a function, the command that begins with a word, and whichever begins here
+  -- a function, the command that begins with a word, and whichever begins here go the same way
   alike_named_function : (good : Bool) (w v : AWord) → SamePlace w v →
       Alike g SameNext (named_function inner good (word_span w)) (named_function inner good (word_span v))
   alike_named_function good w v same =
@@ -406,7 +408,7 @@ module _ {g : Given} {inner : Inner} (fits : Fits g inner) where
 
   -- ---- pipelines, and-or lists and entries
 
-  -- `!`, if it stands here
+  -- `!` goes the same way, if it stands here
   alike_bang : (n : Next) → Alike g SameNext (a_bang n) (a_bang n)
   unfolding a_bang
   alike_bang n =
@@ -414,7 +416,7 @@ module _ {g : Given} {inner : Inner} (fits : Fits g inner) where
       (alike_then alike_mark (λ x y so. alike_then (alike_next _) (λ m k same. alike_give same)))
       (alike_give refl)
 
-  -- one more command after a `|`, a turn over them, and the pipeline
+  -- one more command after a `|`, a turn over them, and the pipeline go the same way
   alike_one_command : (p q : PipesSoFar) → SamePipes p q →
       Alike g (SameStep SamePipes) (one_command inner p) (one_command inner q)
   unfolding one_command
@@ -438,7 +440,7 @@ module _ {g : Given} {inner : Inner} (fits : Fits g inner) where
       (pipes_so_far [] c.1)
       (pipes_so_far [] e.1) so') (λ p q so''. alike_give so'')))
 
-  -- one more pipeline after `&&` or `||`, a turn over them, and the and-or list
+  -- one more pipeline after `&&` or `||`, a turn over them, and the and-or list go the same way
   alike_one_pipeline : (a b : AndOrSoFar) (o : AndOrOperator) → SameAndOrs a b →
       Alike g (SameStep SameAndOrs) (one_pipeline inner a o) (one_pipeline inner b o)
   unfolding one_pipeline
@@ -469,7 +471,7 @@ module _ {g : Given} {inner : Inner} (fits : Fits g inner) where
       (and_or_turn inner) alike_and_or_turn (and_or_so_far [] p.1) (and_or_so_far [] q.1) same)
       (λ a b so. alike_give so))
 
-  -- an entry, whether it is blank or not
+  -- an entry goes the same way, whether it is blank or not
   pub alike_entry : (blank pale : Bool) (n : Next) →
       Alike g SameEntered (an_entry inner blank n) (an_entry inner pale n)
   unfolding an_entry

@@ -31,12 +31,12 @@ module _ {g : Given} {inner : Inner} (fits : Fits g inner) where
   abbrev SameList : ListSoFar → ListSoFar → Type 0
   SameList l m = (l.list.commands ≡ m.list.commands) × (l.next ≡ m.next)
 
-  -- a step that goes on by one test in both
+  -- by the same test the turns of two lists go on, or both end
   same_step : (p : Bool) (l m : ListSoFar) → SameList l m → SameStep SameList (step_if p l) (step_if p m)
   same_step true l m same = same
   same_step false l m same = same
 
-  -- one more entry, and a comment that stands for itself
+  -- one more entry goes the same way, and so does a comment that stands for itself
   alike_one_entry : (l m : ListSoFar) → SameList l m →
       Alike g (SameStep SameList) (one_entry inner l) (one_entry inner m)
   unfolding one_entry
@@ -62,7 +62,7 @@ module _ {g : Given} {inner : Inner} (fits : Fits g inner) where
   alike_remark l m same = alike_then (alike_comment l.next m.next same.1)
       (λ x y so. rw (← so) (alike_remark_by l m x same.0))
 
-  -- all of one line
+  -- all of one line goes the same way
   alike_on_line : (l m : ListSoFar) → SameList l m → Alike g SameList (on_line inner l) (on_line inner m)
   unfolding on_line
   alike_on_line l m same = alike_then
@@ -77,7 +77,7 @@ module _ {g : Given} {inner : Inner} (fits : Fits g inner) where
       (step_if z.0 (list_so_far (next_line m) z.1))) is
       (same_step x.0 (list_so_far (next_line l) x.1) (list_so_far (next_line m) x.1) (same, refl))
 
-  -- one more line, and a whole list
+  -- one more line goes the same way, and so does a whole list
   alike_list_turn : (l m : ListSoFar) → SameList l m →
       Alike g (SameStep SameList) (list_turn inner l) (list_turn inner m)
   unfolding list_turn
@@ -98,7 +98,7 @@ module _ {g : Given} {inner : Inner} (fits : Fits g inner) where
 
   -- Each row hands on the same token, with its tree and without.
 
-  -- a reserved word or a round bracket, and what has to stand here
+  -- a reserved word or a round bracket goes the same way, and so does what has to stand here
   alike_reserved_or_paren : (text : Spelled) (paren : Bool) (position : Position) →
       Alike g (λ x y. x ≡ y) (reserved_or_paren text paren position) (reserved_or_paren text paren position)
   unfolding reserved_or_paren
@@ -111,7 +111,7 @@ module _ {g : Given} {inner : Inner} (fits : Fits g inner) where
   alike_closing c n = alike_pick (is_closing c n.token) _ refl (alike_reserved_or_paren _ (is_close_paren c) _)
       (alike_unexpected fits n)
 
-  -- what was read last, and the token after it
+  -- the same token comes after two closers; what closes goes the same way, whatever it closes
   abbrev SameClosed : {X : Type 0} → Closed X → Closed X → Type 0
   SameClosed x y = x.next ≡ y.next
 
@@ -121,7 +121,7 @@ module _ {g : Given} {inner : Inner} (fits : Fits g inner) where
       alike_then (alike_at (closing inner c) (alike_closing c) n m same)
       (λ x y so. alike_give (ap (λ (z : Span × Next). z.1) so))
 
-  -- a list that another closing word follows, and the token after that
+  -- a condition with what it runs goes the same way
   alike_branch : (n : Next) → Alike g SameNext (a_branch inner n) (a_branch inner n)
   unfolding a_branch
   alike_branch n =
@@ -130,7 +130,7 @@ module _ {g : Given} {inner : Inner} (fits : Fits g inner) where
       (λ t u so. alike_then (alike_at (a_list inner) alike_list t.1 u.1 (ap (λ (z : Span × Next). z.1) so))
       (λ b e so'. alike_give so')))
 
-  -- the branches after an `elif` so far
+  -- the same token comes after the branches so far; one more after an `elif`, or none, goes the same way
   abbrev SameBranches : BranchesSoFar → BranchesSoFar → Type 0
   SameBranches b c = b.next ≡ c.next
 
@@ -144,7 +144,7 @@ module _ {g : Given} {inner : Inner} (fits : Fits g inner) where
       (λ x y so'. alike_pushed (alike_give so'))))
       (alike_give same)
 
-  -- what stands after `else`, and a whole `if`
+  -- what stands after `else` goes the same way, or nothing, and so does a whole `if`
   alike_else : (n : Next) → Alike g SameNext (an_else inner n) (an_else inner n)
   unfolding an_else
   alike_else n =
@@ -163,7 +163,7 @@ module _ {g : Given} {inner : Inner} (fits : Fits g inner) where
       (λ b c so. alike_then (alike_at (an_else inner) alike_else b.next c.next so)
       (λ e d so'. alike_closed _ _ closings.Fi e.1 d.1 so')))
 
-  -- a loop, and a list with what closes it
+  -- a loop goes the same way, and so does a list with what closes it
   alike_loop : (n : Next) → Alike g SameClosed (a_loop inner n) (a_loop inner n)
   unfolding a_loop
   alike_loop n =
@@ -176,7 +176,7 @@ module _ {g : Given} {inner : Inner} (fits : Fits g inner) where
   unfolding a_group
   alike_group c n = alike_then (alike_list n) (λ l m same. alike_closed _ _ c l.1 m.1 same)
 
-  -- the name of a `for`
+  -- the name of a `for` goes the same way
   alike_for_name : (n : Next) → Alike g SameNext (a_for_name inner n) (a_for_name inner n)
   unfolding a_for_name
   alike_for_name n =
@@ -185,7 +185,7 @@ module _ {g : Given} {inner : Inner} (fits : Fits g inner) where
       (λ w v so. alike_pick good _ refl (alike_then (alike_next _) (λ m k same. alike_give same)) alike_stop))))
       (alike_unexpected fits n)
 
-  -- a `;` or a newline, with newlines and comments
+  -- a `;` or a newline goes the same way, with newlines and comments after it
   alike_sequential_sep : (cs ds : Row Span) (n m : Next) → n ≡ m →
       Alike g SameJoin (a_sequential_sep inner cs n) (a_sequential_sep inner ds m)
   unfolding a_sequential_sep
@@ -195,7 +195,7 @@ module _ {g : Given} {inner : Inner} (fits : Fits g inner) where
       (λ l k is. alike_pick _ _ (ap (λ b. s.0 || b) is.0) (alike_give is)
       (alike_at (unexpected inner) (alike_unexpected fits) l.next k.next is.1))))
 
-  -- what stands between the name of a `for` and its `do`, and a whole `for`
+  -- what stands between the name of a `for` and its `do` goes the same way, and so does a whole `for`
   abbrev SameHead : Headed → Headed → Type 0
   SameHead h k = h.next ≡ k.next
 
@@ -228,14 +228,15 @@ module _ {g : Given} {inner : Inner} (fits : Fits g inner) where
       (λ d e so'. alike_then (alike_at (a_group inner closings.Done) (alike_group closings.Done) d.1 e.1
       (ap (λ (z : Span × Next). z.1) so')) (λ b c so''. alike_give so''))))
 
-  -- the word of a `case`
+  -- the word of a `case` goes the same way
   alike_case_word : (n : Next) → Alike g SameNext (a_case_word inner n) (a_case_word inner n)
   unfolding a_case_word
   alike_case_word n = alike_pick (begins_word n.token) _ refl
       (alike_then (alike_word fits) (λ w v so. alike_then (alike_next _) (λ m k same. alike_give same)))
       (alike_unexpected fits n)
 
-  -- the patterns of an item so far, and all of them
+  -- the same token comes after the patterns of an item so far; one more goes the same way, and so
+  -- do all of them
   abbrev SamePatterns : PatternsSoFar → PatternsSoFar → Type 0
   SamePatterns p q = p.next ≡ q.next
 
@@ -267,7 +268,7 @@ module _ {g : Given} {inner : Inner} (fits : Fits g inner) where
       (λ p q so. alike_many SamePatterns (pattern_turn inner) (pattern_turn inner) alike_pattern_turn p q so))
       (alike_unexpected fits n)
 
-  -- the `(` before the patterns, and the list of an item
+  -- the `(` before the patterns goes the same way, or none, and so does the list of an item
   alike_bracket : (n : Next) → Alike g (λ m k. m ≡ k) (an_open_bracket n) (an_open_bracket n)
   unfolding an_open_bracket
   alike_bracket n = alike_pick (is_paren n.token) _ refl (alike_on (alike_next _)) (alike_give refl)
@@ -277,7 +278,8 @@ module _ {g : Given} {inner : Inner} (fits : Fits g inner) where
   alike_body n = alike_many SameList (list_turn inner) (list_turn inner) alike_list_turn
       (list_so_far (none_listed false) n) (list_so_far (none_listed false) n) (refl, refl)
 
-  -- the end of an item, by `;;` or `;&` or before `esac`
+  -- the same token comes after the ends of two items; the end goes the same way, by `;;` or
+  -- `;&` or before `esac`
   abbrev SameItemEnd : ItemEnd → ItemEnd → Type 0
   SameItemEnd e f = e.next ≡ f.next
 
@@ -294,7 +296,7 @@ module _ {g : Given} {inner : Inner} (fits : Fits g inner) where
       rw (← same) (alike_pick (ends_item n.token) _ refl (alike_ender (falls_through n.token))
       (alike_pick (is_closing closings.Esac n.token) _ refl (alike_give refl) (alike_unexpected fits n)))
 
-  -- one more item of a `case`
+  -- the same token comes after the items of a `case` so far; one more goes the same way, or none
   abbrev SameCases : CasesSoFar → CasesSoFar → Type 0
   SameCases c d = c.next ≡ d.next
 
@@ -316,7 +318,7 @@ module _ {g : Given} {inner : Inner} (fits : Fits g inner) where
   alike_case_turn c d same = alike_pick _ _ (ap (λ (n : Next). is_closing closings.Esac n.token) same)
       (alike_give same) (alike_one_case c d same)
 
-  -- what stands between `case` and its items, and a whole `case`
+  -- what stands between `case` and its items goes the same way, and so does a whole `case`
   abbrev SameCaseHead : AWord × Row Span × Next → AWord × Row Span × Next → Type 0
   SameCaseHead h k = h.2 ≡ k.2
 
@@ -336,7 +338,7 @@ module _ {g : Given} {inner : Inner} (fits : Fits g inner) where
       (cases_so_far [] h.1 h.2) (cases_so_far [] k.1 k.2) same)
       (λ c d so. alike_closed _ _ closings.Esac c.next d.next so))
 
-  -- a compound command by its opener: after it, and from it on
+  -- a compound command goes the same way by its opener: after it, and from it on
   alike_form : (o : Opener) (n : Next) → Alike g SameClosed (a_form inner o n) (a_form inner o n)
   alike_form openers.Brace n = alike_then (alike_group closings.Brace n) (λ l m same. alike_give same)
   alike_form openers.Paren n = alike_then (alike_group closings.Paren n) (λ l m same. alike_give same)
@@ -355,7 +357,7 @@ module _ {g : Given} {inner : Inner} (fits : Fits g inner) where
 
   -- ---- substitutions
 
-  -- what stands in a command substitution, and one more substitution after others
+  -- what stands in a command substitution goes the same way, and so does one more substitution after others
   alike_substitution_list : Alike g All (substitution_list inner) (substitution_list inner)
   unfolding substitution_list
   alike_substitution_list =
@@ -373,7 +375,7 @@ module _ {g : Given} {inner : Inner} (fits : Fits g inner) where
       (alike_then (alike_level_of {S = All} {R = All} (alike_ending alike_substitution_list) (λ a b k so. tt))
       (λ x y so. alike_see (λ q. alike_push tt)))
 
-  -- a function, from just after its name on
+  -- a function goes the same way, from just after its name on
   pub alike_function : (name : Span) → Alike g SameNext (a_function inner name) (a_function inner name)
   unfolding a_function
   alike_function name =
@@ -394,7 +396,7 @@ module _ {g : Given} {inner : Inner} (fits : Fits g inner) where
       (alike_pick (is_end n.token) _ refl (alike_then alike_nothing_waits (λ u v so. alike_give refl))
       (alike_unexpected fits n))
 
-  -- a line of a script, whether its first entry is told to be blank or not
+  -- a line of a script goes the same way, whether its first entry is told to be blank or not
   alike_open_line : (blank pale : Bool) → Alike g SameEnd (an_open_line inner blank) (an_open_line inner pale)
   unfolding an_open_line
   alike_open_line blank pale =
@@ -408,7 +410,7 @@ module _ {g : Given} {inner : Inner} (fits : Fits g inner) where
       (alike_level_of {S = SameEnd} {R = λ x y. SameEnd x.0 y.0} (alike_open_line blank pale) (λ a b k so. so))
       (λ x y so. alike_give so)
 
--- words within words, commands within commands
+-- what may be opened goes the same way, words within words and commands within commands
 pub alike_level : (g : Given) (room : ℕ) → Fits g (level room)
 unfolding level
 alike_level g zero = record {

@@ -56,25 +56,25 @@ module _ (B : List ℕ) where
 -- ---- what is the same in both texts
 
 module _ (B B2 : List ℕ) where
-  -- words of the same shape
+  -- two words have the same shape
   abbrev pub SameWord : AWord → AWord → Type 0
   SameWord w v = shape_of_word B w ≡ shape_of_word B2 v
 
-  -- commands of the same shape, and the same token after them
+  -- two commands have the same shape, and the same token stands after them
   abbrev pub SameCommand : ACommand × Next → ACommand × Next → Type 0
   SameCommand x y = (shape_of_command B x.0 ≡ shape_of_command B2 y.0) × (x.1 ≡ y.1)
 
-  -- items of the same shapes, at the same position, and the same token after them
+  -- two rows of items have the same shapes and end at the same position, and the same token stands after them
   abbrev pub SameItems : ItemsSoFar → ItemsSoFar → Type 0
   SameItems i j = (map (shape_of_item B) i.items ≡ map (shape_of_item B2) j.items)
       × ((i.position ≡ j.position) × (i.next ≡ j.next))
 
-  -- entries of the same shape, both ended by a separator or none, and the same token after them
+  -- two entries have the same shape, a separator ends both or neither, and the same token stands after them
   abbrev pub SameEntered : Entered → Entered → Type 0
   SameEntered e f = (shape_of_entry B e.entry ≡ shape_of_entry B2 f.entry)
       × ((is_some e.parted ≡ is_some f.parted) × (e.next ≡ f.next))
 
-  -- their rows have the same shape
+  -- items that are the same in that way have rows of the same shape
   pub items_same : (i j : ItemsSoFar) → SameItems i j →
       shape_of_items B (items_of i.items) ≡ shape_of_items B2 (items_of j.items)
   items_same i j same = items_shape B i.items ∙ ap items_of same.0 ∙ sym (items_shape B2 j.items)
@@ -94,7 +94,8 @@ module _ {edition : Edition} {T U : List ℕ} {a M : ℕ} {to : ℕ → ℕ} {li
     {E : ListEnds edition T U a M to limit} {o o2 : ℕ} {B B2 : List ℕ} {stands : T ≡ drop o B}
     {stands_there : U ≡ drop o2 B2}
     {inner : Inner} (fine : Fine E o o2 B B2 stands stands_there inner) where
-  -- `Goes` of these two texts and places
+  -- what r reads in the one text q reads in the other, and S holds of the two: `Goes` of
+  -- these texts and places
   abbrev Goes2 : {X Y : Type 0} → (X → Y → Type 0) → Form X → Form Y → Type 0
   Goes2 S r q = Goes E o o2 B B2 stands stands_there S r q
 
@@ -113,7 +114,7 @@ module _ {edition : Edition} {T U : List ℕ} {a M : ℕ} {to : ℕ → ℕ} {li
   breaks_same : (i j : ItemsSoFar) → SameItems B B2 i j → breaks i ≡ breaks j
   breaks_same i j same = rw (rows_empty (shape_of_item B) (shape_of_item B2) i.items j.items same.0, same.1.1) refl
 
-  -- one more item that is a word
+  -- where the items so far are the same, they are so with one more that is a word
   pub one_item : (i j : ItemsSoFar) (position : Position) → SameItems B B2 i j →
       Goes2 (SameStep (SameItems B B2)) (an_item inner i position) (an_item inner j position)
   unfolding an_item
@@ -123,11 +124,11 @@ module _ {edition : Edition} {T U : List ℕ} {a M : ℕ} {to : ℕ → ℕ} {li
       (item_same position (breaks i) (breaks j) w v (breaks_same i j same) so)))
       (λ is js all. then (next position) (λ n m is_next. gives (all, (refl, is_next)))))
 
-  -- items of the same shapes
+  -- two rows of items have the same shapes
   abbrev SameRow : Row AnItem → Row AnItem → Type 0
   SameRow is js = map (shape_of_item B) is ≡ map (shape_of_item B2) js
 
-  -- a number of the same text, or none in both
+  -- a number of the same text is read in both texts, or none in both
   number_same : (n : Next) → Goes2 (SameRemark B B2) (a_number n) (a_number n)
   unfolding a_number
   number_same n =
@@ -135,7 +136,7 @@ module _ {edition : Edition} {T U : List ℕ} {a M : ℕ} {to : ℕ → ℕ} {li
       (then (go_token E o o2 B B2 stands stands_there moves_on)
       (λ x y text. then (next Suffix) (λ m k same. gives (ap Some text.1, same)))) (gives (refl, refl))
 
-  -- it stands at the place that is meant
+  -- an operator is read in both texts, and stands there at the place that is meant
   operator_same : (z : RedirectOperator) → Goes2 (λ x y. move_span E o o2 x.1 ≡ y.1) (an_operator z) (an_operator z)
   unfolding an_operator
   operator_same z =
@@ -144,11 +145,11 @@ module _ {edition : Edition} {T U : List ℕ} {a M : ℕ} {to : ℕ → ℕ} {li
       (then moves_on (λ u v all. then {S = λ x y. Unit {0}} (picks (is_long z) _ refl moves_on (gives tt))
       (λ x y any. picks (is_strip z) _ refl moves_on (gives tt))))) (λ x y so. so.1)
 
-  -- the same operator, at the place that is meant
+  -- two operators are the same, and the second one stands at the place that is meant
   abbrev SameOperator : RedirectOperator × Span → RedirectOperator × Span → Type 0
   SameOperator x y = (x.0 ≡ y.0) × (move_span E o o2 x.1 ≡ y.1)
 
-  -- an operator where one stands, and the same of a token
+  -- where an operator stands, the same one is read in both texts; so it is by the token
   operator_by_same : (p q : ℕ) (z : Option RedirectOperator) → Goes2 SameOperator (operator_by p z) (operator_by q z)
   operator_by_same p q (Some z) = then (operator_same z) (λ x y so. gives (refl, so))
   operator_by_same p q None = go_stop E o o2 B B2 stands stands_there
@@ -160,18 +161,18 @@ module _ {edition : Edition} {T U : List ℕ} {a M : ℕ} {to : ℕ → ℕ} {li
       of : ℕ → Next → Form (RedirectOperator × Span)
       of r k = operator_by r (redirect_operator_of k.token)
 
-  -- a word of the same shape, with the same bytes
+  -- two words of redirections have the same shape and the same bytes
   abbrev SameTarget : AWord × Spelled → AWord × Spelled → Type 0
   SameTarget x y = SameWord B B2 x.0 y.0 × (x.1 ≡ y.1)
 
-  -- the word of a redirection
+  -- the word of a redirection is read with the same shape and the same bytes in both texts
   target_same : Goes2 SameTarget (a_target inner) (a_target inner)
   unfolding a_target
   target_same = then (next Suffix)
       (λ n m same. picks _ _ (ap (λ (k : Next). is_word k.token) same)
       (go_with_bytes E o o2 B B2 stands stands_there fine.word) (stopped inner n))
 
-  -- its body is not known yet
+  -- two here-documents, or none, have the same shape; their bodies are not known yet
   abbrev SameHere : Option AHere → Option AHere → Type 0
   SameHere x y = option_map (shape_of_here B) x ≡ option_map (shape_of_here B2) y
 
@@ -184,7 +185,7 @@ module _ {edition : Edition} {T U : List ℕ} {a M : ℕ} {to : ℕ → ℕ} {li
       (λ u v any. gives refl)
   document_by_same b c p q strip None is = go_stop E o o2 B B2 stands stands_there
 
-  -- so it does after each operator, if that takes one
+  -- a here-document waits there too after each operator, if that takes one
   document_same : (z : RedirectOperator) (b c p q : ℕ) (k : Spelled) → shifted (o + a) (o2 + to a) b ≡ c →
       Goes2 SameHere (a_document z b p k) (a_document z c q k)
   unfolding a_document
@@ -214,7 +215,8 @@ module _ {edition : Edition} {T U : List ℕ} {a M : ℕ} {to : ℕ → ℕ} {li
   redirect_shape broken pale c d z y s t w v h i one two three four five =
       rw (one, bare_same c d two, three, four, five) refl
 
-  -- one more redirection, and the same where position and token are equal
+  -- where the items so far are the same, they are so with one more redirection, and also where positions and
+  -- tokens are said to be equal
   redirect_same : (broken pale : Bool) (position : Position) (is js : Row AnItem) (n : Next) → broken ≡ pale →
       SameRow is js
       → Goes2 (SameStep (SameItems B B2)) (one_redirect inner broken position is n)
@@ -235,7 +237,7 @@ module _ {edition : Edition} {T U : List ℕ} {a M : ℕ} {to : ℕ → ℕ} {li
   redirect_at broken pale p q is js n m one two three four =
       rw (← three, ← four) (redirect_same broken pale p is js n one two)
 
-  -- one more item, or none
+  -- where the items so far are the same, they are so with one more, or none
   item_by_same : (i j : ItemsSoFar) (position : Option Position) → SameItems B B2 i j →
       Goes2 (SameStep (SameItems B B2)) (item_by inner i position) (item_by inner j position)
   item_by_same i j (Some position) same = one_item i j position same
@@ -256,13 +258,13 @@ module _ {edition : Edition} {T U : List ℕ} {a M : ℕ} {to : ℕ → ℕ} {li
 
   -- A word's shape has its text, so that a name is the same there; compound commands are read as `Fine` says.
 
-  -- a simple command
+  -- a simple command is read with the same shape in both texts
   simple_same : (i j : ItemsSoFar) → SameItems B B2 i j → Goes2 (SameCommand B B2) (a_simple inner i) (a_simple inner j)
   unfolding a_simple
   simple_same i j same = then (repeats (SameItems B B2) (item_turn inner) (item_turn inner) item_on i j same)
       (λ k l so. gives (rw (items_same B B2 k l so) refl, so.1.1))
 
-  -- one more redirection after a compound command, or none
+  -- where the redirections after a compound command are the same so far, they are so with one more, or none
   redirect_on : (i j : ItemsSoFar) → SameItems B B2 i j →
       Goes2 (SameStep (SameItems B B2)) (redirect_turn inner i) (redirect_turn inner j)
   unfolding redirect_turn
@@ -271,7 +273,7 @@ module _ {edition : Edition} {T U : List ℕ} {a M : ℕ} {to : ℕ → ℕ} {li
       (redirect_at _ _ Command Command i.items j.items i.next j.next
       (ap (λ (k : Next). k.broken) same.1.1) same.0 refl same.1.1) (gives same)
 
-  -- commands of the same shape, with redirections of the same shapes
+  -- commands of the same shape have it also with redirections of the same shapes
   with_same : (c d : ACommand) (is js : ItemsOf Span Span) → shape_of_command B c ≡ shape_of_command B2 d →
       shape_of_items B is ≡ shape_of_items B2 js
       → shape_of_command B (with_redirects c is) ≡ shape_of_command B2 (with_redirects d js)
@@ -286,7 +288,7 @@ module _ {edition : Edition} {T U : List ℕ} {a M : ℕ} {to : ℕ → ℕ} {li
   with_same (function f es b) (compound e) is js one two = absurd cc
   with_same (function f es b) (simple ys) is js one two = absurd cc
 
-  -- a command with all redirections after it
+  -- a command with all redirections after it has the same shape in both texts
   with_redirect_list_same : (c d : ACommand × Next) → SameCommand B B2 c d →
       Goes2 (SameCommand B B2) (with_redirect_list inner c) (with_redirect_list inner d)
   unfolding with_redirect_list
@@ -300,7 +302,7 @@ module _ {edition : Edition} {T U : List ℕ} {a M : ℕ} {to : ℕ → ℕ} {li
         so.1.1,
       ))
 
-  -- a compound command, where one opens
+  -- a compound command is read with the same shape in both texts, where one opens
   pub compound_by_same : (n : Next) (c : Option Opener) →
       Goes2 (SameCommand B B2) (compound_by inner n c) (compound_by inner n c)
   compound_by_same n (Some c) = then (fine.compound c) with_redirect_list_same
@@ -310,14 +312,14 @@ module _ {edition : Edition} {T U : List ℕ} {a M : ℕ} {to : ℕ → ℕ} {li
   name_same : (w v : AWord) → SameWord B B2 w v → text_at B (word_span w) ≡ text_at B2 (word_span v)
   name_same (word c ss) (word d zs) same = cc
 
-  -- a function, where both names are a NAME or none is
+  -- a function is read with the same shape in both texts, where both names are a NAME or none is
   named_function_same : (good pure : Bool) (w v : AWord) → good ≡ pure → SameWord B B2 w v →
       Goes2 (SameCommand B B2) (named_function inner good (word_span w)) (named_function inner pure (word_span v))
   named_function_same good pure w v is so =
       picks good pure is (fine.function (word_span w) (word_span v) (name_same w v so))
       (go_stop E o o2 B B2 stands stands_there)
 
-  -- a command that begins with a word, and any command
+  -- a command that begins with a word is read with the same shape in both texts, and so is any command
   word_command_same : Goes2 (SameCommand B B2) (a_word_command inner) (a_word_command inner)
   unfolding a_word_command
   word_command_same =
@@ -350,11 +352,12 @@ module _ {edition : Edition} {T U : List ℕ} {a M : ℕ} {to : ℕ → ℕ} {li
   bang n = picks (is_bang n.token) _ refl
       (then marks (λ x y all. then (next Command) (λ m k same. gives (refl, same)))) (gives (refl, refl))
 
-  -- commands of the same shapes after the first so far, with their joins, and the same token after them
+  -- the commands after the first so far have the same shapes, with their joins, and the same token stands
+  -- after them
   abbrev SamePipes : PipesSoFar → PipesSoFar → Type 0
   SamePipes p q = (map (pipe_shape B) p.parts ≡ map (pipe_shape B2) q.parts) × (p.next ≡ q.next)
 
-  -- one more command, and the same or none
+  -- where the commands so far are the same, they are so with one more, and with one more or none
   one_more_command : (p q : PipesSoFar) → SamePipes p q →
       Goes2 (SameStep SamePipes) (one_command inner p) (one_command inner q)
   unfolding one_command
@@ -369,7 +372,7 @@ module _ {edition : Edition} {T U : List ℕ} {a M : ℕ} {to : ℕ → ℕ} {li
   unfolding pipe_turn
   pipe_on p q same = picks _ _ (ap (λ (n : Next). is_pipe n.token) same.1) (one_more_command p q same) (gives same)
 
-  -- a pipeline
+  -- a pipeline is read with the same shape in both texts
   pipeline_same : (n m : Next) → n ≡ m →
       Goes2 (λ x y. (shape_of_pipeline B x.0 ≡ shape_of_pipeline B2 y.0) × (x.1 ≡ y.1)) (a_pipeline inner n)
       (a_pipeline inner m)
@@ -388,11 +391,12 @@ module _ {edition : Edition} {T U : List ℕ} {a M : ℕ} {to : ℕ → ℕ} {li
           (pipes_so_far [] e.1) (refl, is.1))
           (λ p q same. gives (rw (so.0, is.0, pipes_same p q same) refl, same.1))))
 
-  -- pipelines of the same shapes after the first so far, with their joins, and the same token after them
+  -- the pipelines after the first so far have the same shapes, with their joins, and the same token stands
+  -- after them
   abbrev SameParts : AndOrSoFar → AndOrSoFar → Type 0
   SameParts x y = (map (part_shape B) x.parts ≡ map (part_shape B2) y.parts) × (x.next ≡ y.next)
 
-  -- one more pipeline, and the same or none
+  -- where the pipelines so far are the same, they are so with one more, and with one more or none
   one_more_pipeline : (x y : AndOrSoFar) (c : AndOrOperator) → SameParts x y →
       Goes2 (SameStep SameParts) (one_pipeline inner x c) (one_pipeline inner y c)
   unfolding one_pipeline
@@ -416,7 +420,7 @@ module _ {edition : Edition} {T U : List ℕ} {a M : ℕ} {to : ℕ → ℕ} {li
       (joined_by inner y (and_or_operator_of n.token))) same.1
       (joined_by_same x y (and_or_operator_of x.next.token) same)
 
-  -- an and-or list
+  -- an and-or list is read with the same shape in both texts
   and_or_same : (n m : Next) → n ≡ m →
       Goes2 (λ x y. (shape_of_and_or B x.0 ≡ shape_of_and_or B2 y.0) × (x.1 ≡ y.1)) (an_and_or inner n)
       (an_and_or inner m)
@@ -435,7 +439,7 @@ module _ {edition : Edition} {T U : List ℕ} {a M : ℕ} {to : ℕ → ℕ} {li
           (and_or_so_far [] p.1) (and_or_so_far [] q.1) (refl, so.1))
           (λ x y same. gives (rw (so.0, parts_same x y same) refl, same.1)))
 
-  -- an entry, with its separator and its comment
+  -- an entry is read with the same shape in both texts, with its separator and its comment
   pub entry_same : (blank pale : Bool) (n m : Next) → blank ≡ pale → n ≡ m →
       Goes2 (SameEntered B B2) (an_entry inner blank n) (an_entry inner pale m)
   unfolding an_entry

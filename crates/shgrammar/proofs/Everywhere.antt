@@ -53,11 +53,12 @@ module _ {g : Given} {limit : ℕ} where
     branch_in n s = first (list_in fine n s)
         (λ c t one. after (λ k u. first (list_in fine k.1 u) (λ b v two. gives (one, two))))
 
-    -- the branches so far
+    -- no span in the branches so far goes past the limit
     abbrev BranchesIn : BranchesSoFar → Type 0
     BranchesIn b = All (BranchIn limit) b.branches
 
-    -- one more branch after an `elif`, and `else` with what it runs, or none of them
+    -- no span in the branches goes past the limit with one more after an `elif`, or none, nor in what stands
+    -- after `else`
     elif_in : (b : BranchesSoFar) (s : State) → BranchesIn b → UpTo g limit (elif_turn inner b) (Stepped BranchesIn) s
     unfolding elif_turn
     elif_in b s so =
@@ -70,11 +71,11 @@ module _ {g : Given} {limit : ℕ} where
     else_in n s = picks (is_closing closings.Else n.token)
         (after (λ k t. first (list_in fine k.1 t) (λ l u so. gives so))) (gives tt)
 
-    -- what was read, and its closer
+    -- P holds of what was read, and its closer does not go past the limit
     abbrev ClosedIn : {X : Type 0} → (X → Type 0) → Closed X → Type 0
     ClosedIn P x = P x.what × IsSpanWithin limit x.closer
 
-    -- an `if`, a loop and a group, from just after their openers
+    -- no span in an `if`, a loop and a group goes past the limit, from just after their openers
     if_in : (n : Next) (s : State) → UpTo g limit (an_if inner n) (ClosedIn (FormIn limit)) s
     unfolding an_if
     if_in n s =
@@ -96,7 +97,7 @@ module _ {g : Given} {limit : ℕ} where
     unfolding a_group
     group_in c n s = first (list_in fine n s) (λ l t so. first (closing_in c l.1 t) (λ k u last. gives (so, last)))
 
-    -- the word after `for`, and the comments of its head up to `do`
+    -- no span in the word after `for` goes past the limit, nor do the comments where its words end
     for_name_in : (n : Next) (s : State) → UpTo g limit (a_for_name inner n) (λ x. WordIn limit x.0) s
     unfolding a_for_name
     for_name_in n s =
@@ -110,11 +111,12 @@ module _ {g : Given} {limit : ℕ} where
     sequential_sep_in cs n s all = after (λ x t. first (linebreak_in cs x.1 t all)
         (λ l u so. picks _ (gives so) (stopped inner l.next)))
 
-    -- the words and the comments of that head
+    -- no span in the words and the comments of a head goes past the limit
     abbrev HeadIn : Headed → Type 0
     HeadIn h = ForWordsIn limit h.words × AreIn limit h.comments
 
-    -- one more word after `in`, all of them, and the head
+    -- no span in the words after `in` goes past the limit, with one more or none, and with all of them; nor
+    -- does one in the head
     word_turn_in : (i : ItemsSoFar) (s : State) → ItemsIn limit i →
         UpTo g limit (word_turn inner i) (Stepped (ItemsIn limit)) s
     unfolding word_turn
@@ -135,14 +137,14 @@ module _ {g : Given} {limit : ℕ} where
     for_head_in n s = after (λ x t. first (linebreak_in [] x.1 t (All-nil (IsSpanWithin limit)))
         (λ l u so. picks _ (for_words_in l.join.comments u so) (gives (tt, so))))
 
-    -- a list with comments before it, as its first entries
+    -- no span in a list goes past the limit with comments before it, as its first entries
     remarks_in : (cs : Row Span) (es : Entries) → AreIn limit cs → EntriesIn limit es →
         EntriesIn limit (after_remarks cs es)
     remarks_in [] es all so = so
     remarks_in (c ∷ cs) es all so =
         ((All-head (IsSpanWithin limit) c cs all, tt), remarks_in cs es (All-tail (IsSpanWithin limit) c cs all) so)
 
-    -- a `for`, the comments of its head in its body
+    -- no span in a `for` goes past the limit, the comments of its head in its body
     for_in : (n : Next) (s : State) → UpTo g limit (a_for inner n) (ClosedIn (FormIn limit)) s
     unfolding a_for
     for_in n s =
@@ -152,17 +154,18 @@ module _ {g : Given} {limit : ℕ} where
 
     -- ---- `case`
 
-    -- the word after `case`
+    -- no span in the word after `case` goes past the limit
     case_word_in : (n : Next) (s : State) → UpTo g limit (a_case_word inner n) (λ x. WordIn limit x.0) s
     unfolding a_case_word
     case_word_in n s = picks (begins_word n.token) (first (word_in fine s) (λ w t one. after (λ m u. gives one)))
         (stopped inner n)
 
-    -- the patterns so far
+    -- no span in the patterns so far goes past the limit
     abbrev PatternsIn : PatternsSoFar → Type 0
     PatternsIn p = All (WordIn limit) p.patterns
 
-    -- a pattern, one more after a `|`, a turn over them, and all patterns of an item
+    -- no span in the patterns goes past the limit with one more, also after a `|`, or none, nor in
+    -- all of an item
     pattern_in : (ws : Row AWord) (s : State) → All (WordIn limit) ws → UpTo g limit (a_pattern inner ws) PatternsIn s
     unfolding a_pattern
     pattern_in ws s all = first (word_in fine s)
@@ -187,7 +190,7 @@ module _ {g : Given} {limit : ℕ} where
         (first (pattern_in [] s (All-nil (WordIn limit)))
         (λ p t so. repeats PatternsIn (pattern_turn inner) pattern_turn_in p t so)) (stopped inner n)
 
-    -- the body of an item, which may hold no command
+    -- no span in the body of an item goes past the limit; it may hold no command
     body_in : (n : Next) (s : State) → UpTo g limit (a_body inner n) (ListIn limit) s
     unfolding a_body
     body_in n s = lines_in fine n s
@@ -203,11 +206,11 @@ module _ {g : Given} {limit : ℕ} where
         parted_or l.parted _ part (commands_end_low limit before (entries_of l.entries) low
         (entries_in limit l.entries all))
 
-    -- where an item ends, and the comments after it
+    -- the offset where an item ends is not past the limit, and no comment after it goes past that
     abbrev ItemEndIn : ItemEnd → Type 0
     ItemEndIn e = (e.at ≤ limit) × AreIn limit e.comments
 
-    -- `;;` or `;&`, and the end of an item, which may have neither
+    -- a `;;` or `;&` does not go past the limit, nor does the end of an item, which may have neither
     ender_in : (b : Bool) (s : State) → UpTo g limit (an_ender b) ItemEndIn s
     unfolding an_ender
     ender_in b s =
@@ -221,11 +224,11 @@ module _ {g : Given} {limit : ℕ} where
         picks (ends_item n.token) (ender_in (falls_through n.token) s)
         (picks (is_closing closings.Esac n.token) (gives (low, All-nil (IsSpanWithin limit))) (stopped inner n))
 
-    -- the items so far, and the comments after them
+    -- no span in the items so far goes past the limit, nor do the comments after them
     abbrev CasesIn : CasesSoFar → Type 0
     CasesIn c = All (CaseIn limit) c.items × AreIn limit c.comments
 
-    -- one more item, or none before an `esac`
+    -- no span in the items goes past the limit with one more, or none before an `esac`
     one_case_in : (c : CasesSoFar) (s : State) → CasesIn c → UpTo g limit (one_case inner c) (Stepped CasesIn) s
     unfolding one_case
     one_case_in c s so =
@@ -245,7 +248,7 @@ module _ {g : Given} {limit : ℕ} where
     unfolding case_turn
     case_turn_in c s so = picks (is_closing closings.Esac c.next.token) (gives so) (one_case_in c s so)
 
-    -- a `case` up to its `in` and the comments after it, and as a whole
+    -- no span in a `case` goes past the limit, up to its `in` and the comments after it, and as a whole
     case_head_in : (n : Next) (s : State) →
         UpTo g limit (a_case_head inner n) (λ h. WordIn limit h.0 × AreIn limit h.1) s
     unfolding a_case_head
@@ -261,7 +264,7 @@ module _ {g : Given} {limit : ℕ} where
         (λ c u all. first (closing_in closings.Esac c.next u)
         (λ e v last. gives ((one.0, cases_in limit c.items all.0, spans_in limit c.comments all.1), last))))
 
-    -- what an opener opens, from just after it
+    -- no span in what an opener opens goes past the limit, from just after it
     form_in : (o : Opener) (n : Next) (s : State) → UpTo g limit (a_form inner o n) (ClosedIn (FormIn limit)) s
     form_in openers.Brace n s = first (group_in closings.Brace n s) (λ l t so. gives so)
     form_in openers.Paren n s = first (group_in closings.Paren n s) (λ l t so. gives so)
@@ -271,7 +274,7 @@ module _ {g : Given} {limit : ℕ} where
     form_in openers.For n s = for_in n s
     form_in openers.Case n s = case_in n s
 
-    -- with its tree, a compound command is the one that is held apart
+    -- no span in a compound command goes past the limit: with its tree, it is the one that is held apart
     compound_in : (o : Opener) (s : State) → UpTo g limit (a_compound inner o) (λ c. CommandIn limit c.0) s
     unfolding a_compound
     compound_in o s =
@@ -282,7 +285,7 @@ module _ {g : Given} {limit : ℕ} where
 
     -- ---- substitutions
 
-    -- what stands in a command substitution, up to its `)`
+    -- no span in what stands in a command substitution goes past the limit, up to its `)`
     substitution_list_in : (s : State) → UpTo g limit (substitution_list inner) (EntriesIn limit) s
     unfolding substitution_list
     substitution_list_in s =
@@ -290,7 +293,8 @@ module _ {g : Given} {limit : ℕ} where
         (λ l u all. picks (is_closing closings.Paren l.next.token)
         (after (λ w z. after (λ x v. gives (entries_in limit l.list.entries all.0)))) (stopped inner l.next)))
 
-    -- the substitutions so far and one more, with the bodies of its here-documents
+    -- no span in the substitutions goes past the limit with one more, and with the
+    -- bodies of its here-documents
     substitution_in : (b : ℕ) (ss : Row ASubst) (s : State) → b ≤ g.offset + s.at → All (SubstIn limit) ss →
         UpTo g limit (a_substitution inner b ss) (All (SubstIn limit)) s
     unfolding a_substitution one_substitution
@@ -301,14 +305,14 @@ module _ {g : Given} {limit : ℕ} where
 
     -- ---- functions
 
-    -- a compound command under a name, with the comments before it
+    -- no span in a compound command under a name goes past the limit, with the comments before it
     under_in : (name : Span) (cs : Row Span) (c : ACommand) → IsSpanWithin limit name → AreIn limit cs →
         CommandIn limit c → CommandIn limit (under_name name cs c)
     under_in name cs (simple items) one all so = so
     under_in name cs (compound body) one all so = (one, spans_in limit cs all, so)
     under_in name cs (function other ds body) one all so = so
 
-    -- a function, from just after its name on
+    -- no span in a function goes past the limit, from just after its name on
     function_in : (name : Span) (s : State) → IsSpanWithin limit name →
         UpTo g limit (a_function inner name) (λ c. CommandIn limit c.0) s
     unfolding a_function
@@ -319,7 +323,8 @@ module _ {g : Given} {limit : ℕ} where
 
     -- ---- lines
 
-    -- the entries of a line, without the bodies of its here-documents and with them
+    -- no span in the entries of a line goes past the limit, without the bodies of its
+    -- here-documents and with them
     open_line_in : (blank : Bool) (s : State) → UpTo g limit (an_open_line inner blank) (λ x. All (EntryIn limit) x.0) s
     unfolding an_open_line
     open_line_in blank s = after (λ n t. first
@@ -336,7 +341,7 @@ module _ {g : Given} {limit : ℕ} where
 -- ---- where so many constructs may be open
 
 module _ (g : Given) (limit : ℕ) where
-  -- what may be opened, by how many more may be
+  -- no span in what may be opened goes past the limit, by how many more may be
   pub level_in : (room : ℕ) → Fine g limit (level room)
   unfolding level
   level_in zero = record {
@@ -355,7 +360,7 @@ module _ (g : Given) (limit : ℕ) where
 
 -- ---- the lines of a script
 
--- the entries of a line that is read where it stands in a script
+-- no span in the entries of a line goes past a limit that the line keeps, where it stands in a script
 pub line_throughout : (edition : Edition) → (T : List ℕ) (o : ℕ) (blank newline : Bool) (es : Row AnEntry) (t : State) →
     does (the_line blank) Whole (given edition T o) (standing 0) ≡ Ok ((es, newline), t)
     → (limit : ℕ) → o + t.at ≤ limit → Throughout (IsSpanWithin limit) IsSome (entries_of es)
@@ -365,7 +370,7 @@ line_throughout edition T o blank newline es t is limit le =
     subst (Holds (λ (x : Row AnEntry × Bool) (u : State). o + u.at ≤ limit →
     Throughout (IsSpanWithin limit) IsSome (entries_of x.0))) is told le
 
--- the same of the kind of a line that has these entries
+-- where no span in these entries goes past the limit, none does in the kind of a line that has them
 kind_everywhere : (limit : ℕ) (es : Row AnEntry) (newline : Bool) →
     Throughout (IsSpanWithin limit) IsSome (entries_of es) → EntrySpansWithin limit (kind_of es newline)
 kind_everywhere limit [] true so = tt
@@ -381,7 +386,7 @@ everywhere_more limit more blank_line le so = tt
 everywhere_more limit more end_line le so = tt
 everywhere_more limit more (faulty_line fault) le so = tt
 
--- those of a line, as far as the line goes
+-- no span in what a line is goes past the place where the line ends
 pub line_everywhere : (edition : Edition) → (T : List ℕ) (l : ALine) → IsLine edition T l →
     EntrySpansWithin l.next l.kind
 line_everywhere edition T l (line_read es newline t k part) =

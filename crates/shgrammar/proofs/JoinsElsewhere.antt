@@ -31,12 +31,12 @@ use Rattle.shgrammar.specs.Tokens.{next_in}
 
 -- ---- rows of the same shapes
 
--- rows of the same shapes, with one more of the same shape
+-- rows of the same shapes have them with one more of the same shape
 pub rows_more : {A C D : Type 0} (f : A → D) (k : C → D) (xs : Row A) (x : A) (ys : Row C) (y : C) → map f xs ≡ map k ys
     → f x ≡ k y → map f (xs ++ x ∷ []) ≡ map k (ys ++ y ∷ [])
 rows_more f k xs x ys y same one = map-append f xs (x ∷ []) ∙ rw (same, one) (sym (map-append k ys (y ∷ [])))
 
--- both rows are empty, or none is
+-- of rows of the same shapes both are empty, or none is
 pub rows_empty : {A C D : Type 0} (f : A → D) (k : C → D) (xs : Row A) (ys : Row C) → map f xs ≡ map k ys →
     is_empty xs ≡ is_empty ys
 rows_empty f k [] [] same = refl
@@ -44,7 +44,7 @@ rows_empty f k [] (y ∷ ys) same = absurd cc
 rows_empty f k (x ∷ xs) [] same = absurd cc
 rows_empty f k (x ∷ xs) (y ∷ ys) same = refl
 
--- both are there, or none is
+-- of two that may be missing and are the same both are there, or none is
 some_same : {A C D : Type 0} (f : A → D) (k : C → D) (x : Option A) (y : Option C) → option_map f x ≡ option_map k y →
     is_some x ≡ is_some y
 some_same f k None None same = refl
@@ -55,32 +55,32 @@ some_same f k (Some x) (Some y) same = refl
 -- ---- what is the same in both texts
 
 module _ (B B2 : List ℕ) where
-  -- the same text, or none in both
+  -- two spans have the same text, or neither is there
   abbrev pub SameText : Option Span → Option Span → Type 0
   SameText c d = option_map (text_at B) c ≡ option_map (text_at B2) d
 
-  -- a comment of the same text, or none in both, and the same token after it
+  -- two comments have the same text, or neither is there, and the same token stands after them
   abbrev pub SameRemark : Option Span × Next → Option Span × Next → Type 0
   SameRemark x y = SameText x.0 y.0 × (x.1 ≡ y.1)
 
-  -- comments of the same texts
+  -- two rows of comments have the same texts
   abbrev pub SameComments : Row Span → Row Span → Type 0
   SameComments cs ds = map (text_at B) cs ≡ map (text_at B2) ds
 
-  -- both break the line or none does, with comments of the same texts and the same token after them
+  -- two joins break the line or neither does, with comments of the same texts and the same token after them
   abbrev pub SameJoin : JoinSoFar → JoinSoFar → Type 0
   SameJoin j k = (j.join.broken ≡ k.join.broken) × (SameComments j.join.comments k.join.comments × (j.next ≡ k.next))
 
-  -- joins of the same shape, and the same token after them
+  -- two joins have the same shape, and the same token stands after them
   abbrev pub SameJoined : AJoinOf Span × Next → AJoinOf Span × Next → Type 0
   SameJoined x y = (shape_of_join B x.0 ≡ shape_of_join B2 y.0) × (x.1 ≡ y.1)
 
-  -- a join that goes on, or ends, by a test
+  -- by the same test two joins go on, or both end
   join_step : (p : Bool) (j k : JoinSoFar) → SameJoin j k → SameStep SameJoin (step_if p j) (step_if p k)
   join_step true j k same = same
   join_step false j k same = same
 
-  -- so with a newline that follows, or none
+  -- after the same newline, or none, two joins go on, or both end
   join_steps : (l m : Bool × Next) → l ≡ m → (broken pale : Bool) → broken ≡ pale → (cs ds : Row Span) →
       SameComments cs ds
       → SameStep SameJoin (step_if l.0 (join_so_far (a_join_of (broken || l.0) cs) l.1))
@@ -99,7 +99,8 @@ module _ (B B2 : List ℕ) where
   joins_same : (j k : JoinSoFar) → SameJoin j k → SameJoined (j.join, j.next) (k.join, k.next)
   joins_same j k same = (rw (same.0, same.1.0) refl, same.1.1)
 
--- the offset after it does not count
+-- two separators are of the same kind, or neither is there, and the same token stands after them; the offset
+-- after one does not count
 abbrev pub SameSeparator : Option ASeparator × Next → Option ASeparator × Next → Type 0
 SameSeparator x y = (is_background x.0 ≡ is_background y.0)
     × ((is_some (past_separator x.0) ≡ is_some (past_separator y.0)) × (x.1 ≡ y.1))
@@ -111,44 +112,44 @@ SameSeparator x y = (is_background x.0 ≡ is_background y.0)
 module _ {edition : Edition} {T U : List ℕ} {a M : ℕ} {to : ℕ → ℕ} {limit : ℕ}
     {E : ListEnds edition T U a M to limit} {o o2 : ℕ} {B B2 : List ℕ} {stands : T ≡ drop o B}
     {stands_there : U ≡ drop o2 B2} where
-  -- what is given, if S holds of it
+  -- S holds of what is given, if it holds of that
   pub gives : {X Y : Type 0} {S : X → Y → Type 0} {x : X} {y : Y} → S x y →
       Goes E o o2 B B2 stands stands_there S (give x) (give y)
   gives so = go_give E o o2 B B2 stands stands_there so
 
-  -- one more element
+  -- S holds of two rows with one more element, if it holds of those
   pub pushes : {A C : Type 0} {S : Row A → Row C → Type 0} {xs : Row A} {x : A} {ys : Row C} {y : C} →
       S (xs ++ x ∷ []) (ys ++ y ∷ []) → Goes E o o2 B B2 stands stands_there S (push xs x) (push ys y)
   pushes so = go_push E o o2 B B2 stands stands_there so
 
-  -- one form and then another
+  -- where S holds of what two forms read, and R of what follows wherever S does, R holds of both in a row
   pub then : {X Y V W : Type 0} {S : X → Y → Type 0} {R : V → W → Type 0} {r : Form X} {q : Form Y} {f : X → Form V}
       {k : Y → Form W} → Goes E o o2 B B2 stands stands_there S r q → ((x : X) (y : Y) → S x y →
       Goes E o o2 B B2 stands stands_there R (f x) (k y)) → Goes E o o2 B B2 stands stands_there R (r >>= f) (q >>= k)
   then first rest = go_then E o o2 B B2 stands stands_there first rest
 
-  -- a move
+  -- a move is made in both texts
   pub moves_on : {m : Move} → Goes E o o2 B B2 stands stands_there (λ x y. Unit {0}) (move m) (move m)
   moves_on = go_move E o o2 B B2 stands stands_there
 
-  -- one form, or the other
+  -- S holds of one form or the other, by tests that are equal, where it holds of each
   pub picks : {X Y : Type 0} {S : X → Y → Type 0} {r u : Form X} {q v : Form Y} (b c : Bool) → b ≡ c →
       Goes E o o2 B B2 stands stands_there S r q →
       Goes E o o2 B B2 stands stands_there S u v → Goes E o o2 B B2 stands stands_there S (pick b r u) (pick c q v)
   picks b c is one two = go_pick E o o2 B B2 stands stands_there b c is one two
 
-  -- after what is the same
+  -- S holds of forms by what is the same, where it holds of them by each value
   pub at_same : {Z X Y : Type 0} {S : X → Y → Type 0} (r : Z → Form X) (q : Z → Form Y) →
       ((n : Z) → Goes E o o2 B B2 stands stands_there S (r n) (q n)) →
       (n m : Z) → n ≡ m → Goes E o o2 B B2 stands stands_there S (r n) (q m)
   at_same r q each n m same = go_at E o o2 B B2 stands stands_there r q each n m same
 
-  -- an operator, told in whatever way
+  -- an operator is read in both texts, told in whatever way
   pub marks : {how : Telling} {m : Move} → Goes E o o2 B B2 stands stands_there (λ x y. Unit {0}) (token how (move m))
       (token how (move m))
   marks = go_so E o o2 B B2 stands stands_there (go_token E o o2 B B2 stands stands_there moves_on) (λ x y so. tt)
 
-  -- one of two moves
+  -- an operator of two moves is read in both texts
   pub two_marks : {how : Telling} {m k : Move} →
       Goes E o o2 B B2 stands stands_there (λ x y. Unit {0}) (token how (move m >> move k))
       (token how (move m >> move k))
@@ -156,7 +157,7 @@ module _ {edition : Edition} {T U : List ℕ} {a M : ℕ} {to : ℕ → ℕ} {li
       (go_token E o o2 B B2 stands stands_there {S = λ x y. Unit {0}} (then moves_on (λ u v all. moves_on)))
       (λ x y so. tt)
 
-  -- a repetition
+  -- S holds of what repetitions read, where it holds at their start and each turn keeps it
   pub repeats : {A C : Type 0} (S : A → C → Type 0) (turn : A → Form (Step A)) (turn2 : C → Form (Step C)) →
       ((x : A) (y : C) → S x y → Goes E o o2 B B2 stands stands_there (SameStep S) (turn x) (turn2 y)) →
       (x : A) (y : C) → S x y →
@@ -182,7 +183,8 @@ module _ {edition : Edition} {T U : List ℕ} {a M : ℕ} {to : ℕ → ℕ} {li
 module _ {edition : Edition} {T U : List ℕ} {a M : ℕ} {to : ℕ → ℕ} {limit : ℕ}
     (E : ListEnds edition T U a M to limit) (o o2 : ℕ) (B B2 : List ℕ) (stands : T ≡ drop o B)
     (stands_there : U ≡ drop o2 B2) where
-  -- `Goes` of these two texts and places
+  -- what r reads in the one text q reads in the other, and S holds of the two: `Goes` of
+  -- these texts and places
   abbrev Goes2 : {X Y : Type 0} → (X → Y → Type 0) → Form X → Form Y → Type 0
   Goes2 S r q = Goes E o o2 B B2 stands stands_there S r q
 
@@ -200,7 +202,7 @@ module _ {edition : Edition} {T U : List ℕ} {a M : ℕ} {to : ℕ → ℕ} {li
   abbrev to_there : State → State
   to_there s = over E o o2 B B2 stands stands_there s
 
-  -- a comment of the same text, and the token after it
+  -- after a comment of the same text the same token is read in both texts
   comment_after : (n : Next) (c d : Span) → text_at B c ≡ text_at B2 d →
       Goes2 (SameRemark B B2) (comment_by n (Some c)) (comment_by n (Some d))
   comment_after n c d same = then moves_on (λ x y all. then (next Command) (λ m k so. gives (ap Some same, so)))
@@ -221,13 +223,13 @@ module _ {edition : Edition} {T U : List ℕ} {a M : ℕ} {to : ℕ → ℕ} {li
         (let no : ◌≡◌ {A = Option Span} (Some (span o p (before_blanks T (next_newline T p)))) None = rw e at is in cc)
     no_comment false e is = e
 
-    -- so none is told there either
+    -- where no comment is told none is told there either
     none_there : comment_at T o p ≡ None → FoundThere (None, n) s
     unfolding a_comment comment_at
     none_there is = λ e. let none = no_comment (raw_stands T p number_sign) refl is in
         ((None, n), (rw (same_raw_stands E p number_sign from (high E e), none) refl, (refl, refl)))
 
-    -- where one is told a `#` stands, and it goes to the end of the line but for blanks
+    -- where a comment is told a `#` stands, and the comment goes to the end of the line but for blanks
     hash_there : (b : Bool) → raw_stands T p number_sign ≡ b → (c : Span) → comment_at T o p ≡ Some c →
         (raw_stands T p number_sign ≡ true) × (span o p (before_blanks T (next_newline T p)) ≡ c)
     unfolding comment_at
@@ -238,7 +240,7 @@ module _ {edition : Edition} {T U : List ℕ} {a M : ℕ} {to : ℕ → ℕ} {li
     )
     hash_there false e c is = absurd (let no : ◌≡◌ {A = Option Span} None (Some c) = rw e at is in cc)
 
-    -- it ends where the line does
+    -- where a `#` stands, the place after the comment is that of the next newline
     past_is : raw_stands T p number_sign ≡ true → past_comment T p ≡ next_newline T p
     unfolding past_comment
     past_is e = rw e refl
@@ -254,11 +256,11 @@ module _ {edition : Edition} {T U : List ℕ} {a M : ℕ} {to : ℕ → ℕ} {li
       abbrev on : State
       on = record { at = past_comment T p; waiting = s.waiting; bodies = s.bodies }
 
-      -- so of this comment
+      -- a `#` stands where this comment is told, and the comment goes to the end of the line but for blanks
       hash : (raw_stands T p number_sign ≡ true) × (span o p (before_blanks T (next_newline T p)) ≡ c)
       hash = hash_there (raw_stands T p number_sign) refl c is
 
-      -- and it has the same text there
+      -- where this comment is read here, one of the same text is read there
       some_there : (x : Read (Option Span × Next)) → does (comment_by n (Some c)) Whole g s ≡ x →
           Holds (Back E o o2 B B2 stands stands_there s) x → Holds (Back E o o2 B B2 stands stands_there on) x
           → Holds FoundThere x
@@ -287,7 +289,7 @@ module _ {edition : Edition} {T U : List ℕ} {a M : ℕ} {to : ℕ → ℕ} {li
           blanks_near q le = omega (arith, le, before_blanks_low T q)
       some_there (Err f) at back back_on = tt
 
-    -- by the comment, or none, of the first text
+    -- what is read by the comment of the first text, or none, is found there
     comment_there : (c : Option Span) → comment_at T o p ≡ c → Holds FoundThere (does (comment_by n c) Whole g s)
     comment_there None is = none_there is
     comment_there (Some c) is =
@@ -296,7 +298,7 @@ module _ {edition : Edition} {T U : List ℕ} {a M : ℕ} {to : ℕ → ℕ} {li
         (good E o o2 B B2 stands stands_there (next_token Command >>= λ m. give (Some c, m)) (on c is)
         (omega (arith, from, move_low a_comment_on T p))).told
 
-  -- a comment, or none
+  -- a comment of the same text is read in both texts, or none in both
   comment : (n : Next) → Goes2 (SameRemark B B2) (a_comment n) (a_comment n)
   unfolding a_comment
   comment n = record { go = λ s from. comment_there n s from (comment_at T o s.at) refl }
@@ -304,7 +306,7 @@ module _ {edition : Edition} {T U : List ℕ} {a M : ℕ} {to : ℕ → ℕ} {li
 module _ {edition : Edition} {T U : List ℕ} {a M : ℕ} {to : ℕ → ℕ} {limit : ℕ}
     {E : ListEnds edition T U a M to limit} {o o2 : ℕ} {B B2 : List ℕ} {stands : T ≡ drop o B}
     {stands_there : U ≡ drop o2 B2} where
-  -- the same where the token is
+  -- a comment of the same text is read in both texts also where the tokens are said to be equal
   pub comment_at_same : (n m : Next) → n ≡ m → Goes E o o2 B B2 stands stands_there (SameRemark B B2) (a_comment n)
       (a_comment m)
   comment_at_same n m same = at_same a_comment a_comment (comment E o o2 B B2 stands stands_there) n m same
@@ -334,7 +336,7 @@ module _ {edition : Edition} {T U : List ℕ} {a M : ℕ} {to : ℕ → ℕ} {li
       one n = picks (is_semicolon n.token) _ refl
           (then moves_on (λ x y all. then (next Command) (λ m k same. gives (ap (λ z. (true, z)) same)))) (gives refl)
 
-  -- a separator of the same kind, or none in both
+  -- a separator of the same kind is read in both texts, or none in both
   separator_by_same : (n : Next) (s : Option Separator) →
       Goes E o o2 B B2 stands stands_there SameSeparator (separator_by n s) (separator_by n s)
   separator_by_same n (Some s) =
@@ -353,7 +355,7 @@ module _ {edition : Edition} {T U : List ℕ} {a M : ℕ} {to : ℕ → ℕ} {li
       one : (n : Next) → Goes E o o2 B B2 stands stands_there SameSeparator (a_separator n) (a_separator n)
       one n = separator_by_same n (separator_of n.token)
 
-  -- one more comment, or none
+  -- comments of the same texts are so with one more, or none
   kept : (cs ds : Row Span) (c d : Option Span) → SameComments B B2 cs ds → SameText B B2 c d →
       Goes E o o2 B B2 stands stands_there (SameComments B B2) (with_comment cs c) (with_comment ds d)
   kept cs ds None None all one = gives all
@@ -361,7 +363,7 @@ module _ {edition : Edition} {T U : List ℕ} {a M : ℕ} {to : ℕ → ℕ} {li
   kept cs ds (Some c) None all one = absurd cc
   kept cs ds (Some c) (Some d) all one = pushes (rows_more (text_at B) (text_at B2) cs c ds d all cc)
 
-  -- one more comment or newline of a join, and the join
+  -- one more comment or newline of a join is read in both texts, or none, and the join has the same shape
   join_on : (j k : JoinSoFar) → SameJoin B B2 j k → Goes E o o2 B B2 stands stands_there (SameStep (SameJoin B B2))
       (join_turn j) (join_turn k)
   unfolding join_turn
@@ -380,7 +382,7 @@ module _ {edition : Edition} {T U : List ℕ} {a M : ℕ} {to : ℕ → ℕ} {li
       then (repeats (SameJoin B B2) join_turn join_turn join_on _ _ (both_broken broken pale n m is same, (refl, same)))
       (λ j k so. gives (joins_same B B2 j k so)))
 
-  -- newlines and comments, after comments of the same texts
+  -- newlines and comments are read in both texts, after comments of the same texts
   pub linebreak : (cs ds : Row Span) (n m : Next) → SameComments B B2 cs ds → n ≡ m →
       Goes E o o2 B B2 stands stands_there (SameJoin B B2) (a_linebreak cs n) (a_linebreak ds m)
   unfolding a_linebreak

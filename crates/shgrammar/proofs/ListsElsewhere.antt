@@ -48,16 +48,16 @@ module _ (B : List ℕ) where
 -- ---- what is the same in both texts
 
 module _ (B B2 : List ℕ) where
-  -- entries of the same shapes, and the same is told of the line so far
+  -- two lists so far have entries of the same shapes, and the same is told of the line so far
   abbrev pub SameListed : Listed → Listed → Type 0
   SameListed l m = (map (shape_of_entry B) l.entries ≡ map (shape_of_entry B2) m.entries)
       × ((l.blank ≡ m.blank) × ((l.begun ≡ m.begun) × (l.commands ≡ m.commands)))
 
-  -- and the same token after them
+  -- two lists so far are the same in that way, and the same token stands after them
   abbrev pub SameList : ListSoFar → ListSoFar → Type 0
   SameList l m = SameListed l.list m.list × (l.next ≡ m.next)
 
-  -- lists of the same shape
+  -- the entries of two lists that are the same so far have the same shape
   pub list_shape : (l m : ListSoFar) → SameList l m →
       shape_of B (entries_of l.list.entries) ≡ shape_of B2 (entries_of m.list.entries)
   list_shape l m same = entries_shape B l.list.entries ∙ ap entries_of same.0.0
@@ -75,7 +75,7 @@ module _ {edition : Edition} {T U : List ℕ} {a M : ℕ} {to : ℕ → ℕ} {li
 
   -- Each turn adds entries of the same shape, and goes on or ends in both texts.
 
-  -- entries of the same shapes
+  -- two rows of entries have the same shapes
   abbrev SameEntries : Row AnEntry → Row AnEntry → Type 0
   SameEntries es fs = map (shape_of_entry B) es ≡ map (shape_of_entry B2) fs
 
@@ -83,7 +83,7 @@ module _ {edition : Edition} {T U : List ℕ} {a M : ℕ} {to : ℕ → ℕ} {li
   blank_same : (l m : Listed) → SameListed B B2 l m → is_blank_next l ≡ is_blank_next m
   blank_same l m same = rw (same.1.0, same.1.1.0) refl
 
-  -- both go on, or both end
+  -- by tests that are equal, both turns go on, or both end
   list_step : (p q : Bool) (l m : ListSoFar) → p ≡ q → SameList B B2 l m →
       SameStep (SameList B B2) (step_if p l) (step_if q m)
   list_step true true l m is same = same
@@ -91,7 +91,7 @@ module _ {edition : Edition} {T U : List ℕ} {a M : ℕ} {to : ℕ → ℕ} {li
   list_step false true l m is same = absurd cc
   list_step false false l m is same = same
 
-  -- one more entry, or none
+  -- where the lists so far are the same, they are so with one more entry, or none
   one_more_entry : (l m : ListSoFar) → SameList B B2 l m →
       Goes2 (SameStep (SameList B B2)) (one_entry inner l) (one_entry inner m)
   unfolding one_entry
@@ -111,7 +111,7 @@ module _ {edition : Edition} {T U : List ℕ} {a M : ℕ} {to : ℕ → ℕ} {li
   entry_on l m same = picks _ _ (ap (λ (n : Next). begins_pipeline n.token) same.1) (one_more_entry l m same)
       (gives same)
 
-  -- a comment on a line of its own, or none
+  -- where the lists so far are the same, they are so with a comment on a line of its own, or none
   remark_same : (l m : ListSoFar) (x y : Option Span × Next) → SameListed B B2 l.list m.list → SameRemark B B2 x y →
       Goes2 (SameList B B2) (remark_by l x) (remark_by m y)
   remark_same l m (None, n) (None, k) same so = gives (same, so.1)
@@ -129,14 +129,14 @@ module _ {edition : Edition} {T U : List ℕ} {a M : ℕ} {to : ℕ → ℕ} {li
           shape_of_entry B (entry (remark c) false b None) ≡ shape_of_entry B2 (entry (remark d) false z None)
       remarks_same c d b z text is = let one : text_at B c ≡ text_at B2 d = cc in rw (one, is) refl
 
-  -- all that stands on a line
+  -- where the lists so far are the same, they are so with all that stands on a line
   on_line_same : (l m : ListSoFar) → SameList B B2 l m → Goes2 (SameList B B2) (on_line inner l) (on_line inner m)
   unfolding on_line a_remark
   on_line_same l m same =
       then (repeats (SameList B B2) (entry_turn inner) (entry_turn inner) entry_on l m same)
       (λ j k so. then (comment_at_same j.next k.next so.1) (λ x y text. remark_same j k x y so.0 text))
 
-  -- so at the next line
+  -- where the lists so far are the same, they are so at the next line
   lines_same : (l m : Listed) → SameListed B B2 l m → SameListed B B2 (next_line l) (next_line m)
   lines_same l m same = (
     same.0,
@@ -146,7 +146,7 @@ module _ {edition : Edition} {T U : List ℕ} {a M : ℕ} {to : ℕ → ℕ} {li
     ),
   )
 
-  -- one more line, or the last
+  -- where the lists so far are the same, they are so with one more line, or the last
   line_on : (l m : ListSoFar) → SameList B B2 l m →
       Goes2 (SameStep (SameList B B2)) (list_turn inner l) (list_turn inner m)
   unfolding list_turn
@@ -155,18 +155,18 @@ module _ {edition : Edition} {T U : List ℕ} {a M : ℕ} {to : ℕ → ℕ} {li
       (λ x y is. gives (list_step x.0 y.0 (list_so_far (next_line j.list) x.1) (list_so_far (next_line k.list) y.1)
       (ap (λ (z : Bool × Next). z.0) is) (lines_same j.list k.list so.0, ap (λ (z : Bool × Next). z.1) is))))
 
-  -- what stands before the end of a list
+  -- what stands before the end of a list is read the same in both texts
   pub lines : (n m : Next) → n ≡ m →
       Goes2 (SameList B B2) (many (list_turn inner) (list_so_far (none_listed false) n))
       (many (list_turn inner) (list_so_far (none_listed false) m))
   lines n m same = repeats (SameList B B2) (list_turn inner) (list_turn inner) line_on _ _
       ((refl, (refl, (refl, refl))), same)
 
-  -- lists of the same shape, and the same token after them
+  -- two lists have the same shape, and the same token stands after them
   abbrev SameEnd : Entries × Next → Entries × Next → Type 0
   SameEnd x y = (shape_of B x.0 ≡ shape_of B2 y.0) × (x.1 ≡ y.1)
 
-  -- a list, which has a command in both texts or in neither
+  -- a list is read with the same shape in both texts; it has a command in both or in neither
   list_same : (n m : Next) → n ≡ m → Goes2 SameEnd (a_list inner n) (a_list inner m)
   unfolding a_list
   list_same n m same = then (lines n m same)
@@ -176,7 +176,7 @@ module _ {edition : Edition} {T U : List ℕ} {a M : ℕ} {to : ℕ → ℕ} {li
 
   -- Each row: what it reads here it reads there, with the same shape, and hands on the same token.
 
-  -- spans do not count
+  -- what opens, parts or closes is read in both texts, with the same token after it; the spans do not count
   reserved_or_paren_same : (text : Spelled) (paren : Bool) (position : Position) →
       Goes2 (λ x y. x.1 ≡ y.1) (reserved_or_paren text paren position) (reserved_or_paren text paren position)
   unfolding reserved_or_paren
@@ -188,7 +188,7 @@ module _ {edition : Edition} {T U : List ℕ} {a M : ℕ} {to : ℕ → ℕ} {li
       (λ n. picks (is_closing c n.token) _ refl (reserved_or_paren_same _ (is_close_paren c) _) (stopped inner n)) n m
       same
 
-  -- a condition and what it runs
+  -- a condition and what it runs have the same shape in both texts, and the same token stands after them
   abbrev SameBranch : ABranch × Next → ABranch × Next → Type 0
   SameBranch x y = (shape_of_branch B x.0 ≡ shape_of_branch B2 y.0) × (x.1 ≡ y.1)
 
@@ -199,7 +199,8 @@ module _ {edition : Edition} {T U : List ℕ} {a M : ℕ} {to : ℕ → ℕ} {li
       then (closing_same closings.Then c.1 d.1 so.1)
       (λ t u is. then (list_same t.1 u.1 is) (λ b e two. gives (rw (so.0, two.0) refl, two.1))))
 
-  -- those of each `elif` so far, and one more or none
+  -- the branches of each `elif` so far have the same shapes in both texts, and so they have with
+  -- one more or none
   abbrev SameBranches : BranchesSoFar → BranchesSoFar → Type 0
   SameBranches b c = (map (shape_of_branch B) b.branches ≡ map (shape_of_branch B2) c.branches) × (b.next ≡ c.next)
 
@@ -214,7 +215,7 @@ module _ {edition : Edition} {T U : List ℕ} {a M : ℕ} {to : ℕ → ℕ} {li
       (λ bs cs all. gives (all, is.1)))))
       (gives same)
 
-  -- `else` and what it runs, or nothing
+  -- what stands after `else`, or nothing, is read with the same shape in both texts
   else_same : (n m : Next) → n ≡ m →
       Goes2 (λ x y. (shape_of_else B x.0 ≡ shape_of_else B2 y.0) × (x.1 ≡ y.1)) (an_else inner n) (an_else inner m)
   unfolding an_else
@@ -223,11 +224,12 @@ module _ {edition : Edition} {T U : List ℕ} {a M : ℕ} {to : ℕ → ℕ} {li
       (then (reserved_or_paren_same _ false _)
       (λ k l so. then (list_same k.1 l.1 so) (λ x y is. gives (rw is.0 refl, is.1)))) (gives (refl, same))
 
-  -- forms of the same shape, and the same token after them
+  -- two forms have the same shape, and the same token stands after them
   abbrev SameForm : Closed AForm → Closed AForm → Type 0
   SameForm x y = (shape_of_form B x.what ≡ shape_of_form B2 y.what) × (x.next ≡ y.next)
 
-  -- the whole of `if`, of `while` and `until`, and a list up to what closes it
+  -- the whole of `if`, of `while` and of `until`, and a list up to what closes it, are read with the same
+  -- shape in both texts
   if_same : (n : Next) → Goes2 SameForm (an_if inner n) (an_if inner n)
   unfolding an_if
   if_same n =
@@ -259,7 +261,7 @@ module _ {edition : Edition} {T U : List ℕ} {a M : ℕ} {to : ℕ → ℕ} {li
   group_same c n m same = then (list_same n m same)
       (λ l k so. then (closing_same c l.1 k.1 so.1) (λ x y last. gives (so.0, last)))
 
-  -- the word after `for`, which is a NAME in both texts or in neither
+  -- the word after `for` is read with the same shape in both texts; it is a NAME in both or in neither
   for_name_same : (n : Next) → Goes2 (λ x y. SameWord B B2 x.0 y.0 × (x.1 ≡ y.1)) (a_for_name inner n)
       (a_for_name inner n)
   unfolding a_for_name
@@ -272,7 +274,7 @@ module _ {edition : Edition} {T U : List ℕ} {a M : ℕ} {to : ℕ → ℕ} {li
       (go_stop E o o2 B B2 stands stands_there)))))
       (stopped inner n)
 
-  -- a `;` or a newline, and the comments after it
+  -- a `;` or a newline is read in both texts, with comments of the same texts after it
   sequential_sep_same : (cs ds : Row Span) (n m : Next) → SameComments B B2 cs ds → n ≡ m →
       Goes2 (SameJoin B B2) (a_sequential_sep inner cs n) (a_sequential_sep inner ds m)
   unfolding a_sequential_sep
@@ -281,12 +283,13 @@ module _ {edition : Edition} {T U : List ℕ} {a M : ℕ} {to : ℕ → ℕ} {li
       (λ l k is. picks (s.0 || l.join.broken) (z.0 || k.join.broken) (rw (so, is.0) refl) (gives is)
       (stopped inner l.next)))
 
-  -- the same words of a `for`, comments of the same texts, and the same token after them
+  -- two heads of a `for` have words of the same shape, comments of the same texts, and the
+  -- same token after them
   abbrev SameHead : Headed → Headed → Type 0
   SameHead x y = (shape_of_for_words B x.words ≡ shape_of_for_words B2 y.words)
       × (SameComments B B2 x.comments y.comments × (x.next ≡ y.next))
 
-  -- one more word after `in` or none, and all of them
+  -- one more word after `in`, or none, is read with the same shape in both texts, and so are all of them
   word_on : (i j : ItemsSoFar) → SameItems B B2 i j →
       Goes2 (SameStep (SameItems B B2)) (word_turn inner i) (word_turn inner j)
   unfolding word_turn
@@ -303,7 +306,7 @@ module _ {edition : Edition} {T U : List ℕ} {a M : ℕ} {to : ℕ → ℕ} {li
       (λ ws vs same. then (sequential_sep_same cs ds ws.next vs.next all same.1.1)
       (λ l k is. gives (rw (items_same B B2 ws vs same) refl, is.1))))
 
-  -- what stands between the name and `do`, with `in` or without
+  -- what stands between the name and `do` is the same in both texts, with `in` or without
   for_head_same : (n m : Next) → n ≡ m → Goes2 SameHead (a_for_head inner n) (a_for_head inner m)
   unfolding a_for_head
   for_head_same n m same =
@@ -312,7 +315,7 @@ module _ {edition : Edition} {T U : List ℕ} {a M : ℕ} {to : ℕ → ℕ} {li
       (not z.0 && is_closing closings.In k.next.token) (rw (so, is.1.1) refl)
       (for_words_same l.join.comments k.join.comments is.1.0) (gives (refl, is.1))))
 
-  -- comments of the same texts, before lists of the same shape
+  -- lists of the same shape have it also with comments of the same texts before them
   remarks_shape : (cs ds : Row Span) (es fs : Entries) → SameComments B B2 cs ds → shape_of B es ≡ shape_of B2 fs →
       shape_of B (after_remarks cs es) ≡ shape_of B2 (after_remarks ds fs)
   remarks_shape [] [] es fs all same = same
@@ -323,7 +326,7 @@ module _ {edition : Edition} {T U : List ℕ} {a M : ℕ} {to : ℕ → ℕ} {li
       let rest : SameComments B B2 cs ds = cc in
       rw (one, remarks_shape cs ds es fs rest same) refl
 
-  -- the whole of `for`
+  -- the whole of `for` is read with the same shape in both texts
   for_same : (n : Next) → Goes2 SameForm (a_for inner n) (a_for inner n)
   unfolding a_for
   for_same n =
@@ -340,21 +343,21 @@ module _ {edition : Edition} {T U : List ℕ} {a M : ℕ} {to : ℕ → ℕ} {li
 
   -- Patterns, items and the comments between them: as many, of the same shapes.
 
-  -- the word after `case`
+  -- the word after `case` is read with the same shape in both texts
   case_word_same : (n : Next) →
       Goes2 (λ x y. SameWord B B2 x.0 y.0 × (x.1 ≡ y.1)) (a_case_word inner n) (a_case_word inner n)
   unfolding a_case_word
   case_word_same n = picks (begins_word n.token) _ refl
       (then fine.word (λ w v so. then (next Command) (λ m k same. gives (so, same)))) (stopped inner n)
 
-  -- patterns of the same shapes, and the same token after them
+  -- two rows of patterns have the same shapes, and the same token stands after them
   abbrev SameWords : Row AWord → Row AWord → Type 0
   SameWords ws vs = map (shape_of_word B) ws ≡ map (shape_of_word B2) vs
 
   abbrev SamePatterns : PatternsSoFar → PatternsSoFar → Type 0
   SamePatterns p q = SameWords p.patterns q.patterns × (p.next ≡ q.next)
 
-  -- a pattern, one more after `|` or none, and all of them
+  -- a pattern is read with the same shape in both texts, one more after `|` or none, and all of an item
   pattern_same : (ws vs : Row AWord) → SameWords ws vs → Goes2 SamePatterns (a_pattern inner ws) (a_pattern inner vs)
   unfolding a_pattern
   pattern_same ws vs same =
@@ -384,17 +387,18 @@ module _ {edition : Edition} {T U : List ℕ} {a M : ℕ} {to : ℕ → ℕ} {li
       (λ p q so. repeats SamePatterns (pattern_turn inner) (pattern_turn inner) pattern_on p q so))
       (stopped inner n)
 
-  -- the `(` before them, or none
+  -- the `(` before patterns is read in both texts, or none, with the same token after it
   open_same : (n m : Next) → n ≡ m → Goes2 (λ x y. x ≡ y) (an_open_bracket n) (an_open_bracket m)
   unfolding an_open_bracket
   open_same n m same = picks _ _ (ap (λ (k : Next). is_paren k.token) same) (then moves_on (λ x y all. next Command))
       (gives same)
 
-  -- where it ends does not count
+  -- the ends of two items have comments of the same texts and the same token after them; their
+  -- offsets do not count
   abbrev SameItemEnd : ItemEnd → ItemEnd → Type 0
   SameItemEnd e d = SameComments B B2 e.comments d.comments × (e.next ≡ d.next)
 
-  -- a `;;` or `;&` with the comments after it, or nothing before `esac`
+  -- a `;;` or `;&` is read in both texts, with the comments after it, or nothing before `esac`
   ender_same : (b : Bool) → Goes2 SameItemEnd (an_ender b) (an_ender b)
   unfolding an_ender
   ender_same b =
@@ -409,7 +413,7 @@ module _ {edition : Edition} {T U : List ℕ} {a M : ℕ} {to : ℕ → ℕ} {li
       (ap (λ (k : Next). falls_through k.token) same) (ender_same (falls_through n.token)))
       (picks _ _ (ap (λ (k : Next). is_closing closings.Esac k.token) same) (gives (refl, same)) (stopped inner n))
 
-  -- an item of such parts has the same shape
+  -- two items of a `case` have the same shape where their comments, patterns and lists are the same
   case_shape : (cs ds : Row Span) (p q : PatternsSoFar) (l m : ListSoFar) (s z : ACaseMark) → s.falls ≡ z.falls →
       SameComments B B2 cs ds → SamePatterns p q → SameList B B2 l m
       → shape_of_case B (case_item cs (patterns_of p.patterns) (entries_of l.list.entries) s)
@@ -418,12 +422,12 @@ module _ {edition : Edition} {T U : List ℕ} {a M : ℕ} {to : ℕ → ℕ} {li
       let patterns = patterns_shape B p.patterns ∙ ap patterns_of two.0 ∙ sym (patterns_shape B2 q.patterns) in
       rw (one, patterns, list_shape B B2 l m three, falling) refl
 
-  -- items of the same shapes, with comments of the same texts and the same token after them
+  -- the items so far have the same shapes, with comments of the same texts and the same token after them
   abbrev SameCases : CasesSoFar → CasesSoFar → Type 0
   SameCases c d = (map (shape_of_case B) c.items ≡ map (shape_of_case B2) d.items)
       × (SameComments B B2 c.comments d.comments × (c.next ≡ d.next))
 
-  -- one more item, or none before `esac`
+  -- where the items so far are the same, they are so with one more, or none before `esac`
   one_more_case : (c d : CasesSoFar) → SameCases c d → Goes2 (SameStep SameCases) (one_case inner c) (one_case inner d)
   unfolding one_case a_body
   one_more_case c d same =
@@ -444,7 +448,7 @@ module _ {edition : Edition} {T U : List ℕ} {a M : ℕ} {to : ℕ → ℕ} {li
   case_on c d same = picks _ _ (ap (λ (n : Next). is_closing closings.Esac n.token) same.1.1) (gives same)
       (one_more_case c d same)
 
-  -- what stands between `case` and its items
+  -- what stands between `case` and its items is the same in both texts
   case_head_same : (n : Next) →
       Goes2 (λ x y. SameWord B B2 x.0 y.0 × (SameComments B B2 x.1 y.1 × (x.2 ≡ y.2))) (a_case_head inner n)
       (a_case_head inner n)
@@ -455,7 +459,7 @@ module _ {edition : Edition} {T U : List ℕ} {a M : ℕ} {to : ℕ → ℕ} {li
       (λ i j three. then (linebreak l.join.comments k.join.comments i.1 j.1 two.1.0 three)
       (λ h m so. gives (one.0, so.1)))))
 
-  -- the whole of `case`
+  -- the whole of `case` is read with the same shape in both texts
   case_same : (n : Next) → Goes2 SameForm (a_case inner n) (a_case inner n)
   unfolding a_case
   case_same n =
@@ -469,7 +473,7 @@ module _ {edition : Edition} {T U : List ℕ} {a M : ℕ} {to : ℕ → ℕ} {li
           shape_of_cases B (cases_of c.items) ≡ shape_of_cases B2 (cases_of d.items)
       cases_same c d same = cases_shape B c.items ∙ ap cases_of same.0 ∙ sym (cases_shape B2 d.items)
 
-  -- each form, by its opener
+  -- each form is read with the same shape in both texts, by its opener
   form_same : (c : Opener) (n m : Next) → n ≡ m → Goes2 SameForm (a_form inner c n) (a_form inner c m)
   form_same c n m same = at_same (a_form inner c) (a_form inner c) (one c) n m same
     where
@@ -482,7 +486,7 @@ module _ {edition : Edition} {T U : List ℕ} {a M : ℕ} {to : ℕ → ℕ} {li
       one openers.For n = for_same n
       one openers.Case n = case_same n
 
-  -- a command held apart
+  -- rows of commands of the same shapes hold apart commands of the same shape
   apart_same : (cs ds : Row ACommand) → map (shape_of_command B) cs ≡ map (shape_of_command B2) ds →
       shape_of_command B (held_apart cs) ≡ shape_of_command B2 (held_apart ds)
   apart_same [] [] same = refl
@@ -496,7 +500,7 @@ module _ {edition : Edition} {T U : List ℕ} {a M : ℕ} {to : ℕ → ℕ} {li
       ≡ map (shape_of_command B2) (compound (formed k z no_item) ∷ [])
   forms_same f k s z is = rw is refl
 
-  -- a compound command, from its opener on
+  -- a compound command is read with the same shape in both texts, from its opener on
   pub compound_same : (c : Opener) → Goes2 (SameCommand B B2) (a_compound inner c) (a_compound inner c)
   unfolding a_compound
   compound_same c =
@@ -524,7 +528,7 @@ module _ {edition : Edition} {T U : List ℕ} {a M : ℕ} {to : ℕ → ℕ} {li
   under_same name new cs ds (function f es b) (compound e) one two same = absurd cc
   under_same name new cs ds (function f es b) (simple js) one two same = absurd cc
 
-  -- a function, if its name has the same text
+  -- a function is read with the same shape in both texts, if its name has the same text
   pub function_same : (name new : Span) → text_at B name ≡ text_at B2 new →
       Goes2 (SameCommand B B2) (a_function inner name) (a_function inner new)
   unfolding a_function

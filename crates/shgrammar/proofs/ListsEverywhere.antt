@@ -43,33 +43,34 @@ module _ (limit : ℕ) where
   abbrev pub ItemsIn : ItemsSoFar → Type 0
   ItemsIn i = All (ItemIn limit) i.items
 
-  -- and there is one
+  -- no span in the items goes past the limit, and there is one
   abbrev pub SomeItems : ItemsSoFar → Type 0
   SomeItems i = ItemsIn i × IsSome (items_of i.items)
 
-  -- and there is one, or the token after them begins one
+  -- no span in the items goes past the limit, and there is one, or the token after them begins one
   abbrev pub ItemsBegin : ItemsSoFar → Type 0
   ItemsBegin i = ItemsIn i × (begins_simple i.next.token ≡ false → IsSome (items_of i.items))
 
-  -- nor in the commands after a `|`, or in the pipelines after `&&` and `||`
+  -- no span in the commands after a `|`, or in the pipelines after `&&` and `||`, goes past the limit
   abbrev pub PipesIn : PipesSoFar → Type 0
   PipesIn p = All (PipeIn limit) p.parts
 
   abbrev pub PartsIn : AndOrSoFar → Type 0
   PartsIn a = All (PartIn limit) a.parts
 
-  -- the offset after a separator
+  -- the offset after a separator, where there is one, is not past the limit
   abbrev pub PartedIn : Option ℕ → Type 0
   PartedIn parted = MatchOption parted (Unit {0}) (λ p. p ≤ limit)
 
-  -- the entries of a list with that offset, and the comments that a join has
+  -- no span in the entries of a list goes past the limit, nor does the offset after its last separator; nor
+  -- do the comments that a join has
   abbrev pub ListIn : ListSoFar → Type 0
   ListIn l = All (EntryIn limit) l.list.entries × PartedIn l.list.parted
 
   abbrev pub JoinIn : JoinSoFar → Type 0
   JoinIn j = AreIn limit j.join.comments
 
--- what may be opened, where that does not end above the limit
+-- no span in what may be opened goes past the limit, where that does not end above it
 pub record Fine (g : Given) (limit : ℕ) (inner : Inner) : Type 0 where
   pub construct : (mode : Mode) (b : ℕ) (ss : Row ASubst) (s : State) → All (SubstIn limit) ss →
       UpTo g limit (inner.construct mode b ss) (All (SubstIn limit)) s
@@ -84,7 +85,7 @@ none_begins : (t : Token) → after_word t ≡ None → begins_redirect t ≡ fa
 none_begins t no_word other = ap (λ (o : Option Position). is_some o || begins_redirect t) no_word ∙ other
 
 module _ {g : Given} {limit : ℕ} where
-  -- one more item
+  -- with one more item in which no span goes past the limit none does in all of them, and there is one
   one_more : {xs : Row AnItem} {x : AnItem} {s : State} → All (ItemIn limit) xs → ItemIn limit x →
       UpTo g limit (push xs x) (λ is. All (ItemIn limit) is × IsSome (items_of is)) s
   one_more {xs = xs} {x = x} all one = adds (All-push (ItemIn limit) xs x all one, some_pushed xs x)
@@ -96,7 +97,7 @@ module _ {g : Given} {limit : ℕ} where
 
   -- ---- the number, the operator and the here-document of a redirection
 
-  -- the spans of a number and of an operator
+  -- the spans of a number and of an operator do not go past the limit
   number_in : (n : Next) (s : State) → UpTo g limit (a_number n) (λ x. SomeIn limit x.0) s
   unfolding a_number
   number_in n s = picks (is_number_token n.token) (first bare_token (λ x t one. after (λ m u. gives one))) (gives tt)
@@ -113,7 +114,7 @@ module _ {g : Given} {limit : ℕ} where
   document_in_by b p strip (Some d) s = after (λ u t. gives (omega arith, omega arith))
   document_in_by b p strip None s = stops
 
-  -- a here-document, or none, by the operator
+  -- the body of a here-document does not go past the limit, or there is none, by the operator
   document_in : (o : RedirectOperator) (b p : ℕ) (bytes : Spelled) (s : State) →
       UpTo g limit (a_document o b p bytes) (HereIn limit) s
   unfolding a_document
@@ -121,7 +122,7 @@ module _ {g : Given} {limit : ℕ} where
 
   -- ---- comments and joins
 
-  -- a comment, or none
+  -- a comment does not go past the limit, or there is none
   comment_in_by : (n : Next) (c : Option Span) (s : State) → comment_at g.text g.offset s.at ≡ c →
       UpTo g limit (comment_by n c) (λ x. SomeIn limit x.0) s
   comment_in_by n None s is = gives tt
@@ -133,13 +134,13 @@ module _ {g : Given} {limit : ℕ} where
   unfolding a_comment
   comment_in n s = sees (comment_in_by n (comment_at g.text g.offset s.at) s refl)
 
-  -- comments, with one more or not
+  -- comments do not go past the limit, with one more or not
   with_in : (cs : Row Span) (c : Option Span) (s : State) → AreIn limit cs → SomeIn limit c →
       UpTo g limit (with_comment cs c) (AreIn limit) s
   with_in cs (Some c) s all one = pushes (IsSpanWithin limit) all one
   with_in cs None s all one = gives all
 
-  -- the comments of a join, and those among newlines
+  -- the comments of a join do not go past the limit, nor do those among newlines
   join_turn_in : (j : JoinSoFar) (s : State) → JoinIn limit j → UpTo g limit (join_turn j) (Stepped (JoinIn limit)) s
   unfolding join_turn
   join_turn_in j s so = first (comment_in j.next s)
@@ -158,12 +159,12 @@ module _ {g : Given} {limit : ℕ} where
 
   -- ---- what else needs nothing that may be opened
 
-  -- the `!` of a pipeline
+  -- the `!` of a pipeline does not go past the limit
   bang_in : (n : Next) (s : State) → UpTo g limit (a_bang n) (λ x. SomeIn limit x.0) s
   unfolding a_bang
   bang_in n s = picks (is_bang n.token) (first bare_token (λ x t one. after (λ m u. gives one))) (gives tt)
 
-  -- the offset after a separator, or none
+  -- the offset after a separator is not past the limit, or there is none
   separator_in_by : (n : Next) (c : Option Separator) (s : State) →
       UpTo g limit (separator_by n c) (λ x. PartedIn limit (past_separator x.0)) s
   separator_in_by n (Some c) s = first bare_token (λ x t one. after (λ m u. gives one.1))
@@ -182,12 +183,12 @@ module _ {g : Given} {limit : ℕ} where
   -- ---- words
 
   module _ {inner : Inner} (fine : Fine g limit inner) where
-    -- a construct in a word
+    -- no span in the substitutions so far goes past the limit, with a construct that opens in a word
     opened_in : (mode : Mode) (b : ℕ) (h : WordSoFar) (s : State) → SubstsIn limit h →
         UpTo g limit (opened inner mode b h) (Stepped (SubstsIn limit)) s
     opened_in mode b h s so = first (fine.construct mode b h.substs s so) (λ zs t good. gives good)
 
-    -- one piece, by its kind
+    -- no span in the substitutions so far goes past the limit, with one more piece, by its kind
     piece_in_by : (mode : Mode) (b : ℕ) (h : WordSoFar) (piece : Piece) (s : State) → SubstsIn limit h →
         UpTo g limit (piece_row inner mode b h piece) (Stepped (SubstsIn limit)) s
     piece_in_by mode b h pieces.Closer s so = after (λ x t. gives so)
@@ -219,7 +220,7 @@ module _ {g : Given} {limit : ℕ} where
     unfolding a_piece
     piece_in mode b h s so = after (λ piece t. piece_in_by mode b h piece t so)
 
-    -- all pieces, a word of them, and the span of a word
+    -- no span in all pieces goes past the limit, nor in a word of them; so the span of a word does not
     pub contents_in : (mode : Mode) (b : ℕ) (ss : Row ASubst) (s : State) → All (SubstIn limit) ss →
         UpTo g limit (contents inner mode b ss) (All (SubstIn limit)) s
     unfolding contents
@@ -237,7 +238,8 @@ module _ {g : Given} {limit : ℕ} where
 
     -- ---- items
 
-    -- a word as an item, and one more item
+    -- no span in an item that is a word goes past the limit where none in the word does; nor does one in the
+    -- items with one more, and there is one
     item_in : (position : Position) (broken : Bool) (w : AWord) → WordIn limit w →
         ItemIn limit (item broken (as_item position w))
     item_in Command broken w so = so
@@ -253,12 +255,12 @@ module _ {g : Given} {limit : ℕ} where
 
     -- ---- redirections
 
-    -- the word of a redirection
+    -- no span in the word of a redirection goes past the limit
     target_in : (s : State) → UpTo g limit (a_target inner) (λ x. WordIn limit x.0) s
     unfolding a_target
     target_in s = after (λ n t. picks (is_word n.token) (with_its_bytes (word_in t)) (stopped inner n))
 
-    -- a redirection is one more item
+    -- no span in the items goes past the limit with one more that is a redirection, and there is one
     redirect_in : (broken : Bool) (position : Position) (is : Row AnItem) (n : Next) (s : State) → All (ItemIn limit) is
         → UpTo g limit (one_redirect inner broken position is n) (Stepped (SomeItems limit)) s
     unfolding one_redirect
@@ -271,7 +273,7 @@ module _ {g : Given} {limit : ℕ} where
 
     -- ---- simple commands
 
-    -- one more item, or none
+    -- no span in the items goes past the limit with one more, or none, and there is one
     item_in_by : (i : ItemsSoFar) (o : Option Position) (s : State) → after_word i.next.token ≡ o → ItemsBegin limit i →
         UpTo g limit (item_by inner i o) (Stepped (SomeItems limit)) s
     item_in_by i (Some position) s is so = one_item_in i position s so.0
@@ -285,7 +287,7 @@ module _ {g : Given} {limit : ℕ} where
     unfolding item_turn
     item_turn_in i s so = item_in_by i (after_word i.next.token) s refl so
 
-    -- the items of a simple command, of which there is one
+    -- no span in the items of a simple command goes past the limit, and there is one
     simple_in : (i : ItemsSoFar) (s : State) → ItemsBegin limit i →
         UpTo g limit (a_simple inner i) (λ c. CommandIn limit c.0) s
     unfolding a_simple
@@ -295,7 +297,7 @@ module _ {g : Given} {limit : ℕ} where
 
     -- ---- commands
 
-    -- a command, with the redirections after it
+    -- no span in a command goes past the limit, with the redirections after it
     redirect_turn_in : (i : ItemsSoFar) (s : State) → ItemsIn limit i →
         UpTo g limit (redirect_turn inner i) (Stepped (ItemsIn limit)) s
     unfolding redirect_turn
@@ -317,13 +319,13 @@ module _ {g : Given} {limit : ℕ} where
         first (repeats (ItemsIn limit) (redirect_turn inner) redirect_turn_in (items_so_far [] Command c.1) s
         (All-nil (ItemIn limit))) (λ r t all. gives (with_redirects_in c.0 r.items so all))
 
-    -- a compound command with these, where the token is an opener
+    -- no span in a compound command goes past the limit, with its redirections, where the token is an opener
     pub compound_in_by : (n : Next) (o : Option Opener) (s : State) →
         UpTo g limit (compound_by inner n o) (λ c. CommandIn limit c.0) s
     compound_in_by n (Some o) s = first (fine.compound o s) with_redirect_list_in
     compound_in_by n None s = stopped inner n
 
-    -- a function or a simple command, which begins with a word
+    -- no span in what begins with a word goes past the limit, a function or a simple command
     word_command_in : (s : State) → UpTo g limit (a_word_command inner) (λ c. CommandIn limit c.0) s
     unfolding a_word_command
     word_command_in s =
@@ -332,7 +334,7 @@ module _ {g : Given} {limit : ℕ} where
         (first (one_more (All-nil (ItemIn limit)) one)
         (λ is x all. simple_in (items_so_far is Suffix n) x (all.0, λ no. all.1))))))
 
-    -- a command, by its first token
+    -- no span in a command goes past the limit, by its first token
     command_in : (n : Next) (s : State) → UpTo g limit (a_command inner n) (λ c. CommandIn limit c.0) s
     unfolding a_command
     command_in n s =
@@ -341,7 +343,7 @@ module _ {g : Given} {limit : ℕ} where
         (λ yes. simple_in (items_so_far [] Command n) s (All-nil (ItemIn limit), λ no. absurd (cc)))
         (λ no. compound_in_by n (opener_of n.token) s))
 
-    -- one more command after a `|`, or none, and a pipeline
+    -- no span in a pipeline goes past the limit, with one more command after a `|`, or none, and as a whole
     one_command_in : (p : PipesSoFar) (s : State) → PipesIn limit p →
         UpTo g limit (one_command inner p) (Stepped (PipesIn limit)) s
     unfolding one_command
@@ -363,7 +365,8 @@ module _ {g : Given} {limit : ℕ} where
         (All-nil (PipeIn limit)))
         (λ p v all. gives (one, two, pipes_in limit p.parts all))))
 
-    -- one more pipeline after `&&` or `||`, or none, and an and-or list
+    -- no span in an and-or list goes past the limit, with one more pipeline after `&&` or `||`, or none, and
+    -- as a whole
     one_pipeline_in : (a : AndOrSoFar) (o : AndOrOperator) (s : State) → PartsIn limit a →
         UpTo g limit (one_pipeline inner a o) (Stepped (PartsIn limit)) s
     unfolding one_pipeline
@@ -390,7 +393,7 @@ module _ {g : Given} {limit : ℕ} where
         (All-nil (PartIn limit)))
         (λ a u all. gives (one, parts_in limit a.parts all)))
 
-    -- an entry, and the offset after its separator
+    -- no span in an entry goes past the limit, nor does the offset after its separator
     entry_in : (blank : Bool) (n : Next) (s : State) →
         UpTo g limit (an_entry inner blank n) (λ e. EntryIn limit e.entry × PartedIn limit e.parted) s
     unfolding an_entry
@@ -400,7 +403,7 @@ module _ {g : Given} {limit : ℕ} where
 
     -- ---- lists
 
-    -- one more entry, or none, and all that stands on a line
+    -- no span in a list goes past the limit, with one more entry, or none, and with all that stands on a line
     one_entry_in : (l : ListSoFar) (s : State) → ListIn limit l →
         UpTo g limit (one_entry inner l) (Stepped (ListIn limit)) s
     unfolding one_entry
@@ -419,7 +422,7 @@ module _ {g : Given} {limit : ℕ} where
         first (repeats (ListIn limit) (entry_turn inner) entry_turn_in l s so)
         (λ m t all. first (comment_in m.next t) (λ x u one. remark_in_by m x u all one))
 
-    -- one more line, or none, and all lines of a list
+    -- no span in a list goes past the limit, with one more line, or none, and with all of them
     list_turn_in : (l : ListSoFar) (s : State) → ListIn limit l →
         UpTo g limit (list_turn inner l) (Stepped (ListIn limit)) s
     unfolding list_turn
@@ -430,7 +433,7 @@ module _ {g : Given} {limit : ℕ} where
     lines_in n s = repeats (ListIn limit) (list_turn inner) list_turn_in (list_so_far (none_listed false) n) s
         (All-nil (EntryIn limit), tt)
 
-    -- a list that has a command
+    -- no span in a list that has a command goes past the limit
     pub list_in : (n : Next) (s : State) → UpTo g limit (a_list inner n) (λ l. EntriesIn limit l.0) s
     unfolding a_list
     list_in n s = first (lines_in n s)

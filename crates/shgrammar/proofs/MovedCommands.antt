@@ -39,7 +39,7 @@ pub of_any : {A : Type 0} (P : A → Type 0) (x : Step A) → of_step P x → of
 of_any P (again a) so = tt
 of_any P (done a) so = tt
 
--- a word that no redirection follows is none itself
+-- where there are items, or one begins here, there are some if neither a word nor a redirection begins here
 begun_none : (e : Bool) (o : Option Position) (r : Bool) → (not e || (is_some o || r)) ≡ true → o ≡ None → r ≡ false →
     e ≡ false
 begun_none false o r so is none = refl
@@ -75,7 +75,7 @@ module _ (z : Place) where
   breaks_to : (i : ItemsSoFar) → breaks (items_to i) ≡ breaks i
   breaks_to i = ap (λ e. not e && i.next.broken) (is_empty_map (item_to k deep) i.items)
 
-  -- an item that is a word, moved
+  -- an item that is made of a moved word is the moved item
   as_item_to : (b c : Bool) → b ≡ c → (position : Position) (w : AWord) →
       item b (as_item position (word_to k deep w)) ≡ item_to k deep (item c (as_item position w))
   as_item_to b c is Prefix w = ap (λ e. item e (assign (word_to k deep w))) is
@@ -84,7 +84,7 @@ module _ (z : Place) where
 
   -- ---- newlines, `;`, and joins
 
-  -- a newline with the bodies after it, and a `;`
+  -- a newline with the bodies after it is read there too, and so is a `;`
   pub moves_line_end : (n : Next) → Moves z same Any (a_newline n) (a_newline n)
   unfolding a_newline
   moves_line_end n = moves_pick _
@@ -95,7 +95,7 @@ module _ (z : Place) where
   moves_semicolon n = moves_pick _ (moves_on (moves_then (moves_next z _) (λ m so. moves_give refl tt)))
       (moves_give refl tt)
 
-  -- that no here-document waits, or the fault where one does
+  -- there too no here-document waits, or the fault where one does is moved
   moves_none_waits : (w : Option ℕ) → Moves z same Any (none_waits w) (none_waits (option_map (λ (p : ℕ). k + p) w))
   moves_none_waits (Some b) = moves_stop
   moves_none_waits None = moves_give refl tt
@@ -104,13 +104,13 @@ module _ (z : Place) where
   unfolding nothing_waits
   moves_nothing_waits = moves_see_waiting (λ w. moves_none_waits w)
 
-  -- the comments so far, with one more where one stands
+  -- the comments so far are moved with one more, where one stands
   moves_with : (cs : Row Span) (c : Option Span) →
       Moves z (map (span_to k)) Any (with_comment cs c) (with_comment (map (span_to k) cs) (option_map (span_to k) c))
   moves_with cs (Some c) = moves_push (span_to k) refl refl tt
   moves_with cs None = moves_give refl tt
 
-  -- a join so far, moved; its turns, and a whole join
+  -- a join so far, moved; its turns are moved too, and so is a whole join
   abbrev pub join_so_far_to : JoinSoFar → JoinSoFar
   join_so_far_to j = join_so_far (join_to k j.join) j.next
 
@@ -141,7 +141,7 @@ module _ (z : Place) where
 
   -- ---- redirections
 
-  -- the number of a redirection, where it has one, and its operator
+  -- the number of a redirection is moved, where it has one, and so is its operator
   moves_number : (n : Next) → Moves z (first {Y = Next} (option_map (span_to k))) Any (a_number n) (a_number n)
   unfolding a_number
   moves_number n = moves_pick _
@@ -160,7 +160,7 @@ module _ (z : Place) where
   moves_operator_by p (Some o) = moves_then (moves_operator o) (λ x so. moves_give refl tt)
   moves_operator_by p None = moves_stop
 
-  -- the here-document of an operator, by where that and the word stand
+  -- the here-document of an operator is moved, by where that and the word stand
   moves_document_by : (b p : ℕ) (strip : Bool) (d : Option ADelimiter) →
       Moves z (option_map (here_to k)) Any (document_by b p strip d) (document_by (k + b) (k + p) strip d)
   moves_document_by b p strip (Some d) = moves_then (moves_waits (document b strip d)) (λ u so. moves_give refl tt)
@@ -181,7 +181,7 @@ module _ (z : Place) where
       (moves_document o.0 o.1.start (word_span w.0).start w.1)
 
   module _ (inner : Inner) (fits : Fits z inner) where
-    -- the target of a redirection, and one more redirection with all its parts
+    -- the target of a redirection is moved, and so is one more redirection with all its parts
     moves_target : Moves z (first {Y = Spelled} (word_to k deep)) Any (a_target inner) (a_target inner)
     unfolding a_target
     moves_target = moves_then (moves_next z _)
@@ -202,7 +202,7 @@ module _ (z : Place) where
 
     -- ---- simple commands
 
-    -- one more item, and a simple command
+    -- one more item is moved, and so is a simple command
     pub moves_item : (i : ItemsSoFar) (position : Position) →
         Moves z (step items_to) (of_step SomeItems) (an_item inner i position) (an_item inner (items_to i) position)
     unfolding an_item
@@ -238,7 +238,8 @@ module _ (z : Place) where
 
     -- ---- compound commands with their redirections, functions
 
-    -- one more redirection, all of them, and a compound command by what opens it
+    -- one more redirection is moved, and so are all of them with their command, and a compound command by
+    -- what opens it
     moves_redirect_turn : (i : ItemsSoFar) →
         Moves z (step items_to) (of_step Any) (redirect_turn inner i) (redirect_turn inner (items_to i))
     unfolding redirect_turn
@@ -263,7 +264,7 @@ module _ (z : Place) where
     moves_compound_by n (Some o) = moves_then (fits.compound o) (λ c ends. moves_with_redirect_list c ends)
     moves_compound_by n None = moves_unexpected z inner fits n
 
-    -- a function under a name, a command that begins with a word, and any command
+    -- a function under a name is moved, and so are a command that begins with a word, and any command
     moves_named_function : (good : Bool) (w : AWord) →
         Moves z (first {Y = Next} (command_to k deep)) (of_first (CommandEnds k deep))
         (named_function inner good (word_span w)) (named_function inner good (word_span (word_to k deep w)))
@@ -291,7 +292,7 @@ module _ (z : Place) where
 
     -- ---- pipelines
 
-    -- a `!`, where one stands
+    -- a `!` is moved, where one stands
     moves_bang : (n : Next) → Moves z (first {Y = Next} (option_map (span_to k))) Any (a_bang n) (a_bang n)
     unfolding a_bang
     moves_bang n = moves_pick _ (moves_then (moves_mark z)
@@ -304,7 +305,7 @@ module _ (z : Place) where
     abbrev PipesEnd : PipesSoFar → Type 0
     PipesEnd p = All (PipeEnds k deep) p.parts
 
-    -- one more command, and a whole pipeline
+    -- one more command is moved, or none, and so is a whole pipeline
     moves_one_command : (p : PipesSoFar) → PipesEnd p →
         Moves z (step pipes_so_far_to) (of_step PipesEnd) (one_command inner p) (one_command inner (pipes_so_far_to p))
     unfolding one_command
@@ -340,7 +341,7 @@ module _ (z : Place) where
     abbrev AndOrEnd : AndOrSoFar → Type 0
     AndOrEnd a = All (PartEnds k deep) a.parts
 
-    -- one more pipeline, and a whole and-or list
+    -- one more pipeline is moved, or none, and so is a whole and-or list
     moves_one_pipeline : (a : AndOrSoFar) (o : AndOrOperator) → AndOrEnd a →
         Moves z (step and_or_so_far_to) (of_step AndOrEnd) (one_pipeline inner a o)
         (one_pipeline inner (and_or_so_far_to a) o)
@@ -381,7 +382,7 @@ module _ (z : Place) where
   abbrev pub parted_to : Option ASeparator → Option ASeparator
   parted_to s = option_map (λ (x : ASeparator). (x.0, k + x.1)) s
 
-  -- a separator, where one stands
+  -- a separator is moved, where one stands
   moves_separator_by : (n : Next) (s : Option Separator) →
       Moves z (first {Y = Next} parted_to) Any (separator_by n s) (separator_by n s)
   moves_separator_by n (Some s) =

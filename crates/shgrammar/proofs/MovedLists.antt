@@ -100,7 +100,7 @@ module _ (z : Place) where
 
   -- ---- what opens, parts and closes lists
 
-  -- a reserved word or a round bracket: its span is moved
+  -- the span of a reserved word or a round bracket is moved
   moves_reserved_or_paren : (text : Spelled) (paren : Bool) (position : Position) →
       Moves z (first {Y = Next} (span_to k)) Any (reserved_or_paren text paren position)
       (reserved_or_paren text paren position)
@@ -112,14 +112,14 @@ module _ (z : Place) where
   abbrev closed_to : {X : Type 0} → (X → X) → Closed X → Closed X
   closed_to c x = record { what = c x.what; closer = span_to k x.closer; next = x.next }
 
-  -- newlines and comments, after comments that are moved too
+  -- newlines and comments are moved, after comments that are moved too
   moves_linebreak : (cs : Row Span) (n : Next) →
       Moves z (join_so_far_to z) Any (a_linebreak cs n) (a_linebreak (map (span_to k) cs) n)
   unfolding a_linebreak
   moves_linebreak cs n = moves_joins z (join_so_far (a_join_of false cs) n)
 
   module _ (inner : Inner) (fits : Fits z inner) where
-    -- an entry, one more of a line, and the same or none
+    -- an entry is moved, and where each of its commands ends is too; so is one more entry of a line, or none
     moves_entry : (blank : Bool) (n : Next) →
         Moves z entered_to (λ e. EntryEnds k deep e.entry) (an_entry inner blank n) (an_entry inner blank n)
     unfolding an_entry
@@ -142,7 +142,7 @@ module _ (z : Place) where
     unfolding entry_turn
     moves_entry_turn l all = moves_pick _ (moves_one_entry l all) (moves_give refl all)
 
-    -- the comment of a line, and all that stands on one
+    -- the comment of a line is moved, or none, and so is all that stands on one
     moves_remark_by : (l : ListSoFar) (c : Option Span) (n : Next) → ListEnds l →
         Moves z list_so_far_to ListEnds (remark_by l (c, n))
         (remark_by (list_so_far_to l) (option_map (span_to k) c, n))
@@ -166,7 +166,7 @@ module _ (z : Place) where
 
     -- ---- lists
 
-    -- one more line, all lines, and a list that holds a command
+    -- one more line is moved, and so are all lines, and a list that holds a command
     moves_list_turn : (l : ListSoFar) → ListEnds l →
         Moves z (step list_so_far_to) (of_step ListEnds) (list_turn inner l) (list_turn inner (list_so_far_to l))
     unfolding list_turn
@@ -187,7 +187,7 @@ module _ (z : Place) where
         (moves_give (ap (λ (es : Entries). (es, l.next)) (entries_row k deep l.list.entries)) tt)
         (moves_unexpected z inner fits l.next))
 
-    -- what has to stand after a list: its span is moved
+    -- the span of what has to stand after a list is moved
     moves_closing : (c : Closing) (n : Next) →
         Moves z (first {Y = Next} (span_to k)) Any (closing inner c n) (closing inner c n)
     unfolding closing
@@ -195,7 +195,7 @@ module _ (z : Place) where
 
     -- ---- groups, `if` and loops
 
-    -- a list with its closer, and a condition with what is run by it
+    -- a list is moved with its closer, and a condition with what is run by it
     moves_group : (c : Closing) (n : Next) →
         Moves z (closed_to (list_to k deep)) Any (a_group inner c n) (a_group inner c n)
     unfolding a_group
@@ -211,7 +211,7 @@ module _ (z : Place) where
     abbrev branches_so_far_to : BranchesSoFar → BranchesSoFar
     branches_so_far_to b = branches_so_far (map (branch_to k deep) b.branches) b.next
 
-    -- one more branch or none, and an `else` or none
+    -- one more branch is moved, or none, and so is an `else`, or none
     moves_elif : (b : BranchesSoFar) →
         Moves z (step branches_so_far_to) (of_step Any) (elif_turn inner b) (elif_turn inner (branches_so_far_to b))
     unfolding elif_turn
@@ -224,7 +224,7 @@ module _ (z : Place) where
     moves_else n = moves_pick _ (moves_then (moves_reserved_or_paren _ false _)
         (λ e so. moves_then (moves_list e.1) (λ l so2. moves_give refl tt))) (moves_give refl tt)
 
-    -- an `if` and a loop, from just after their openers
+    -- an `if` and a loop are moved, from just after their openers
     moves_an_if : (n : Next) → Moves z (closed_to (form_to k deep)) Any (an_if inner n) (an_if inner n)
     unfolding an_if
     moves_an_if n =
@@ -244,7 +244,7 @@ module _ (z : Place) where
 
     -- ---- `for`
 
-    -- the name of a `for`, and what ends its words
+    -- the name of a `for` is moved, and so is what ends its words
     moves_for_name : (n : Next) →
         Moves z (first {Y = Next} (word_to k deep)) Any (a_for_name inner n) (a_for_name inner n)
     unfolding a_for_name
@@ -265,7 +265,7 @@ module _ (z : Place) where
     abbrev headed_to : Headed → Headed
     headed_to h = record { words = for_words_to k deep h.words; comments = map (span_to k) h.comments; next = h.next }
 
-    -- one more word or none, all words, what stands before `do`, and the whole `for`
+    -- one more word is moved, or none, and so are all words, what stands before `do`, and the whole `for`
     moves_word_turn : (i : ItemsSoFar) →
         Moves z (step (items_to z)) (of_step Any) (word_turn inner i) (word_turn inner (items_to z i))
     unfolding word_turn
@@ -300,7 +300,7 @@ module _ (z : Place) where
 
     -- ---- `case`
 
-    -- the word after `case`
+    -- the word after `case` is moved
     moves_case_word : (n : Next) →
         Moves z (first {Y = Next} (word_to k deep)) Any (a_case_word inner n) (a_case_word inner n)
     unfolding a_case_word
@@ -312,7 +312,7 @@ module _ (z : Place) where
     abbrev patterns_so_far_to : PatternsSoFar → PatternsSoFar
     patterns_so_far_to p = patterns_so_far (map (word_to k deep) p.patterns) p.next
 
-    -- one more pattern, the same after a `|`, the same or none, and all of an item
+    -- one more pattern is moved, also after a `|`, or none, and so are all of an item
     moves_pattern : (ws : Row AWord) →
         Moves z patterns_so_far_to Any (a_pattern inner ws) (a_pattern inner (map (word_to k deep) ws))
     unfolding a_pattern
@@ -342,7 +342,7 @@ module _ (z : Place) where
         (λ q all. moves_pattern_turn q) (λ q all. tt) p tt))
         (moves_unexpected z inner fits n)
 
-    -- the `(` before the patterns, and the entries of a body
+    -- the `(` before the patterns is passed there too, or none, and the entries of a body are moved
     moves_bracket : (n : Next) → Moves z same Any (an_open_bracket n) (an_open_bracket n)
     unfolding an_open_bracket
     moves_bracket n = moves_pick _ (moves_on (moves_next z _)) (moves_give refl tt)
@@ -355,7 +355,7 @@ module _ (z : Place) where
     abbrev item_end_to : ItemEnd → ItemEnd
     item_end_to e = item_end (k + e.at) (map (span_to k) e.comments) e.next
 
-    -- a `;;` or `;&`, and the end of an item that has one or none
+    -- a `;;` or `;&` is moved, and so is the end of an item that has one or none
     moves_ender : (b : Bool) → Moves z item_end_to Any (an_ender b) (an_ender b)
     unfolding an_ender
     moves_ender b = moves_then (moves_token (moves_on moves_move))
@@ -367,12 +367,12 @@ module _ (z : Place) where
     moves_item_end p n = moves_pick _ (moves_ender (falls_through n.token))
         (moves_pick _ (moves_give refl tt) (moves_unexpected z inner fits n))
 
-    -- an offset that may be missing, and the one that stands for it, are moved alike
+    -- an offset that may be missing is moved alike with the one that stands for it
     end_or : (o : Option ℕ) (p q : ℕ) → q ≡ k + p → unwrap_or (option_map (offset_to k) o) q ≡ k + unwrap_or o p
     end_or None p q is = is
     end_or (Some e) p q is = refl
 
-    -- the end of an item, where without `;;` or `;&` it ends as its body does
+    -- the end of an item is moved, where without `;;` or `;&` it ends as its body does
     moves_item_end_at : (p : ℕ) (b : ListSoFar) → ListEnds b →
         Moves z item_end_to Any (an_item_end inner (body_end p b.list) b.next)
         (an_item_end inner (body_end (k + p) (listed_to b.list)) b.next)
@@ -386,7 +386,7 @@ module _ (z : Place) where
     abbrev cases_so_far_to : CasesSoFar → CasesSoFar
     cases_so_far_to c = cases_so_far (map (case_to k deep) c.items) (map (span_to k) c.comments) c.next
 
-    -- one more item, and the same or none
+    -- one more item is moved, or none
     moves_one_case : (c : CasesSoFar) →
         Moves z (step cases_so_far_to) (of_step Any) (one_case inner c) (one_case inner (cases_so_far_to c))
     unfolding one_case
@@ -415,7 +415,7 @@ module _ (z : Place) where
     abbrev head_to : AWord × Row Span × Next → AWord × Row Span × Next
     head_to h = (word_to k deep h.0, map (span_to k) h.1, h.2)
 
-    -- that, and the whole `case`
+    -- what stands between `case` and its items is moved, and so is the whole `case`
     moves_case_head : (n : Next) → Moves z head_to Any (a_case_head inner n) (a_case_head inner n)
     unfolding a_case_head
     moves_case_head n =
@@ -435,7 +435,7 @@ module _ (z : Place) where
 
     -- ---- compound commands, functions, substitutions
 
-    -- the form that an opener has
+    -- the form that an opener has is moved
     moves_form : (o : Opener) (n : Next) →
         Moves z (closed_to (form_to k deep)) Any (a_form inner o n) (a_form inner o n)
     moves_form openers.Brace n = moves_then (moves_group closings.Brace n) (λ l so. moves_give refl tt)
@@ -446,7 +446,7 @@ module _ (z : Place) where
     moves_form openers.For n = moves_for n
     moves_form openers.Case n = moves_case n
 
-    -- a compound command and a function: where they end is moved too
+    -- a compound command and a function are moved, and where they end is too
     pub moves_compound : (o : Opener) →
         Moves z (first {Y = Next} (command_to k deep)) (of_first (CommandEnds k deep)) (a_compound inner o)
         (a_compound inner o)
@@ -467,7 +467,7 @@ module _ (z : Place) where
         (λ b ends. moves_give (ap (λ (d : ACommand). (d, b.1)) (under_name_to k deep name l.join.comments b.0))
         (under_name_ends k deep name l.join.comments b.0 ends)))))
 
-    -- the list of a command substitution, and one more substitution of a word
+    -- the list of a command substitution is moved, and so is one more substitution of a word
     moves_substitution_list : Moves z (list_to k deep) Any (substitution_list inner) (substitution_list inner)
     unfolding substitution_list
     moves_substitution_list =

@@ -154,7 +154,9 @@ still_broken : (cs : Row Span) (broken more : Bool) → broken_by cs broken ≡ 
 still_broken [] broken more so = refl
 still_broken (c ∷ cs) broken more so = rw so refl
 
--- one more command of a pipeline, one more pipeline, and one more branch
+-- ---- parts of pipelines and and-or lists, and branches of an `if`
+
+-- a row in normal form stays so with one more command of a pipeline, one more pipeline, or one more branch
 pipes_more : (ps : Row APipelinePart) (p : APipelinePart) → are_normal_pipes (pipeline_parts_of ps) ≡ true →
     is_normal_join p.join ≡ true → is_normal_command p.command ≡ true
     → are_normal_pipes (pipeline_parts_of (ps ++ p ∷ [])) ≡ true
@@ -175,13 +177,17 @@ branches_more [] b all one = and_from _ _ one refl
 branches_more (c ∷ bs) b all one = let parts = and_parts _ _ all in
     and_from _ _ parts.0 (branches_more bs b parts.1 one)
 
--- one more substitution
+-- ---- substitutions of a word
+
+-- a row of substitutions in normal form stays so with one more at the end
 substs_more : (ss : Row ASubst) (s : ASubst) → are_normal_substs (substs_of ss) ≡ true → is_normal_subst s ≡ true →
     are_normal_substs (substs_of (ss ++ s ∷ [])) ≡ true
 substs_more [] s all one = and_from _ _ one refl
 substs_more (z ∷ ss) s all one = let parts = and_parts _ _ all in and_from _ _ parts.0 (substs_more ss s parts.1 one)
 
--- one more pattern, and one more item of a case
+-- ---- patterns and items of a `case`
+
+-- a row of patterns, or of items, in normal form stays so with one more at the end
 patterns_more : (ws : Row AWord) (w : AWord) → are_normal_patterns (patterns_of ws) ≡ true → is_normal_word w ≡ true →
     are_normal_patterns (patterns_of (ws ++ w ∷ [])) ≡ true
 patterns_more [] w all one = and_from _ _ one refl
@@ -193,7 +199,9 @@ cases_more : (cs : Row ACaseItem) (c : ACaseItem) → are_normal_cases (cases_of
 cases_more [] c all one = and_from _ _ one refl
 cases_more (d ∷ cs) c all one = let parts = and_parts _ _ all in and_from _ _ parts.0 (cases_more cs c parts.1 one)
 
--- comments before a list
+-- ---- comments before a list
+
+-- with comments before it a list holds a command as before, and it stays whole and in normal form
 remarks_hold : (cs : Row Span) (es : Entries) → holds_command es ≡ true → holds_command (after_remarks cs es) ≡ true
 remarks_hold [] es so = so
 remarks_hold (c ∷ cs) es so = remarks_hold cs es so

@@ -24,7 +24,7 @@ use Rattle.shgrammar.proofs.Spelling.{Passing, pass_give, pass_stop, pass_so, pa
 
 -- ---- rows that grow at their end
 
--- a row with one more in front, and one more at the end
+-- where a row is two rows, the one after the other, so it is with more in front of it and of the first
 pub between : (a x b c : Tokens) → x ≡ b ++ c → a ++ x ≡ (a ++ b) ++ c
 between a x b c is = ap (λ z. a ++ z) is ∙ sym (append_assoc a b c)
 
@@ -37,7 +37,7 @@ module _ (B : List ℕ) where
   items_last (j ∷ is) i = between (spell_item (shape_of_item B j)) _ (spell_items (shape_of_items B (items_of is)))
       (spell_item (shape_of_item B i)) (items_last is i)
 
-  -- the same of the commands of a pipeline, and of the pipelines of an and-or list
+  -- with one more at its end a row of commands, or of pipelines, spells what it spelled, and then that
   pipes_last : (ps : Row APipelinePart) (p : APipelinePart) →
       spell_pipes (shape_of_pipes B (pipeline_parts_of (ps ++ p ∷ [])))
       ≡ spell_pipes (shape_of_pipes B (pipeline_parts_of ps))
@@ -59,7 +59,7 @@ module _ (B : List ℕ) where
 
 -- ---- what a row passes
 
--- the tokens of what was read
+-- the tokens passed are those of what was read
 abbrev pub Spells : {X : Type 0} → (X → Tokens) → X → Tokens → Type 0
 Spells of x k = k ≡ of x
 
@@ -68,11 +68,11 @@ module _ (B : List ℕ) where
   abbrev pub spelled_items : ItemsSoFar → Tokens
   spelled_items i = spell_items (shape_of_items B (items_of i.items))
 
-  -- a compound command that spells these tokens
+  -- this is a compound command, and spells these tokens
   abbrev pub IsCompound : ACommand × Next → Tokens → Type 0
   IsCompound c k = (body : ACompound) × (c.0 ≡ compound body) × (k ≡ spell_command (shape_of_command B c.0))
 
-  -- one without redirections
+  -- this is a compound command without redirections, and spells these tokens
   abbrev pub IsBare : ACommand × Next → Tokens → Type 0
   IsBare c k = (form : AForm) × (mark : Span) × (c.0 ≡ compound (formed form mark no_item))
       × (k ≡ spell_command (shape_of_command B c.0))
@@ -97,7 +97,7 @@ module _ {B : List ℕ} {g : Given} {stands : g.text ≡ drop g.offset B} {inner
   item_word Prefix broken w = refl
   item_word Suffix broken w = refl
 
-  -- one more item that is a word
+  -- one more item that is a word passes what it adds
   pub pass_item : (i : ItemsSoFar) (position : Position) (s : State) →
       Passing g (an_item inner i position) (Grows g (spelled_items B) i) s
   unfolding an_item
@@ -107,7 +107,8 @@ module _ {B : List ℕ} {g : Given} {stands : g.text ≡ drop g.offset B} {inner
       (items_last B i.items (item (breaks i) (as_item position w))
       ∙ ap (λ z. spelled_items B i ++ z) (item_word position (breaks i) w ∙ sym so ∙ sym (append-nil k))))))
 
-  -- the number of a redirection, where it has one, its operator and its target
+  -- the number of a redirection passes what it spells, where it has one, and so do its
+  -- operator and its target
   pass_number : (n : Next) (s : State) →
       Passing g (a_number n) (λ x k. k ≡ spell_number (option_map (bare_at B) x.0)) s
   unfolding a_number
@@ -146,7 +147,8 @@ module _ {B : List ℕ} {g : Given} {stands : g.text ≡ drop g.offset B} {inner
       pass_pick g (takes_here o) (pass_on g (pass_see g) (λ d t. silent_document_by b p (is_strip o) d t))
       (pass_give g refl)
 
-  -- one more redirection, one more item of any kind, and a simple command
+  -- one more redirection passes what it adds, and so does one more item of any kind; a simple command passes
+  -- what it spells more than the items that it has so far
   pass_redirect : (i : ItemsSoFar) (broken : Bool) (position : Position) (n : Next) (s : State) →
       Passing g (one_redirect inner broken position i.items n) (Grows g (spelled_items B) i) s
   unfolding one_redirect
@@ -176,13 +178,13 @@ module _ {B : List ℕ} {g : Given} {stands : g.text ≡ drop g.offset B} {inner
 
   -- ---- pipelines
 
-  -- one more redirection after a compound command
+  -- one more redirection after a compound command passes what it adds
   pass_redirect_turn : (i : ItemsSoFar) (s : State) → Passing g (redirect_turn inner i) (Grows g (spelled_items B) i) s
   unfolding redirect_turn
   pass_redirect_turn i s = pass_pick g (begins_redirect i.next.token) (pass_redirect i i.next.broken Command i.next s)
       (pass_give g (grows_none g (spelled_items B) i))
 
-  -- a compound command with redirections spells it, and then them
+  -- with redirections a compound command spells what it spelled, and then them
   with_spelled : (c : ACommand) (form : AForm) (mark : Span) (is : ItemsOf Span Span) (k l : Tokens) →
       c ≡ compound (formed form mark no_item) → k ≡ spell_command (shape_of_command B c) →
       spell_items (shape_of_items B is) ≡ l
@@ -195,7 +197,7 @@ module _ {B : List ℕ} {g : Given} {stands : g.text ≡ drop g.offset B} {inner
         rw (one, first, ← three) (ap (λ z. z ++ spell_items (shape_of_items B is)) (append-nil _)),
       )
 
-  -- so a compound command spells, with the redirections that are read after it
+  -- a compound command spells what was passed, with the redirections that are read after it
   pass_with_redirect_list : (c : ACommand × Next) (k : Tokens) (s : State) → IsBare B c k →
       Passing g (with_redirect_list inner c) (λ d l. IsCompound B d (k ++ l)) s
   unfolding with_redirect_list
@@ -212,7 +214,7 @@ module _ {B : List ℕ} {g : Given} {stands : g.text ≡ drop g.offset B} {inner
   word_is : (w : AWord) → spell_word (shape_of_word B w) ≡ text_at B (word_span w) ∷ []
   word_is (word s ss) = refl
 
-  -- a command that begins with a word, and any command
+  -- a command that begins with a word passes what it spells, and so does any command
   pass_word_command : (s : State) →
       Passing g (a_word_command inner) (Spells (λ c. spell_command (shape_of_command B c.0))) s
   unfolding a_word_command
@@ -233,7 +235,7 @@ module _ {B : List ℕ} {g : Given} {stands : g.text ≡ drop g.offset B} {inner
       (pass_pick g (begins_simple n.token) (pass_simple (items_so_far [] Command n) s)
       (pass_so g (pass_compound_by n (opener_of n.token) s) (λ c k so. so.2)))
 
-  -- a `!`, where one stands
+  -- a `!` passes what it spells, where one stands
   pass_bang : (n : Next) (s : State) → Passing g (a_bang n) (Spells (λ x. spell_bang (shape_of_bang x.0))) s
   unfolding a_bang
   pass_bang n s =
@@ -241,7 +243,7 @@ module _ {B : List ℕ} {g : Given} {stands : g.text ≡ drop g.offset B} {inner
       (pass_then g (pass_text g) (λ x t k so. pass_on g (silent_next g Command t)
       (λ m u. pass_give g (append-nil k ∙ so)))) (pass_give g refl)
 
-  -- the commands after the first one so far, and a whole pipeline
+  -- one more command passes what it adds to those after the first so far, and a whole pipeline what it spells
   abbrev spelled_pipes : PipesSoFar → Tokens
   spelled_pipes p = spell_pipes (shape_of_pipes B (pipeline_parts_of p.parts))
 
@@ -270,7 +272,8 @@ module _ {B : List ℕ} {g : Given} {stands : g.text ≡ drop g.offset B} {inner
 
   -- ---- and-or lists
 
-  -- the pipelines after the first one so far, and a whole and-or list
+  -- one more pipeline passes what it adds to those after the first so far, and a whole and-or
+  -- list what it spells
   abbrev spelled_joined : AndOrSoFar → Tokens
   spelled_joined a = spell_and_or_parts (shape_of_and_or_parts B (and_or_parts_of a.parts))
 
@@ -307,7 +310,7 @@ module _ {B : List ℕ} {g : Given} {stands : g.text ≡ drop g.offset B} {inner
   told_is T p q Semicolon end = refl
   told_is T p q Ampersand end = refl
 
-  -- a separator, where one stands, and a whole entry
+  -- a separator passes what it spells, where one stands, and so does a whole entry
   pass_separator : (n : Next) (s : State) →
       Passing g (a_separator n) (Spells (λ x. spell_background (is_background x.0))) s
   unfolding a_separator

@@ -71,7 +71,7 @@ module _ (B : List ℕ) where
   first_spelled no_pattern k e = absurd cc
   first_spelled (more_patterns w ws) k e = ap (drop 1) e
 
-  -- one more item of a `case`
+  -- with one more item of a `case` its items spell what they spelled, and then that
   cases_last : (cs : Row ACaseItem) (c : ACaseItem) →
       spell_cases (shape_of_cases B (cases_of (cs ++ c ∷ []))) ≡ spell_cases (shape_of_cases B (cases_of cs))
       ++ spell_case (shape_of_case B c)
@@ -95,12 +95,12 @@ module _ {B : List ℕ} {g : Given} {stands : g.text ≡ drop g.offset B} {inner
   abbrev spelled_list : ListSoFar → Tokens
   spelled_list l = spelling (shape_of B (entries_of l.list.entries))
 
-  -- a step that goes on, or ends, by a test
+  -- a step that goes on, or ends, by a test passes what its list spells more than before
   step_grows : (l m : ListSoFar) (on : Bool) (k : Tokens) → spelled_list m ≡ spelled_list l ++ k →
       Grows g spelled_list l (step_if on m) k
   step_grows l m on k so = ap spelled_list (held_if on m) ∙ so
 
-  -- one more entry, and the same or none
+  -- one more entry passes what it adds, and so does one more or none
   pass_one_entry : (l : ListSoFar) (s : State) → Passing g (one_entry inner l) (Grows g spelled_list l) s
   unfolding one_entry
   pass_one_entry l s =
@@ -113,11 +113,11 @@ module _ {B : List ℕ} {g : Given} {stands : g.text ≡ drop g.offset B} {inner
   pass_entry_turn l s = pass_pick g (begins_pipeline l.next.token) (pass_one_entry l s)
       (pass_give g (grows_none g spelled_list l))
 
-  -- what a list has so far, and the tokens passed since l
+  -- a list spells what it spelled at l, and then the tokens passed since
   abbrev Since : ListSoFar → ListSoFar → Tokens → Type 0
   Since l m k = spelled_list m ≡ spelled_list l ++ k
 
-  -- the comment of a line, and all that stands on one
+  -- the comment of a line passes what it adds, and so does all that stands on one
   pass_remark : (l : ListSoFar) (s : State) → Passing g (a_remark l) (Since l) s
   unfolding a_remark
   pass_remark l s = pass_on g (silent_comment g l.next s) (λ x t. by_comment x t)
@@ -134,7 +134,7 @@ module _ {B : List ℕ} {g : Given} {stands : g.text ≡ drop g.offset B} {inner
       (λ m t k so. pass_so g (pass_remark m t)
       (λ x j is. is ∙ ap (λ z. z ++ j) so ∙ append_assoc (spelled_list l) k j))
 
-  -- one more line, and a list, which passes what it spells
+  -- one more line passes what it adds; a list passes what it spells
   pass_list_turn : (l : ListSoFar) (s : State) → Passing g (list_turn inner l) (Grows g spelled_list l) s
   unfolding list_turn
   pass_list_turn l s = pass_then g (pass_on_line l s)
@@ -165,7 +165,7 @@ module _ {B : List ℕ} {g : Given} {stands : g.text ≡ drop g.offset B} {inner
   pass_closing c n s = pass_pick g (is_closing c n.token) (pass_reserved_or_paren (closing_text c) _ _ s)
       (pass_unexpected g inner n s)
 
-  -- a list with its closer, and a condition with what is run by it
+  -- a list passes what it spells with its closer, and a condition with what is run by it
   pass_group : (c : Closing) (n : Next) (s : State) →
       Passing g (a_group inner c n) (Spells (λ x. spelling (shape_of B x.what) ++ (closing_text c ∷ []))) s
   unfolding a_group
@@ -183,7 +183,7 @@ module _ {B : List ℕ} {g : Given} {stands : g.text ≡ drop g.offset B} {inner
   abbrev spelled_branches : BranchesSoFar → Tokens
   spelled_branches b = spell_branches (shape_of_branches B (branches_of b.branches))
 
-  -- one more branch or none, and an `else` or none
+  -- one more branch passes what it adds, or none; an `else` passes what it spells, or none
   pass_elif : (b : BranchesSoFar) (s : State) → Passing g (elif_turn inner b) (Grows g spelled_branches b) s
   unfolding elif_turn
   pass_elif b s =
@@ -202,7 +202,8 @@ module _ {B : List ℕ} {g : Given} {stands : g.text ≡ drop g.offset B} {inner
       (λ x t k is. pass_last g (pass_list x.1 t) (λ l m so. rw (is, so) refl)))
       (pass_give g refl)
 
-  -- an `if`, and a loop
+  -- after its opener, an `if` passes the rest of what it spells; a loop passes what its
+  -- condition and body spell
   pass_if : (n : Next) (s : State) →
       Passing g (an_if inner n) (λ f k. codes "if" ∷ k ≡ spell_form (shape_of_form B f.what)) s
   unfolding an_if
@@ -229,7 +230,7 @@ module _ {B : List ℕ} {g : Given} {stands : g.text ≡ drop g.offset B} {inner
       (sym (append_assoc (spelling (shape_of B c.0)) (codes "do" ∷ spelling (shape_of B b.0))
       (codes "done" ∷ [])))))))
 
-  -- the name of a `for`
+  -- the name of a `for` passes the word that it is
   pass_for_name : (n : Next) (s : State) →
       Passing g (a_for_name inner n) (Spells (λ x. spell_word (shape_of_word B x.0))) s
   unfolding a_for_name
@@ -249,11 +250,12 @@ module _ {B : List ℕ} {g : Given} {stands : g.text ≡ drop g.offset B} {inner
       (λ x t. pass_on g (silent_linebreak g cs x.1 t)
       (λ l u. pass_pick g (x.0 || l.join.broken) (pass_give g refl) (pass_unexpected g inner l.next u)))
 
-  -- the words of a head
+  -- these tokens are what the words of a head spell
   abbrev HeadSpelled : Headed → Tokens → Type 0
   HeadSpelled h k = k ≡ spell_for_words (shape_of_for_words B h.words)
 
-  -- one more word or none, all words, what stands before `do`, and the whole `for`
+  -- one more word passes what it adds, or none; all words pass what they spell, and so do what stands before
+  -- `do` and, after its opener, the whole `for`
   pass_word_turn : (i : ItemsSoFar) (s : State) → Passing g (word_turn inner i) (Grows g (spelled_items B) i) s
   unfolding word_turn
   pass_word_turn i s = pass_pick g (is_word i.next.token) (pass_item fine i Suffix s)
@@ -290,7 +292,7 @@ module _ {B : List ℕ} {g : Given} {stands : g.text ≡ drop g.offset B} {inner
       (append_assoc (name ++ words) body (codes "done" ∷ [])
       ∙ append_assoc name words (body ++ (codes "done" ∷ [])))))))))
 
-  -- the word after `case`
+  -- the word after `case` passes the word that it is
   pass_case_word : (n : Next) (s : State) →
       Passing g (a_case_word inner n) (Spells (λ x. spell_word (shape_of_word B x.0))) s
   unfolding a_case_word
@@ -300,7 +302,7 @@ module _ {B : List ℕ} {g : Given} {stands : g.text ≡ drop g.offset B} {inner
       (λ w v k so. pass_on g (silent_next g Command v) (λ m z. pass_give g (append-nil k ∙ so))))
       (pass_unexpected g inner n s)
 
-  -- with a `|` before the first
+  -- what these patterns spell, with a `|` before the first too
   abbrev spelled_row : Row AWord → Tokens
   spelled_row ws = spell_patterns (shape_of_patterns B (patterns_of ws))
 
@@ -308,7 +310,8 @@ module _ {B : List ℕ} {g : Given} {stands : g.text ≡ drop g.offset B} {inner
   abbrev spelled_patterns : PatternsSoFar → Tokens
   spelled_patterns p = spelled_row p.patterns
 
-  -- one more pattern, the same after a `|`, the same or none, and all of an item
+  -- one more pattern passes what it adds but for its `|`; after a `|` it passes all of that, or nothing where
+  -- there is none; all of an item pass what they spell
   pass_pattern : (ws : Row AWord) (s : State) →
       Passing g (a_pattern inner ws) (λ p k. spelled_patterns p ≡ spelled_row ws ++ (codes "|" ∷ k)) s
   unfolding a_pattern
@@ -370,7 +373,8 @@ module _ {B : List ℕ} {g : Given} {stands : g.text ≡ drop g.offset B} {inner
   abbrev spelled_cases : CasesSoFar → Tokens
   spelled_cases c = spell_cases (shape_of_cases B (cases_of c.items))
 
-  -- one more item, the same or none, what stands before the items, and the whole `case`
+  -- one more item passes what it adds, or none; what stands before the items passes what it spells, and so
+  -- does, after its opener, the whole `case`
   pass_one_case : (c : CasesSoFar) (s : State) → Passing g (one_case inner c) (Grows g spelled_cases c) s
   unfolding one_case
   pass_one_case c s =
@@ -411,7 +415,7 @@ module _ {B : List ℕ} {g : Given} {stands : g.text ≡ drop g.offset B} {inner
       (ap (λ z. codes "case" ∷ z) (append_assoc word (codes "in" ∷ []) (spelled_cases c ++ (codes "esac" ∷ []))
       ∙ sym (append_assoc word (codes "in" ∷ spelled_cases c) (codes "esac" ∷ [])))))))
 
-  -- each form, and the compound command with its opener
+  -- after its opener each form passes the rest of what it spells, and with it the compound command passes all
   pass_form : (o : Opener) (n : Next) (s : State) →
       Passing g (a_form inner o n) (λ f k. opener_text o ∷ k ≡ spell_form (shape_of_form B f.what)) s
   pass_form openers.Brace n s = pass_last g (pass_group closings.Brace n s) (λ l k so. rw so refl)
@@ -440,7 +444,7 @@ module _ {B : List ℕ} {g : Given} {stands : g.text ≡ drop g.offset B} {inner
       ≡ spell_command (shape_of_command B (under_name name cs c))
   under_spelled name cs c body is = rw is refl
 
-  -- a function, from just after its name
+  -- from just after its name, a function passes the rest of what it spells
   pass_function : (name : Span) (s : State) →
       Passing g (a_function inner name) (λ c k. text_at B name ∷ k ≡ spell_command (shape_of_command B c.0)) s
   unfolding a_function
@@ -455,7 +459,7 @@ module _ {B : List ℕ} {g : Given} {stands : g.text ≡ drop g.offset B} {inner
 
   -- What ends a line is no token.
 
-  -- the newline, with the bodies after it, or the end
+  -- the newline with the bodies after it, or the end, passes nothing
   silent_end : (n : Next) (s : State) → Passing g (end_of_line inner n) (Silent g) s
   unfolding end_of_line nothing_waits
   silent_end n s = pass_pick g (is_newline_token n.token)
@@ -468,7 +472,7 @@ module _ {B : List ℕ} {g : Given} {stands : g.text ≡ drop g.offset B} {inner
       none_waiting (Some b) t = pass_stop g
       none_waiting None t = pass_give g refl
 
-  -- a line, without the bodies of its here-documents
+  -- a line passes what its entries spell, without the bodies of its here-documents
   pass_open_line : (blank : Bool) (s : State) →
       Passing g (an_open_line inner blank) (Spells (λ x. spelling (shape_of B (entries_of x.0)))) s
   unfolding an_open_line
@@ -482,14 +486,14 @@ module _ {B : List ℕ} {g : Given} {stands : g.text ≡ drop g.offset B} {inner
   bodies_spelled bs es = ap (λ (l : Entries). spelling (shape_of B l)) (row_filled bs es)
       ∙ ap spelling (shape_filled B bs (entries_of es)) ∙ filled_spelling _ (shape_of B (entries_of es))
 
-  -- a line with these bodies
+  -- a line passes what its entries spell with these bodies
   pass_line : (blank : Bool) (s : State) →
       Passing g (a_line inner blank) (Spells (λ x. spelling (shape_of B (entries_of x.0)))) s
   unfolding a_line
   pass_line blank s = pass_last g (pass_in_level g (pass_open_line blank (own_level s)))
       (λ l k so. so ∙ sym (bodies_spelled l.1 l.0.0))
 
--- by how many more may be opened
+-- what may be opened passes the tokens that its shape spells, by how many more may be
 pass_level : (B : List ℕ) (g : Given) (stands : g.text ≡ drop g.offset B) (room : ℕ) → Fine B g stands (level room)
 unfolding level
 pass_level B g stands zero = record {
@@ -515,7 +519,7 @@ module _ (edition : Edition) (B : List ℕ) where
       (pass_line (pass_level B g refl most_open) blank (standing 0)).passing
       (Ok ((es, newline), t)) k part
 
-  -- so do the lines from p on, after what was read before them
+  -- the lines from p on pass what their entries spell, after what was read before them
   lines_spelled : (so : LinesSoFar) (p : ℕ) (s : AScript) (k : Row Spelled) → Lines edition B so p s k → s.fault ≡ None
       →
       spelling (shape_of B s.entries) ≡ spelling (shape_of B (entries_of so.entries)) ++ k

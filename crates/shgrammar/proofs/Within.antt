@@ -90,16 +90,16 @@ module _ (keep : Keep) (g : Given) (limit : ℕ) where
       ⊎_elim (λ lt. tells_so keep g (no_form_goes_back r keep g s) (λ x t on. λ b. absurd (omega (arith, lt, on, b))))
       (λ ge. so (omega (arith, ge))) (cases_lt limit (g.offset + s.at))
 
-  -- what is given, if P holds of it
+  -- P holds of what a form reads that gives a value of which P holds
   gives : {X : Type 0} {P : X → Type 0} {x : X} {s : State} → P x → R (give x) P s
   gives so = tells_give keep g (λ b. so)
 
-  -- one form and then another
+  -- where P holds of what a form reads, and Q of what the next one reads after that, Q holds of both in a row
   first : {X Y : Type 0} {P : X → Type 0} {Q : Y → Type 0} {r : Form X} {q : X → Form Y} {s : State} → R r P s →
       ((x : X) (t : State) → P x → R (q x) Q t) → R (both r q) Q s
   first one rest = tells_then keep g one (λ x t so. unless (λ b. rest x t (so b)))
 
-  -- what a form gives may be anything
+  -- Q holds of two forms in a row, where it holds of the second whatever the first gives
   after : {X Y : Type 0} {Q : Y → Type 0} {r : Form X} {q : X → Form Y} {s : State} →
       ((x : X) (t : State) → R (q x) Q t) → R (both r q) Q s
   after {r = r} {s = s} rest = tells_then keep g {r = r} {s = s} (no_form_goes_back r keep g s) (λ x t on. rest x t)
@@ -110,11 +110,11 @@ module _ (keep : Keep) (g : Given) (limit : ℕ) where
   pushed_all P true xs x all one = All-push P xs x all one
   pushed_all P false xs x all one = all
 
-  -- one more element
+  -- a row of which P holds throughout is so still with one more element of which P holds
   pushes : {A : Type 0} (P : A → Type 0) {xs : Row A} {x : A} {s : State} → All P xs → P x → R (push xs x) (All P) s
   pushes P {xs = xs} {x = x} all one = record { told = λ b. pushed_all P (grows keep) xs x all one }
 
-  -- one token
+  -- where P holds of what a form reads, it holds of that as a token, and the token's span is within the limit
   tokens : {X : Type 0} {P : X → Type 0} {how : Telling} {r : Form X} {s : State} → R r P s →
       R (token how r) (λ x. P x.0 × IsSpanWithin limit x.1) s
   tokens {P = P} {r = r} {s = s} one =
@@ -132,7 +132,7 @@ module _ (keep : Keep) (g : Given) (limit : ℕ) where
   turned P (again a) t so = so
   turned P (done a) t so = so
 
-  -- a repetition
+  -- P holds of what a repetition reads, where it holds at its start and each turn keeps it
   repeats : {A : Type 0} (P : A → Type 0) (turn : A → Form (Step A)) →
       ((a : A) (s : State) → P a → R (turn a) (Stepped P) s) → (a : A) (s : State) → P a → R (many turn a) P s
   repeats P turn each a s so =
@@ -140,7 +140,7 @@ module _ (keep : Keep) (g : Given) (limit : ℕ) where
       (λ a t there. tells_so keep g (unless {P = Stepped P} {r = turn a} {s = t} (λ b. each a t (there b)))
       (turned P)) a s (λ b. so)
 
-  -- with its bytes, and as a level of its own
+  -- P holds of what a form reads with its bytes, and as a level of its own, where it holds of the form
   with_its_bytes : {X : Type 0} {P : X → Type 0} {r : Form X} {s : State} → R r P s → R (with_bytes r) (λ x. P x.0) s
   with_its_bytes {P = P} one = tells_with_bytes keep g {P = λ a t. Before t → P a} {Q = λ x t. Before t → P x.0} one
       (λ a t so. so)
@@ -148,7 +148,7 @@ module _ (keep : Keep) (g : Given) (limit : ℕ) where
   in_level : {X : Type 0} {P : X → Type 0} {r : Form X} {s : State} → R r P (own_level s) → R (a_level r) (λ x. P x.0) s
   in_level {P = P} one = tells_level keep g {P = λ a t. Before t → P a} {Q = λ x t. Before t → P x.0} one (λ a t so. so)
 
-  -- one form, or the other
+  -- P holds of what one form or the other reads, where it holds of both
   picks : {X : Type 0} {P : X → Type 0} (b : Bool) {r q : Form X} {s : State} → R r P s → R q P s → R (pick b r q) P s
   picks true one two = one
   picks false one two = two
@@ -160,7 +160,7 @@ module _ (keep : Keep) (g : Given) (limit : ℕ) where
   abbrev SubstsFit : WordSoFar → Type 0
   SubstsFit h = All (SubstFits limit) h.substs
 
-  -- a command, but for the redirections of a compound one
+  -- a command fits, but for the redirections of a compound one
   abbrev BareFits : ACommand → Type 0
   BareFits (simple items) = CommandFits limit (simple items)
   BareFits (compound (formed form span redirects)) = IsSpanWithin limit span × Nodes limit (form_nodes form)
@@ -177,12 +177,12 @@ module _ (keep : Keep) (g : Given) (limit : ℕ) where
         R (inner.function name) (λ c. CommandFits limit c.0) s
 
   module _ (inner : Inner) (fine : Fine inner) where
-    -- a construct in a word
+    -- where the substitutions so far fit, so do those with a construct that opens in a word
     opened_fits : (mode : Mode) (b : ℕ) (h : WordSoFar) (s : State) → SubstsFit h →
         R (opened inner mode b h) (Stepped SubstsFit) s
     opened_fits mode b h s so = first (fine.construct mode b h.substs s so) (λ zs t good. gives good)
 
-    -- a piece of a word, by its kind
+    -- where the substitutions so far fit, so do those with one more piece, by its kind
     piece_fits_by : (mode : Mode) (b : ℕ) (h : WordSoFar) (piece : Piece) (s : State) → SubstsFit h →
         R (piece_row inner mode b h piece) (Stepped SubstsFit) s
     piece_fits_by mode b h pieces.Closer s so = after (λ x t. gives so)
@@ -215,7 +215,7 @@ module _ (keep : Keep) (g : Given) (limit : ℕ) where
     unfolding a_piece
     piece_fits mode b h s so = after (λ piece t. piece_fits_by mode b h piece t so)
 
-    -- all that a construct or a word holds, and a word
+    -- the substitutions fit in all that a construct or a word holds, and a word fits
     contents_fit : (mode : Mode) (b : ℕ) (ss : Row ASubst) (s : State) → All (SubstFits limit) ss →
         R (contents inner mode b ss) (All (SubstFits limit)) s
     unfolding contents
@@ -232,6 +232,7 @@ module _ (keep : Keep) (g : Given) (limit : ℕ) where
 
     -- Each row of a command: where what it has so far fits within the limit, so does what it gives.
 
+    -- the items so far fit
     abbrev ItemsFit : ItemsSoFar → Type 0
     ItemsFit i = All (ItemFits limit) i.items
 
@@ -242,7 +243,7 @@ module _ (keep : Keep) (g : Given) (limit : ℕ) where
     item_fits Prefix broken w so = fits_assign limit broken w so
     item_fits Suffix broken w so = fits_argument limit broken w so
 
-    -- one more item that is a word
+    -- where the items so far fit, so do those with one more that is a word
     one_item_fits : (i : ItemsSoFar) (position : Position) (s : State) → ItemsFit i →
         R (an_item inner i position) (Stepped ItemsFit) s
     unfolding an_item
@@ -254,7 +255,7 @@ module _ (keep : Keep) (g : Given) (limit : ℕ) where
     stopped : {X : Type 0} {P : X → Type 0} (n : Next) {s : State} → R (unexpected {X = X} inner n) P s
     stopped n = after (λ w t. record { told = tt })
 
-    -- the number of a redirection, where it has one, its operator and its target
+    -- the number of a redirection fits, where it has one, and so do its operator and its target
     abbrev NumberFits : Option Span × Next → Type 0
     NumberFits x = MatchOption x.0 (Unit {0}) (IsSpanWithin limit)
 
@@ -282,7 +283,8 @@ module _ (keep : Keep) (g : Given) (limit : ℕ) where
     unfolding a_target
     target_fits s = after (λ n t. picks (is_word n.token) (with_its_bytes (word_fits t)) (stopped n))
 
-    -- one more redirection with all its parts, one more item of any kind, and a simple command
+    -- where the items so far fit, so do those with one more redirection, or one more item of any kind; and a
+    -- simple command fits
     redirect_fits : (broken : Bool) (position : Position) (is : Row AnItem) (n : Next) (s : State) →
         All (ItemFits limit) is → R (one_redirect inner broken position is n) (Stepped ItemsFit) s
     unfolding one_redirect
@@ -308,7 +310,7 @@ module _ (keep : Keep) (g : Given) (limit : ℕ) where
     simple_fits i s so = first (repeats ItemsFit (item_turn inner) item_turn_fits i s so)
         (λ is t all. gives (fits_simple limit is.items all))
 
-    -- a comment, where one stands, and the comments so far with it
+    -- a comment fits, where one stands, and so do the comments so far with it
     abbrev OwnComment : Option Span × Next → Type 0
     OwnComment x = MatchOption x.0 (Unit {0}) (CommentFits limit)
 
@@ -331,7 +333,7 @@ module _ (keep : Keep) (g : Given) (limit : ℕ) where
     with_fits cs (Some c) s all one = pushes (CommentFits limit) all one
     with_fits cs None s all one = gives all
 
-    -- the comments of a join
+    -- the comments of a join fit
     abbrev JoinFits : JoinSoFar → Type 0
     JoinFits j = All (CommentFits limit) j.join.comments
 
@@ -346,7 +348,7 @@ module _ (keep : Keep) (g : Given) (limit : ℕ) where
     join_fits broken s = after (λ n t. first
         (repeats JoinFits join_turn join_turn_fits _ t (All-nil (CommentFits limit))) (λ j u all. gives all))
 
-    -- a compound command with the redirections after it
+    -- a compound command fits with the redirections after it
     redirect_turn_fits : (i : ItemsSoFar) (s : State) → ItemsFit i → R (redirect_turn inner i) (Stepped ItemsFit) s
     unfolding redirect_turn
     redirect_turn_fits i s so = picks (begins_redirect i.next.token)
@@ -370,7 +372,8 @@ module _ (keep : Keep) (g : Given) (limit : ℕ) where
     compound_fits_by n (Some o) s = first (fine.compound o s) with_redirect_list_fits
     compound_fits_by n None s = stopped n
 
-    -- a command that begins with a word, and any command
+    -- the span of a word that fits is within the limit; a command that begins with a word fits, and so does
+    -- any command
     place_fits : (w : AWord) → WordFits limit w → IsSpanWithin limit (word_span w)
     place_fits (word s ss) so = so.0
 
@@ -389,7 +392,7 @@ module _ (keep : Keep) (g : Given) (limit : ℕ) where
         (picks (begins_simple n.token) (simple_fits (items_so_far [] Command n) s (All-nil (ItemFits limit)))
         (compound_fits_by n (opener_of n.token) s))
 
-    -- the commands of a pipeline so far
+    -- the commands of a pipeline so far fit, with their joins
     abbrev PipesFit : PipesSoFar → Type 0
     PipesFit p = All (PipeFits limit) p.parts
 
@@ -404,7 +407,7 @@ module _ (keep : Keep) (g : Given) (limit : ℕ) where
     unfolding pipe_turn
     pipe_turn_fits p s so = picks (is_pipe p.next.token) (one_command_fits p s so) (gives so)
 
-    -- a `!`, where one stands, and a whole pipeline
+    -- a `!` fits, where one stands, and so does a whole pipeline
     bang_fits : (n : Next) (s : State) → R (a_bang n) (λ x. MatchOption x.0 (Unit {0}) (IsSpanWithin limit)) s
     unfolding a_bang
     bang_fits n s = picks (is_bang n.token)
@@ -418,7 +421,7 @@ module _ (keep : Keep) (g : Given) (limit : ℕ) where
         (λ c u two. first (repeats PipesFit (pipe_turn inner) pipe_turn_fits (pipes_so_far [] c.1) u
         (All-nil (PipeFits limit))) (λ p v all. gives (fits_pipeline limit b.0 c.0 p.parts one two all))))
 
-    -- the pipelines of an and-or list so far
+    -- the pipelines of an and-or list so far fit, with their joins
     abbrev PartsFit : AndOrSoFar → Type 0
     PartsFit a = All (PartFits limit) a.parts
 
@@ -439,7 +442,7 @@ module _ (keep : Keep) (g : Given) (limit : ℕ) where
     unfolding and_or_turn
     and_or_turn_fits a s so = joined_fits_by a (and_or_operator_of a.next.token) s so
 
-    -- a whole and-or list
+    -- a whole and-or list fits
     and_or_fits : (n : Next) (s : State) → R (an_and_or inner n) (λ a. Nodes limit (and_or_nodes a.0)) s
     unfolding an_and_or
     and_or_fits n s =
@@ -447,11 +450,11 @@ module _ (keep : Keep) (g : Given) (limit : ℕ) where
         (repeats PartsFit (and_or_turn inner) and_or_turn_fits (and_or_so_far [] p.1) t (All-nil (PartFits limit)))
         (λ a u all. gives (fits_and_or limit p.0 a.parts one all)))
 
-    -- the offset after a separator
+    -- the offset after a separator is within the limit
     abbrev PartedFits : Option ℕ → Type 0
     PartedFits parted = MatchOption parted (Unit {0}) (λ p. p ≤ limit)
 
-    -- a separator, where one stands, and an entry with the offset after it
+    -- the offset after a separator fits, where one stands, and an entry fits with it
     separator_fits_by : (n : Next) (c : Option Separator) (s : State) →
         R (separator_by n c) (λ x. PartedFits (past_separator x.0)) s
     separator_fits_by n (Some c) s =
@@ -474,10 +477,11 @@ module _ (keep : Keep) (g : Given) (limit : ℕ) where
 
     -- Each row of a list: its entries fit within the limit, and so does the offset after a last separator.
 
+    -- the entries of a list so far fit, and so does the offset after the last separator
     abbrev ListFits : ListSoFar → Type 0
     ListFits l = All (EntryFits limit) l.list.entries × PartedFits l.list.parted
 
-    -- one more entry, and a comment that stands for itself
+    -- a list fits with one more entry, and with a comment that stands for itself
     one_entry_fits : (l : ListSoFar) (s : State) → ListFits l → R (one_entry inner l) (Stepped ListFits) s
     unfolding one_entry
     one_entry_fits l s so = first (entry_fits _ l.next s)
@@ -495,7 +499,7 @@ module _ (keep : Keep) (g : Given) (limit : ℕ) where
         (λ es t all. gives (all, so.1))
     remark_fits_by l (None, n) s so one = gives so
 
-    -- all of one line, one more line of a list, and a whole list
+    -- a list fits with all of one line, and with one more line; and a whole list fits
     on_line_fits : (l : ListSoFar) (s : State) → ListFits l → R (on_line inner l) ListFits s
     unfolding on_line a_remark
     on_line_fits l s so =
@@ -513,14 +517,14 @@ module _ (keep : Keep) (g : Given) (limit : ℕ) where
         (All-nil (EntryFits limit), tt))
         (λ l t all. picks l.list.commands (gives (fits_entries limit l.list.entries all.0)) (stopped l.next))
 
-    -- a line of a script, before the bodies are put into its entries
+    -- the entries of a line of a script fit, before the bodies are put into them
     open_line_fits : (blank : Bool) (s : State) → R (an_open_line inner blank) (λ x. All (EntryFits limit) x.0) s
     unfolding an_open_line
     open_line_fits blank s = after
         (λ n t. first (on_line_fits (list_so_far (none_listed blank) n) t (All-nil (EntryFits limit), tt))
         (λ l u all. after (λ newline v. gives all.0)))
 
-    -- the entries of a line, with the bodies of its here-documents
+    -- the entries of a line fit with the bodies of its here-documents
     pub line_fits : (blank : Bool) (s : State) → R (a_line inner blank) (λ x. NodesWithin limit (entries_of x.0)) s
     unfolding a_line
     line_fits blank s =
@@ -532,7 +536,7 @@ module _ (keep : Keep) (g : Given) (limit : ℕ) where
 
     -- Each row of a compound command: what it holds fits within the limit, and so does what closes it.
 
-    -- a reserved word or a round bracket, and what has to stand here
+    -- a reserved word or a round bracket fits, and so does what has to stand here
     reserved_or_paren_fits : (text : Spelled) (paren : Bool) (position : Position) (s : State) →
         R (reserved_or_paren text paren position) (λ x. IsSpanWithin limit x.0) s
     unfolding reserved_or_paren
@@ -543,7 +547,7 @@ module _ (keep : Keep) (g : Given) (limit : ℕ) where
     unfolding closing
     closing_fits c n s = picks (is_closing c n.token) (reserved_or_paren_fits _ (is_close_paren c) _ s) (stopped n)
 
-    -- a condition and what it runs, and the branches after an `elif` so far
+    -- a condition fits with what it runs, and so do the branches so far, each after its `elif`
     branch_fits : (n : Next) (s : State) → R (a_branch inner n) (λ x. BranchFits limit x.0) s
     unfolding a_branch
     branch_fits n s =
@@ -562,7 +566,7 @@ module _ (keep : Keep) (g : Given) (limit : ℕ) where
         (λ x u one. first (pushes (BranchFits limit) so one) (λ bs v all. gives all))))
         (gives so)
 
-    -- what stands after `else`
+    -- what stands after `else` fits
     else_fits : (n : Next) (s : State) → R (an_else inner n) (λ x. Nodes limit (else_nodes x.0)) s
     unfolding an_else
     else_fits n s =
@@ -570,7 +574,7 @@ module _ (keep : Keep) (g : Given) (limit : ℕ) where
         (after (λ k t. first (list_fits k.1 t) (λ l u so. gives so)))
         (gives (All-nil _))
 
-    -- an `if`, a loop and a list, each with what closes it
+    -- an `if`, a loop and a list fit, each with what closes it
     abbrev FormFits : Closed AForm → Type 0
     FormFits f = Nodes limit (form_nodes f.what) × IsSpanWithin limit f.closer
 
@@ -603,7 +607,7 @@ module _ (keep : Keep) (g : Given) (limit : ℕ) where
     unfolding a_group
     group_fits c n s = first (list_fits n s) (λ l t so. first (closing_fits c l.1 t) (λ k u last. gives (so, last)))
 
-    -- the name of a `for`
+    -- the name of a `for` fits
     for_name_fits : (n : Next) (s : State) → R (a_for_name inner n) (λ x. WordFits limit x.0) s
     unfolding a_for_name
     for_name_fits n s =
@@ -611,7 +615,8 @@ module _ (keep : Keep) (g : Given) (limit : ℕ) where
         (λ p t. after (λ good u. first (word_fits u)
         (λ w v one. picks good (after (λ m z. gives one)) (record { told = tt }))))) (stopped n)
 
-    -- newlines and comments after these comments, and the same where a `;` or a newline is asked for
+    -- where these comments fit, so do those among newlines after them, also where a `;` or a
+    -- newline is asked for
     linebreak_fits : (cs : Row Span) (n : Next) (s : State) → All (CommentFits limit) cs →
         R (a_linebreak cs n) JoinFits s
     unfolding a_linebreak
@@ -623,7 +628,7 @@ module _ (keep : Keep) (g : Given) (limit : ℕ) where
     sequential_sep_fits cs n s all = after (λ x t. first (linebreak_fits cs x.1 t all)
         (λ l u so. picks _ (gives so) (stopped l.next)))
 
-    -- what stands between the name of a `for` and its `do`
+    -- what stands between the name of a `for` and its `do` fits: its words and its comments
     abbrev HeadFits : Headed → Type 0
     HeadFits h = Nodes limit (for_words_nodes h.words) × All (CommentFits limit) h.comments
 
@@ -645,7 +650,7 @@ module _ (keep : Keep) (g : Given) (limit : ℕ) where
         after (λ x t. first (linebreak_fits [] x.1 t (All-nil (CommentFits limit)))
         (λ l u so. picks _ (for_words_fit l.join.comments u so) (gives (All-nil _, so))))
 
-    -- comments before a list, as its first entries, and a whole `for`
+    -- a list fits with comments before it, as its first entries, and a whole `for` fits
     remarks_fit : (cs : Row Span) (es : Entries) → All (CommentFits limit) cs → NodesWithin limit es →
         NodesWithin limit (after_remarks cs es)
     remarks_fit [] es all so = so
@@ -667,13 +672,13 @@ module _ (keep : Keep) (g : Given) (limit : ℕ) where
           body.1,
         )))))
 
-    -- the word of a `case`
+    -- the word of a `case` fits
     case_word_fits : (n : Next) (s : State) → R (a_case_word inner n) (λ x. WordFits limit x.0) s
     unfolding a_case_word
     case_word_fits n s = picks (begins_word n.token) (first (word_fits s) (λ w t one. after (λ m u. gives one)))
         (stopped n)
 
-    -- the patterns of an item so far, and all of them
+    -- the patterns of an item so far fit, and so do all of them
     abbrev PatternsFit : PatternsSoFar → Type 0
     PatternsFit p = All (WordFits limit) p.patterns
 
@@ -701,17 +706,17 @@ module _ (keep : Keep) (g : Given) (limit : ℕ) where
         (first (pattern_fits [] s (All-nil (WordFits limit)))
         (λ p t so. repeats PatternsFit (pattern_turn inner) pattern_turn_fits p t so)) (stopped n)
 
-    -- the list of an item, which may hold no command
+    -- the list of an item fits, which may hold no command
     body_fits : (n : Next) (s : State) → R (a_body inner n) ListFits s
     unfolding a_body
     body_fits n s = repeats ListFits (list_turn inner) list_turn_fits (list_so_far (none_listed false) n) s
         (All-nil (EntryFits limit), tt)
 
-    -- the offset that is seen from here
+    -- the offset that is seen from here is within the limit
     here_fits : (s : State) → R (see here) (λ p. p ≤ limit) s
     here_fits s = record { told = λ b. b }
 
-    -- the offset after the last token of that list
+    -- the offset after the last token of an item's list is within the limit
     parted_or : (parted : Option ℕ) (other : ℕ) → PartedFits parted → other ≤ limit → unwrap_or parted other ≤ limit
     parted_or (Some p) other so low = so
     parted_or None other so low = low
@@ -720,7 +725,7 @@ module _ (keep : Keep) (g : Given) (limit : ℕ) where
         body_end before l ≤ limit
     body_end_fits before l low all part = parted_or l.parted _ part (fits_end limit before l.entries low all)
 
-    -- where an item ends, and the comments after it
+    -- the offset where an item ends is within the limit, and the comments after it fit
     abbrev ItemEndFits : ItemEnd → Type 0
     ItemEndFits e = (e.at ≤ limit) × All (CommentFits limit) e.comments
 
@@ -737,11 +742,11 @@ module _ (keep : Keep) (g : Given) (limit : ℕ) where
         picks (ends_item n.token) (ender_fits (falls_through n.token) s)
         (picks (is_closing closings.Esac n.token) (gives (low, All-nil (CommentFits limit))) (stopped n))
 
-    -- the items so far, and the comments after them
+    -- the items so far fit, and so do the comments after them
     abbrev CasesFit : CasesSoFar → Type 0
     CasesFit c = All (CaseFits limit) c.items × All (CommentFits limit) c.comments
 
-    -- one more item of a `case`
+    -- where the items of a `case` so far fit, so do those with one more
     one_case_fits : (c : CasesSoFar) (s : State) → CasesFit c → R (one_case inner c) (Stepped CasesFit) s
     unfolding one_case
     one_case_fits c s so =
@@ -759,7 +764,7 @@ module _ (keep : Keep) (g : Given) (limit : ℕ) where
     unfolding case_turn
     case_turn_fits c s so = picks (is_closing closings.Esac c.next.token) (gives so) (one_case_fits c s so)
 
-    -- what stands between `case` and its items, and a whole `case`
+    -- what stands between `case` and its items fits, and so does a whole `case`
     case_head_fits : (n : Next) (s : State) →
         R (a_case_head inner n) (λ h. WordFits limit h.0 × All (CommentFits limit) h.1) s
     unfolding a_case_head
@@ -776,7 +781,7 @@ module _ (keep : Keep) (g : Given) (limit : ℕ) where
         (λ c u all. first (closing_fits closings.Esac c.next u)
         (λ e v last. gives (fits_case_in limit h.0 c.items c.comments one.0 all.0 all.1, last))))
 
-    -- a compound command after its opener, by what that is
+    -- a compound command fits from just after its opener on, whatever opens it
     form_fits : (o : Opener) (n : Next) (s : State) → R (a_form inner o n) FormFits s
     form_fits openers.Brace n s = first (group_fits closings.Brace n s) (λ l t so. gives so)
     form_fits openers.Paren n s = first (group_fits closings.Paren n s) (λ l t so. gives so)
@@ -786,12 +791,12 @@ module _ (keep : Keep) (g : Given) (limit : ℕ) where
     form_fits openers.For n s = for_fits n s
     form_fits openers.Case n s = case_fits n s
 
-    -- a command held apart, or one that holds nothing
+    -- a command held apart fits, and so does one that holds nothing
     apart_fits : (cs : Row ACommand) → All BareFits cs → BareFits (held_apart cs)
     apart_fits [] all = fits_simple limit [] (All-nil (ItemFits limit))
     apart_fits (c ∷ cs) all = All-head BareFits c cs all
 
-    -- a compound command from its opener on
+    -- a compound command fits from its opener on
     compound_fits : (o : Opener) (s : State) → R (a_compound inner o) (λ c. BareFits c.0) s
     unfolding a_compound
     compound_fits o s = first (reserved_or_paren_fits _ (is_open_paren o) _ s) (λ x t begin. first (form_fits o x.1 t)
@@ -846,7 +851,8 @@ module _ (keep : Keep) (g : Given) (limit : ℕ) where
         (λ l v all. first (compound_fits_by l.next (opener_of l.next.token) v)
         (λ b w so. gives (under_fits name l.join.comments b.0 one all so)))))
 
--- what stands in a substitution is read by what is kept there
+-- what may be opened fits, by how many more may be; what stands in a substitution is read by
+-- what is kept there
 pub level_fits : (keep : Keep) (g : Given) (limit room : ℕ) → Fine keep g limit (level room)
 unfolding level a_substitution
 level_fits keep g limit zero = record {
@@ -867,7 +873,7 @@ level_fits keep g limit (suc room) =
 
 -- ---- lines
 
--- the entries of a line, with its tree or without
+-- the entries of a line that was read fit within each limit that it does not pass, with its tree or without
 pub line_within : (edition : Edition) →
     (T : List ℕ) (o : ℕ) (keep : Keep) (blank newline : Bool) (es : Row AnEntry) (t : State) →
     does (the_line blank) keep (given edition T o) (standing 0) ≡ Ok ((es, newline), t)
@@ -879,14 +885,14 @@ line_within edition T o keep blank newline es t is limit le =
     is told
     le
 
--- and so do those in what the line is
+-- where the entries of a line fit, so do those in what the line is
 kind_within : (limit : ℕ) (es : Row AnEntry) (newline : Bool) → NodesWithin limit (entries_of es) →
     EntryNodesWithin limit (kind_of es newline)
 kind_within limit [] true so = tt
 kind_within limit [] false so = tt
 kind_within limit (e ∷ es) newline so = so
 
--- those of a line, as far as the line goes
+-- the entries of a line name no offset past the place where the line ends
 pub entries_within : (edition : Edition) → (T : List ℕ) (l : ALine) → IsLine edition T l →
     EntryNodesWithin l.next l.kind
 entries_within edition T l (line_read es newline t k part) =
@@ -896,7 +902,7 @@ entries_within edition T l (line_stops f k part) = tt
 
 -- ---- scripts
 
--- one more line
+-- where the entries so far fit, and those of one more line, so do all of them
 pub more_within : (limit : ℕ) (so then : LinesSoFar) (es : Row AnEntry) → then ≡ with_line so es →
     NodesWithin limit (entries_of so.entries) → NodesWithin limit (entries_of es)
     → NodesWithin limit (entries_of then.entries)

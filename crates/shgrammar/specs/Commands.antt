@@ -125,11 +125,12 @@ and_or_operator_of _ = None
 
 -- ---- comments, and what is unexpected
 
--- the comment here, where one stands, and the token after it
+-- the comment that was seen here is passed, and the token after it told; where none was seen the token stays
 abbrev pub comment_by : Next → Option Span → Form (Option Span × Next)
 comment_by n (Some c) = move a_comment_on >> next_token Command >>= λ m. give (Some c, m)
 comment_by n None = give (None, n)
 
+-- the comment here, where one stands (XCU 2.3, rule 9), and the token after it
 unfoldable pub a_comment : Next → Form (Option Span × Next)
 a_comment n = see the_comment >>= comment_by n
 
@@ -147,6 +148,7 @@ what_is_wrong inner n =
     (see here >>= λ p. a_word inner >> give (Unexpected, p))
     (a_comment n >>= λ c. see here >>= λ p. see a_document_waits >>= λ w. give (wrong_with (is_end c.1.token) p w))
 
+-- where no row takes this token the reading stops, with what is wrong
 abbrev pub unexpected : {X : Type 0} → Inner → Next → Form X
 unexpected inner n = what_is_wrong inner n >>= λ w. stop w.0 w.1
 
@@ -256,6 +258,7 @@ after_redirect _ = Prefix
 
 -- ---- simple commands (XCU 2.9.1)
 
+-- one more item, by the position after the word that begins here; where no word does, a redirection or none
 abbrev pub item_by : Inner → ItemsSoFar → Option Position → Form (Step ItemsSoFar)
 item_by inner i (Some position) = an_item inner i position
 item_by inner i None = pick (begins_redirect i.next.token)
@@ -287,6 +290,7 @@ abbrev pub none_waits : Option ℕ → Form (Unit {0})
 none_waits (Some b) = stop UnclosedHere b
 none_waits None = give tt
 
+-- where a document waits here, its operator is the fault; else nothing is read
 unfoldable pub nothing_waits : Form (Unit {0})
 nothing_waits = see a_document_waits >>= none_waits
 
@@ -303,6 +307,7 @@ join_so_far j n = record { join = j; next = n }
 abbrev pub a_join_of : Bool → Row Span → AJoin
 a_join_of broken cs = record { broken = broken; comments = cs }
 
+-- these comments, with one more after them where there is one
 abbrev pub with_comment : Row Span → Option Span → Form (Row Span)
 with_comment cs (Some c) = push cs c
 with_comment cs None = give cs
@@ -323,7 +328,7 @@ a_join broken = next_token Command >>= λ n.
     many join_turn (join_so_far (a_join_of (broken || n.broken) []) n) >>= λ j.
     give (j.join, j.next)
 
--- ---- pipelines (XCU 2.9.2)
+-- ---- commands of any kind, with the redirections after compound ones (XCU 2.9)
 
 -- one more redirection after a compound command, or none; the first one may be broken too
 unfoldable pub redirect_turn : Inner → ItemsSoFar → Form (Step ItemsSoFar)
@@ -360,6 +365,8 @@ a_command inner n =
     (pick (begins_simple n.token) (a_simple inner (items_so_far [] Command n))
     (compound_by inner n (opener_of n.token)))
 
+-- ---- pipelines (XCU 2.9.2)
+
 -- the `!` of a pipeline, where the token is one, and the token after it
 unfoldable pub a_bang : Next → Form (Option Span × Next)
 a_bang n = pick (is_bang n.token)
@@ -385,6 +392,7 @@ one_command inner p =
 unfoldable pub pipe_turn : Inner → PipesSoFar → Form (Step PipesSoFar)
 pipe_turn inner p = pick (is_pipe p.next.token) (one_command inner p) (give (done p))
 
+-- a `!` or none, a command, and each one after a `|`; and the token after them
 unfoldable pub a_pipeline : Inner → Next → Form (APipeline × Next)
 a_pipeline inner n =
     a_bang n >>= λ b.
@@ -409,6 +417,7 @@ one_pipeline inner a o =
     a_pipeline inner j.1 >>= λ p.
     push a.parts (record { operator = o; join = j.0; pipeline = p.0 }) >>= λ ps. give (again (and_or_so_far ps p.1))
 
+-- one more pipeline, by the operator that stands here; where none does, no more
 abbrev pub joined_by : Inner → AndOrSoFar → Option AndOrOperator → Form (Step AndOrSoFar)
 joined_by inner a (Some o) = one_pipeline inner a o
 joined_by inner a None = give (done a)
@@ -417,6 +426,7 @@ joined_by inner a None = give (done a)
 unfoldable pub and_or_turn : Inner → AndOrSoFar → Form (Step AndOrSoFar)
 and_or_turn inner a = joined_by inner a (and_or_operator_of a.next.token)
 
+-- a pipeline, and each one after `&&` or `||`; and the token after them
 unfoldable pub an_and_or : Inner → Next → Form (AnAndOr × Next)
 an_and_or inner n = a_pipeline inner n >>= λ p.
     many (and_or_turn inner) (and_or_so_far [] p.1) >>= λ a.
@@ -439,6 +449,7 @@ told_separator Ampersand = by (codes "&")
 abbrev pub ASeparator : Type 0
 ASeparator = Separator × ℕ
 
+-- the separator that this token is, with the offset after it, or none; and the token after it
 abbrev pub separator_by : Next → Option Separator → Form (Option ASeparator × Next)
 separator_by n (Some s) = token (told_separator s) (move one_byte) >>= λ x.
     next_token Command >>= λ m.

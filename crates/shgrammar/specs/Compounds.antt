@@ -251,6 +251,7 @@ one_pattern inner ws =
 unfoldable pub pattern_turn : Inner → PatternsSoFar → Form (Step PatternsSoFar)
 pattern_turn inner p = pick (is_pipe p.next.token) (one_pattern inner p.patterns) (give (done p))
 
+-- the patterns of an item, parted by `|`, the first of which is not `esac` (XCU 2.10.2, rule 4)
 unfoldable pub a_pattern_list : Inner → Next → Form PatternsSoFar
 a_pattern_list inner n = pick (begins_pattern n.token) (a_pattern inner [] >>= λ p. many (pattern_turn inner) p)
     (unexpected inner n)
@@ -338,6 +339,7 @@ a_case inner n =
     closing inner closings.Esac c.next >>= λ e.
     give (closed (case_in h.0 (cases_of c.items) c.comments) e)
 
+-- the compound command of each kind, from just after its opener to its closer (XCU 2.9.4)
 abbrev pub a_form : Inner → Opener → Next → Form (Closed AForm)
 a_form inner openers.Brace n = a_group inner closings.Brace n >>= λ l. give (closed (brace l.what) (l.closer, l.next))
 a_form inner openers.Paren n = a_group inner closings.Paren n >>= λ l.

@@ -25,6 +25,7 @@ line_end_by inner newline end n =
     pick newline (move one_byte >> change bodies_here >> give true)
     (pick end (nothing_waits >> give false) (unexpected inner n))
 
+-- the same, by the token here: one that is neither is unexpected (XCU 2.10.2)
 unfoldable pub end_of_line : Inner → Next → Form Bool
 end_of_line inner n = line_end_by inner (is_newline_token n.token) (is_end n.token) n
 

@@ -52,6 +52,7 @@ next_line l = record {
   parted = l.parted;
 }
 
+-- one more entry of a line: another may follow there where a separator ends this one (XCU 2.9.3)
 unfoldable pub one_entry : Inner → ListSoFar → Form (Step ListSoFar)
 one_entry inner l =
     an_entry inner (is_blank_next l.list) l.next >>= λ e.
@@ -68,6 +69,7 @@ remark_by l (Some c, n) = push l.list.entries (entry (remark c) false (is_blank_
     give (list_so_far (with_remark l.list es) n)
 remark_by l (None, n) = give (list_so_far l.list n)
 
+-- where a comment stands here, it is one more entry, that stands for itself
 unfoldable pub a_remark : ListSoFar → Form ListSoFar
 a_remark l = a_comment l.next >>= remark_by l
 

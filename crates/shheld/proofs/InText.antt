@@ -41,7 +41,7 @@ use Rattle.shgrammar.proofs.Places.{after_high, blanks_high, next_newline_high, 
 use Rattle.shgrammar.proofs.Shown.{shown_in}
 use Rattle.shgrammar.proofs.WordsWithin.{contents_end, stays_in}
 
--- what a token is that is not the end
+-- a token that passes a test which the end does not pass is not the end
 other : (test : Token → Bool) → test tokens.End ≡ false → (t : Token) → test t ≡ true → is_end t ≡ false
 other test none tokens.End e = absurd (both_ways (test tokens.End) none e)
 other test none _ e = refl
@@ -64,16 +64,16 @@ module _ (g : Given) where
   abbrev pub InText : {X : Type 0} → X → State → Type 0
   InText x t = t.at ≤ length T
 
-  -- and this token is handed on there
+  -- the reading stands in the text, or at its end, and this token is handed on there
   pub record Handed (n : Next) (t : State) : Type 0 where
     pub shows : Shows n.token T t.at
     pub within : t.at ≤ length T
 
-  -- what was read, and this token handed on after it
+  -- after what was read, the token that comes with it is handed on in the text
   abbrev pub HandsOn : {X : Type 0} → X × Next → State → Type 0
   HandsOn x t = Handed x.1 t
 
-  -- one form and then another
+  -- where P holds after a form, and Q after the next one wherever P does, Q holds after both
   infixl 10 ◌▹◌
   ◌▹◌ : {X Y : Type 0} {P : X → State → Type 0} {Q : Y → State → Type 0} {r : Form X} {q : X → Form Y}
       {s : State} → N r P s → ((a : X) (t : State) → P a t → N (q a) Q t) → N (both r q) Q s
@@ -83,15 +83,15 @@ module _ (g : Given) where
 
   -- A move stays in the text where the bytes that it goes over are in it.
 
-  -- one move
+  -- a move stays in the text, where the place that it leads to is in it
   moved_on : (m : Move) {s : State} → to m T s.at ≤ length T → N (move m) InText s
   moved_on m le = record { told = le }
 
-  -- one token
+  -- a token stays in the text, where the form that reads it does
   token_on : {X : Type 0} {r : Form X} {how : Telling} {s : State} → N r InText s → N (token how r) InText s
   token_on one = tells_token Whole g one (λ a t le. le)
 
-  -- an operator of two bytes, where the second is read
+  -- an operator of two bytes stays in the text, where the second is read
   two_on : {how : Telling} (s : State) → IsRead T (past_byte T s.at)
       → N (token how (both (move one_byte) (λ x. move one_byte))) InText s
   two_on s is = token_on (record { told = after_high T (past_byte T s.at) is })
@@ -101,18 +101,18 @@ module _ (g : Given) where
       → test n.token ≡ true → IsRead T s.at
   read n s so test none e = so.shows.read (other test none n.token e)
 
-  -- so the place after it is in the text
+  -- where the token is not the end, the place after its first byte is in the text
   pub read_on : (n : Next) (s : State) → Handed n s → (test : Token → Bool) → test tokens.End ≡ false
       → test n.token ≡ true → past_byte T s.at ≤ length T
   read_on n s so test none e = after_high T s.at (read n s so test none e)
 
-  -- on to the next token
+  -- from a place in the text the next token is handed on in the text
   pub next_here : (position : Position) (s : State) → s.at ≤ length T → N (next_token position) Handed s
   unfolding next_token
   next_here position s le =
       record { told = record { shows = shown_in g.edition position T s.at; within = blanks_high T s.at le } }
 
-  -- the same, with the state left to be inferred
+  -- the next token is handed on in the text, with the state left to be inferred
   onward : (position : Position) {s : State} → s.at ≤ length T → N (next_token position) Handed s
   onward position {s = s} le = next_here position s le
 
@@ -126,7 +126,7 @@ module _ (g : Given) where
   comment_high p le =
       cond_both (raw_stands T p number_sign) _ _ (λ q. q ≤ length T) (λ e. next_newline_high T p le) (λ e. le)
 
-  -- of a comment, which may not be there
+  -- after a comment, or none, a token is handed on in the text
   comment_in : (n : Next) (s : State) → Handed n s → N (a_comment n) HandsOn s
   unfolding a_comment
   comment_in n s so = sees (by_comment (comment_at T g.offset s.at))
@@ -137,7 +137,7 @@ module _ (g : Given) where
           onward Command le ▹ λ m u good. gives good
       by_comment None = gives so
 
-  -- and so do the bodies of here-documents
+  -- the bodies of here-documents end in the text
   pub bodies_high : (s t : State) → s.at ≤ length T → changed bodies_here g s ≡ Ok t → t.at ≤ length T
   bodies_high s t le is = by_read (bodies_from g s.waiting s.bodies s.at) refl is
     where
@@ -148,11 +148,12 @@ module _ (g : Given) where
           subst (λ (u : State). u.at ≤ length T) same (bodies_go g s.waiting s.bodies s.at x read le).1
       by_read (Err f) read is = absurd cc
 
-  -- the same, of the change that reads them
+  -- the change that reads bodies stays in the text
   bodies_in : (s : State) → s.at ≤ length T → N (change bodies_here) InText s
   bodies_in s le = tells_change Whole g (λ t is. bodies_high s t le is)
 
-  -- of a newline with the bodies after it, of a `;` and of a separator; none of them has to be there
+  -- after a newline with its bodies, a `;` and a separator, each of which may not be there, a token is handed
+  -- on in the text
   newline_in : (n : Next) (s : State) → Handed n s → N (a_newline n) HandsOn s
   unfolding a_newline
   newline_in n s so =
@@ -187,33 +188,34 @@ module _ (g : Given) where
   abbrev JoinHanded : JoinSoFar → State → Type 0
   JoinHanded j t = Handed j.next t
 
-  -- nothing moves where a comment is kept
+  -- a comment is kept with no move, so that the same token is handed on there
   kept_in : (cs : Row Span) (c : Option Span) (n : Next) (s : State) → Handed n s
       → N (with_comment cs c) (λ ds t. Handed n t) s
   kept_in cs (Some c) n s so = record { told = so }
   kept_in cs None n s so = gives so
 
-  -- and so it is whether or not this was the last turn
+  -- a token is handed on after a turn, be it the last one or not
   join_step : (p : Bool) (j : JoinSoFar) (t : State) → Handed j.next t
       → Turned Whole g JoinHanded (step_if p j) t
   join_step true j t so = so
   join_step false j t so = so
 
-  -- of one comment and newline, or of none
+  -- after one comment and newline, or none, a token is handed on in the text
   join_turn_in : (j : JoinSoFar) (s : State) → Handed j.next s → N (join_turn j) (Turned Whole g JoinHanded) s
   unfolding join_turn
   join_turn_in j s so =
       comment_in j.next s so ▹ λ c t one. kept_in j.join.comments c.0 c.1 t one ▹ λ cs u two.
       newline_in c.1 u two ▹ λ l v good. gives (join_step l.0 _ v good)
 
-  -- of all that stands from an operator to its operand
+  -- after all that stands from an operator to its operand, a token is handed on in the text
   join_in : (broken : Bool) (s : State) → s.at ≤ length T → N (a_join broken) HandsOn s
   unfolding a_join
   join_in broken s le =
       onward Command le ▹ λ n t so.
       tells_many Whole g join_turn JoinHanded join_turn_in _ t so ▹ λ j u good. gives good
 
-  -- of newlines that may stand where no operator does, and of comments before them
+  -- after newlines that may stand where no operator does, and comments before them, a token is handed on in
+  -- the text
   linebreak_in : (cs : Row Span) (n : Next) (s : State) → Handed n s → N (a_linebreak cs n) JoinHanded s
   unfolding a_linebreak
   linebreak_in cs n s so = tells_many Whole g join_turn JoinHanded join_turn_in _ s so
@@ -227,7 +229,7 @@ module _ (g : Given) where
   unfolding past_digits
   digits_high p le = past_high is_digit T p le
 
-  -- of a number before an operator, which may not be there
+  -- after the number before an operator, or none, a token is handed on in the text
   number_in : (n : Next) (s : State) → Handed n s → N (a_number n) HandsOn s
   unfolding a_number
   number_in n s so =
@@ -248,7 +250,7 @@ module _ (g : Given) where
       token_on (record { told = after_high T (past_byte T (past_byte T s.at)) (three refl) })
   operator_ends _ s one two three = token_on (record { told = after_high T (past_byte T s.at) (two refl) })
 
-  -- of the operator that the token is; where it is none, the row stops
+  -- the operator that the token is ends in the text; where it is none, the row stops
   operator_in : (p : ℕ) (n : Next) (s : State) → Handed n s
       → N (operator_by p (redirect_operator_of n.token)) InText s
   operator_in p n s so = by_operator (redirect_operator_of n.token) refl
@@ -260,13 +262,13 @@ module _ (g : Given) where
           operator_ends o s byte (so.shows.long o is) (so.shows.strip o is) ▹ λ x t le. gives le
       by_operator None is = record { told = tt }
 
-  -- nothing moves where one more document waits
+  -- where one more document waits nothing moves, so that the reading stays in the text
   waits_in : (w : Waiting) (s : State) → s.at ≤ length T → N (change (waits w)) InText s
   waits_in w s le =
       tells_change Whole g
       (λ t is. let same : with_waiting w s ≡ t = cc in subst (λ (u : State). u.at ≤ length T) same le)
 
-  -- of a here-document, where the operator has one
+  -- the row of a here-document stays in the text, whether the operator has one or not
   document_in : (o : RedirectOperator) (b p : ℕ) (bytes : Spelled) (s : State) → s.at ≤ length T
       → N (a_document o b p bytes) InText s
   unfolding a_document
@@ -291,7 +293,7 @@ module _ (g : Given) where
     abbrev ItemsHanded : ItemsSoFar → State → Type 0
     ItemsHanded i t = Handed i.next t
 
-    -- of the word that follows a redirection's operator
+    -- the word that follows a redirection's operator ends in the text
     target_in : (s : State) → s.at ≤ length T → N (a_target inner) InText s
     unfolding a_target
     target_in s le =
@@ -300,7 +302,7 @@ module _ (g : Given) where
         (λ e. tells_with_bytes Whole g (stays.words t so.within) (λ a u low. low))
         (stops inner n)
 
-    -- of a whole redirection, which is one more item
+    -- after a whole redirection, which is one more item, a token is handed on in the text
     redirect_in : (broken : Bool) (position : Position) (is : Row AnItem) (n : Next) (s : State)
         → Handed n s → N (one_redirect inner broken position is n) (Turned Whole g ItemsHanded) s
     unfolding one_redirect
@@ -309,14 +311,14 @@ module _ (g : Given) where
         target_in u two ▹ λ w v three. document_in o.0 _ _ w.1 v three ▹ λ h x four.
         pushed_on (onward position four ▹ λ m y good. gives good))
 
-    -- of a word or an assignment, which is one more item
+    -- after a word or an assignment, which is one more item, a token is handed on in the text
     an_item_in : (i : ItemsSoFar) (position : Position) (s : State) → s.at ≤ length T
         → N (an_item inner i position) (Turned Whole g ItemsHanded) s
     unfolding an_item
     an_item_in i position s le =
         stays.words s le ▹ λ w t low. pushed_on (onward position low ▹ λ n v good. gives good)
 
-    -- of one more item by what the token begins, or of none
+    -- after one more item, by what the token begins, or none, a token is handed on in the text
     item_by_in : (i : ItemsSoFar) (o : Option Position) (s : State) → Handed i.next s
         → N (item_by inner i o) (Turned Whole g ItemsHanded) s
     item_by_in i (Some position) s so = an_item_in i position s so.within
@@ -330,13 +332,14 @@ module _ (g : Given) where
     unfolding item_turn
     item_turn_in i s so = item_by_in i (after_word i.next.token) s so
 
-    -- of a simple command, after the items that it has so far
+    -- after a simple command, which has these items so far, a token is handed on in the text
     simple_in : (i : ItemsSoFar) (s : State) → Handed i.next s → N (a_simple inner i) HandsOn s
     unfolding a_simple
     simple_in i s so =
         tells_many Whole g (item_turn inner) ItemsHanded item_turn_in i s so ▹ λ j t good. gives good
 
-    -- of one more redirection after a compound command, or of none, and then of all of them
+    -- after one more redirection of a compound command, or none, and after all of them, a token is handed on
+    -- in the text
     redirect_turn_in : (i : ItemsSoFar) (s : State) → Handed i.next s
         → N (redirect_turn inner i) (Turned Whole g ItemsHanded) s
     unfolding redirect_turn
@@ -352,7 +355,8 @@ module _ (g : Given) where
         tells_many Whole g (redirect_turn inner) ItemsHanded redirect_turn_in none s so ▹ λ r t good.
         gives good
 
-    -- of the compound command that the token opens, with its redirections
+    -- after the compound command that the token opens, with its redirections, a token is handed
+    -- on in the text
     compound_in : (n : Next) (s : State) → Handed n s → N (compound_by inner n (opener_of n.token)) HandsOn s
     compound_in n s so = by_opener (opener_of n.token) refl
       where
@@ -361,7 +365,8 @@ module _ (g : Given) where
             stays.compound o s (read n s so (λ t. is_some (opener_of t)) refl (ap is_some is)) ▹ with_redirect_list_in
         by_opener None is = stops inner n
 
-    -- of what begins with a word: a function where `(` follows a name, else a simple command
+    -- after what begins with a word, a function where `(` follows a name and else a simple command, a token
+    -- is handed on in the text
     word_command_in : (s : State) → s.at ≤ length T → N (a_word_command inner) HandsOn s
     unfolding a_word_command
     word_command_in s le =
@@ -371,14 +376,14 @@ module _ (g : Given) where
         picked_by (seen is_a_name g s) (λ f. stays.function (word_span w) v byte) (record { told = tt }))
         (pushed_on (simple_in (items_so_far _ Suffix n) v so)))
 
-    -- of a command, whatever begins it
+    -- after a command, whatever begins it, a token is handed on in the text
     command_in : (n : Next) (s : State) → Handed n s → N (a_command inner n) HandsOn s
     unfolding a_command
     command_in n s so =
         picked_by (is_word n.token) (λ e. word_command_in s so.within)
         (picked_by (begins_simple n.token) (λ e. simple_in (items_so_far [] Command n) s so) (compound_in n s so))
 
-    -- of the `!` of a pipeline, which may not be there
+    -- after the `!` of a pipeline, or none, a token is handed on in the text
     bang_in : (n : Next) (s : State) → Handed n s → N (a_bang n) HandsOn s
     unfolding a_bang
     bang_in n s so =
@@ -391,7 +396,7 @@ module _ (g : Given) where
     abbrev PipesHanded : PipesSoFar → State → Type 0
     PipesHanded p t = Handed p.next t
 
-    -- of one more command after `|`, or of none
+    -- after one more command after a `|`, or none, a token is handed on in the text
     pipe_turn_in : (p : PipesSoFar) (s : State) → Handed p.next s
         → N (pipe_turn inner p) (Turned Whole g PipesHanded) s
     unfolding pipe_turn one_command
@@ -401,7 +406,7 @@ module _ (g : Given) where
         join_in p.next.broken t le ▹ λ j u one. command_in j.1 u one ▹ λ c v good. pushed_on (gives good))
         (gives so)
 
-    -- of a pipeline, from its `!` to its last command
+    -- after a pipeline, from its `!` to its last command, a token is handed on in the text
     pipeline_in : (n : Next) (s : State) → Handed n s → N (a_pipeline inner n) HandsOn s
     unfolding a_pipeline
     pipeline_in n s so =
@@ -413,7 +418,7 @@ module _ (g : Given) where
     abbrev AndOrHanded : AndOrSoFar → State → Type 0
     AndOrHanded a t = Handed a.next t
 
-    -- of one more pipeline after `&&` or `||`, or of none
+    -- after one more pipeline after `&&` or `||`, or none, a token is handed on in the text
     and_or_turn_in : (a : AndOrSoFar) (s : State) → Handed a.next s
         → N (and_or_turn inner a) (Turned Whole g AndOrHanded) s
     unfolding and_or_turn one_pipeline
@@ -427,7 +432,7 @@ module _ (g : Given) where
             pushed_on (gives good)
         by_operator None is = gives so
 
-    -- of an and-or list, from its first pipeline to its last
+    -- after an and-or list, from its first pipeline to its last, a token is handed on in the text
     and_or_in : (n : Next) (s : State) → Handed n s → N (an_and_or inner n) HandsOn s
     unfolding an_and_or
     and_or_in n s so =
@@ -435,7 +440,7 @@ module _ (g : Given) where
         tells_many Whole g (and_or_turn inner) AndOrHanded and_or_turn_in _ t one ▹ λ a u good.
         gives good
 
-    -- of an and-or list with the separator and the comment after it
+    -- after an and-or list with its separator and its comment, a token is handed on in the text
     entry_in : (blank : Bool) (n : Next) (s : State) → Handed n s
         → N (an_entry inner blank n) (λ e t. Handed e.next t) s
     unfolding an_entry
@@ -451,13 +456,13 @@ module _ (g : Given) where
     abbrev pub ListHanded : ListSoFar → State → Type 0
     ListHanded l t = Handed l.next t
 
-    -- and so it is whether or not this was the last turn
+    -- a token is handed on after a turn, be it the last one or not
     list_step : (p : Bool) (l : ListSoFar) (t : State) → Handed l.next t
         → Turned Whole g ListHanded (step_if p l) t
     list_step true l t so = so
     list_step false l t so = so
 
-    -- of one more entry on the line, or of none
+    -- after one more entry of the line, or none, a token is handed on in the text
     entry_turn_in : (l : ListSoFar) (s : State) → Handed l.next s
         → N (entry_turn inner l) (Turned Whole g ListHanded) s
     unfolding entry_turn one_entry
@@ -467,27 +472,29 @@ module _ (g : Given) where
         pushed_on (gives (list_step (is_some e.parted) _ t good)))
         (gives so)
 
-    -- of the comment at the end of a line, or of none
+    -- where the comment at the end of a line, if there is one, becomes an entry, the same token
+    -- is handed on there
     remark_in : (l : ListSoFar) (x : Option Span × Next) (s : State) → Handed x.1 s
         → N (remark_by l x) ListHanded s
     remark_in l (Some c, n) s so = pushed_on (gives so)
     remark_in l (None, n) s so = gives so
 
-    -- of all that stands on one line of a list
+    -- after all that stands on one line of a list, a token is handed on in the text
     pub on_line_in : (l : ListSoFar) (s : State) → Handed l.next s → N (on_line inner l) ListHanded s
     unfolding on_line a_remark
     on_line_in l s so =
         tells_many Whole g (entry_turn inner) ListHanded entry_turn_in l s so ▹ λ m t one.
         comment_in m.next t one ▹ λ x u good. remark_in m x u good
 
-    -- of one line with the newline after it, or of what stands before the list's end
+    -- after one line with its newline, or what stands before the list's end, a token is handed on in the text
     list_turn_in : (l : ListSoFar) (s : State) → Handed l.next s
         → N (list_turn inner l) (Turned Whole g ListHanded) s
     unfolding list_turn
     list_turn_in l s so =
         on_line_in l s so ▹ λ m t one. newline_in m.next t one ▹ λ x u good. gives (list_step x.0 _ u good)
 
-    -- of all lines of a list, which may hold no command, and of a list, which holds one
+    -- after all lines of a list, which may hold no command, and after a list, which holds one, a token is
+    -- handed on in the text
     lines_in : (n : Next) (s : State) → Handed n s
         → N (many (list_turn inner) (list_so_far (none_listed false) n)) ListHanded s
     lines_in n s so =
@@ -511,7 +518,7 @@ module _ (g : Given) where
     opener_high true p is = after_high T p is
     opener_high false p is = reserved_high p is
 
-    -- of a reserved word or a parenthesis, and the token after it
+    -- after a reserved word or a parenthesis, a token is handed on in the text
     reserved_or_paren_in : (text : Spelled) (paren : Bool) (position : Position) (s : State) → IsRead T s.at
         → N (reserved_or_paren text paren position) HandsOn s
     unfolding reserved_or_paren
@@ -523,7 +530,8 @@ module _ (g : Given) where
     closes : (c : Closing) (n : Next) (s : State) → Handed n s → is_closing c n.token ≡ true → IsRead T s.at
     closes c n s so e = read n s so (is_closing c) (closes_none c) e
 
-    -- of what has to close here; where the token is another, the row stops
+    -- after what has to close here, a token is handed on in the text; where the token here is another, the
+    -- row stops
     closing_in : (c : Closing) (n : Next) (s : State) → Handed n s → N (closing inner c n) HandsOn s
     unfolding closing
     closing_in c n s so =
@@ -531,7 +539,7 @@ module _ (g : Given) where
         (λ e. reserved_or_paren_in _ (is_close_paren c) _ s (closes c n s so e))
         (stops inner n)
 
-    -- of a condition, `then` and what it runs
+    -- after a condition, `then` and what it runs, a token is handed on in the text
     branch_in : (n : Next) (s : State) → Handed n s → N (a_branch inner n) HandsOn s
     unfolding a_branch
     branch_in n s so =
@@ -542,7 +550,7 @@ module _ (g : Given) where
     abbrev BranchesHanded : BranchesSoFar → State → Type 0
     BranchesHanded b t = Handed b.next t
 
-    -- of one more branch after `elif`, or of none
+    -- after one more branch after `elif`, or none, a token is handed on in the text
     elif_in : (b : BranchesSoFar) (s : State) → Handed b.next s
         → N (elif_turn inner b) (Turned Whole g BranchesHanded) s
     unfolding elif_turn
@@ -552,7 +560,7 @@ module _ (g : Given) where
         branch_in k.1 t one ▹ λ x u good. pushed_on (gives good))
         (gives so)
 
-    -- of the list after `else`, which may not be there
+    -- after `else` with its list, or none, a token is handed on in the text
     else_in : (n : Next) (s : State) → Handed n s → N (an_else inner n) HandsOn s
     unfolding an_else
     else_in n s so =
@@ -565,7 +573,8 @@ module _ (g : Given) where
     abbrev ClosedHanded : {X : Type 0} → Closed X → State → Type 0
     ClosedHanded x t = Handed x.next t
 
-    -- of an `if`, a loop and a group, from just after their openers to their closers
+    -- after an `if`, a loop and a group, from just after their openers to their closers, a token is handed on
+    -- in the text
     if_in : (n : Next) (s : State) → Handed n s → N (an_if inner n) ClosedHanded s
     unfolding an_if
     if_in n s so =
@@ -583,7 +592,7 @@ module _ (g : Given) where
     unfolding a_group
     group_in c n s so = list_in n s so ▹ λ l t one. closing_in c l.1 t one ▹ λ k u good. gives good
 
-    -- of the word after `for`, which has to be a name
+    -- after the word that follows `for`, which has to be a name, a token is handed on in the text
     for_name_in : (n : Next) (s : State) → Handed n s → N (a_for_name inner n) HandsOn s
     unfolding a_for_name
     for_name_in n s so =
@@ -594,7 +603,7 @@ module _ (g : Given) where
         (record { told = tt }))))
         (stops inner n)
 
-    -- of the `;` or the newline that ends the words of a `for`
+    -- after the `;` or the newline that ends the words of a `for`, a token is handed on in the text
     sequential_sep_in : (cs : Row Span) (n : Next) (s : State) → Handed n s
         → N (a_sequential_sep inner cs n) JoinHanded s
     unfolding a_sequential_sep
@@ -606,13 +615,13 @@ module _ (g : Given) where
     abbrev HeadHanded : Headed → State → Type 0
     HeadHanded h t = Handed h.next t
 
-    -- of one more word after `in`, or of none
+    -- after one more word after `in`, or none, a token is handed on in the text
     word_turn_in : (i : ItemsSoFar) (s : State) → Handed i.next s
         → N (word_turn inner i) (Turned Whole g ItemsHanded) s
     unfolding word_turn
     word_turn_in i s so = picked_by (is_word i.next.token) (λ e. an_item_in i Suffix s so.within) (gives so)
 
-    -- of `in` with its words and what ends them
+    -- after `in` with its words and what ends them, a token is handed on in the text
     for_words_in : (cs : Row Span) (s : State) → IsRead T s.at → N (for_words inner cs) HeadHanded s
     unfolding for_words
     for_words_in cs s is =
@@ -620,7 +629,7 @@ module _ (g : Given) where
         tells_many Whole g (word_turn inner) ItemsHanded word_turn_in _ t one ▹ λ ws u two.
         sequential_sep_in cs ws.next u two ▹ λ l v good. gives good
 
-    -- of what stands between the name and `do`, with an `in` or without
+    -- after what stands between the name and `do`, with an `in` or without, a token is handed on in the text
     for_head_in : (n : Next) (s : State) → Handed n s → N (a_for_head inner n) HeadHanded s
     unfolding a_for_head
     for_head_in n s so =
@@ -629,7 +638,7 @@ module _ (g : Given) where
         (λ e. for_words_in l.join.comments u (closes closings.In l.next u two (and_parts _ _ e).1))
         (gives two)
 
-    -- of a `for`, from its name to its `done`
+    -- after a `for`, from its name to its `done`, a token is handed on in the text
     for_in_text : (n : Next) (s : State) → Handed n s → N (a_for inner n) ClosedHanded s
     unfolding a_for
     for_in_text n s so =
@@ -637,7 +646,7 @@ module _ (g : Given) where
         closing_in closings.Do h.next u two ▹ λ d v three. group_in closings.Done d.1 v three ▹ λ b w good.
         gives good
 
-    -- of the word after `case`
+    -- after the word that follows `case`, a token is handed on in the text
     case_word_in : (n : Next) (s : State) → Handed n s → N (a_case_word inner n) HandsOn s
     unfolding a_case_word
     case_word_in n s so =
@@ -649,13 +658,13 @@ module _ (g : Given) where
     abbrev PatternsHanded : PatternsSoFar → State → Type 0
     PatternsHanded p t = Handed p.next t
 
-    -- of one pattern
+    -- after one pattern, a token is handed on in the text
     pattern_in : (ws : Row AWord) (s : State) → s.at ≤ length T → N (a_pattern inner ws) PatternsHanded s
     unfolding a_pattern
     pattern_in ws s le =
         stays.words s le ▹ λ w t low. pushed_on (onward Suffix low ▹ λ n u good. gives good)
 
-    -- of one more after `|`, or of none
+    -- after one more pattern after a `|`, or none, a token is handed on in the text
     pattern_turn_in : (p : PatternsSoFar) (s : State) → Handed p.next s
         → N (pattern_turn inner p) (Turned Whole g PatternsHanded) s
     unfolding pattern_turn one_pattern
@@ -668,7 +677,7 @@ module _ (g : Given) where
         (stops inner n))
         (gives so)
 
-    -- of all patterns of an item, the first of which is not `esac`
+    -- after all patterns of an item, the first of which is not `esac`, a token is handed on in the text
     pattern_list_in : (n : Next) (s : State) → Handed n s → N (a_pattern_list inner n) PatternsHanded s
     unfolding a_pattern_list
     pattern_list_in n s so =
@@ -677,7 +686,7 @@ module _ (g : Given) where
         tells_many Whole g (pattern_turn inner) PatternsHanded pattern_turn_in p t one)
         (stops inner n)
 
-    -- of the `(` before patterns, which may not be there
+    -- after the `(` before patterns, or none, a token is handed on in the text
     open_bracket_in : (n : Next) (s : State) → Handed n s → N (an_open_bracket n) Handed s
     unfolding an_open_bracket
     open_bracket_in n s so =
@@ -689,14 +698,14 @@ module _ (g : Given) where
     abbrev EndHanded : ItemEnd → State → Type 0
     EndHanded e t = Handed e.next t
 
-    -- of `;;` or `;&`, with newlines and comments after it
+    -- after `;;` or `;&`, with newlines and comments after it, a token is handed on in the text
     ender_in : (b : Bool) (s : State) → IsRead T (past_byte T s.at) → N (an_ender b) EndHanded s
     unfolding an_ender
     ender_in b s is =
         two_on s is ▹ λ y u le.
         sees (onward Command le ▹ λ n w one. linebreak_in [] n w one ▹ λ l z good. gives good)
 
-    -- of the end of an item, which is an ender or stands before `esac`
+    -- after the end of an item, which is an ender or stands before `esac`, a token is handed on in the text
     item_end_in : (there : ℕ) (n : Next) (s : State) → Handed n s
         → N (an_item_end inner there n) EndHanded s
     unfolding an_item_end
@@ -708,7 +717,7 @@ module _ (g : Given) where
     abbrev CasesHanded : CasesSoFar → State → Type 0
     CasesHanded c t = Handed c.next t
 
-    -- of an item of a `case`, from its patterns to its end
+    -- after an item of a `case`, from its patterns to its end, a token is handed on in the text
     one_case_in : (c : CasesSoFar) (s : State) → Handed c.next s
         → N (one_case inner c) (Turned Whole g CasesHanded) s
     unfolding one_case a_body
@@ -717,14 +726,15 @@ module _ (g : Given) where
         closing_in closings.Paren ps.next v one ▹ λ k w two. lines_in k.1 w two ▹ λ b x three.
         item_end_in _ b.next x three ▹ λ e y good. pushed_on (gives good))
 
-    -- of one more item, or of none before `esac`
+    -- after one more item of a `case`, or none before `esac`, a token is handed on in the text
     case_turn_in : (c : CasesSoFar) (s : State) → Handed c.next s
         → N (case_turn inner c) (Turned Whole g CasesHanded) s
     unfolding case_turn
     case_turn_in c s so =
         picked_by (is_closing closings.Esac c.next.token) (λ e. gives so) (one_case_in c s so)
 
-    -- of the word of a `case`, its `in`, and the newlines before and after that
+    -- after the word of a `case`, its `in`, and the newlines before and after that, a token is handed on in
+    -- the text
     case_head_in : (n : Next) (s : State) → Handed n s → N (a_case_head inner n) (λ h t. Handed h.2 t) s
     unfolding a_case_head
     case_head_in n s so =
@@ -732,7 +742,7 @@ module _ (g : Given) where
         closing_in closings.In l.next u two ▹ λ i v three.
         linebreak_in l.join.comments i.1 v three ▹ λ h x good. gives good
 
-    -- of a `case`, from its word to its `esac`
+    -- after a `case`, from its word to its `esac`, a token is handed on in the text
     case_in_text : (n : Next) (s : State) → Handed n s → N (a_case inner n) ClosedHanded s
     unfolding a_case
     case_in_text n s so =
@@ -740,7 +750,8 @@ module _ (g : Given) where
         tells_many Whole g (case_turn inner) CasesHanded case_turn_in (cases_so_far [] h.1 h.2) t one ▹ λ c u two.
         closing_in closings.Esac c.next u two ▹ λ e v good. gives good
 
-    -- of a compound command of each kind, from just after its opener to its closer
+    -- after a compound command of each kind, from just after its opener to its closer, a token is handed on
+    -- in the text
     form_in : (o : Opener) (n : Next) (s : State) → Handed n s → N (a_form inner o n) ClosedHanded s
     form_in openers.Brace n s so = group_in closings.Brace n s so ▹ λ l t good. gives good
     form_in openers.Paren n s so = group_in closings.Paren n s so ▹ λ l t good. gives good
@@ -750,14 +761,14 @@ module _ (g : Given) where
     form_in openers.For n s so = for_in_text n s so
     form_in openers.Case n s so = case_in_text n s so
 
-    -- of a compound command with its opener
+    -- after a compound command with its opener, a token is handed on in the text
     a_compound_in : (o : Opener) (s : State) → IsRead T s.at → N (a_compound inner o) HandsOn s
     unfolding a_compound
     a_compound_in o s is =
         reserved_or_paren_in _ (is_open_paren o) _ s is ▹ λ x t one. form_in o x.1 t one ▹ λ f u good.
         pushed_on (gives good)
 
-    -- of a function, from the `(` after its name
+    -- after a function, from the `(` after its name, a token is handed on in the text
     a_function_in : (name : Span) (s : State) → IsRead T s.at → N (a_function inner name) HandsOn s
     unfolding a_function
     a_function_in name s is =
@@ -774,7 +785,7 @@ module _ (g : Given) where
       (λ a t so. so.0))
       (λ w t so. gives so))
 
-  -- by how many more may be opened
+  -- what may be opened stays in the text, by how many more may be
   pub stays_at : (room : ℕ) → Stays (level room)
   unfolding level
   stays_at zero = record {

@@ -197,8 +197,9 @@ fn answer_next<R: Read, W: Write>(
 /// 1 for one with a fault. It is 2 where the input ends inside a request, where a read, a write or a
 /// flush fails, and where the input has 2^63 bytes or more.
 ///
-/// Nothing but the payload of an edit, what stands between its splices and the script takes more memory than
-/// the last reply.
+/// Memory is taken for the script with the trees of its lines; for an edit until it is answered: its payload,
+/// and the bytes from its first splice to its last, those that stand there and those that will; and for the
+/// reply to `outline`, `at` or `print` until it is written. Other replies take none.
 pub fn run<R: Read, W: Write>(
     alloc: Global,
     session: &mut Session,

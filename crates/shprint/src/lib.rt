@@ -5,7 +5,8 @@
 //! number. No reader is needed here: the crate `shpieces` prints scripts while they are read. What is printed
 //! for a tree is `printed` in `specs/Printed`, by cases, one for each rule of the layout. A function of
 //! `commands`, `items` or `comments` prints what the definition of its name there, or in `specs/Written`,
-//! says; the words of their clauses stand in the latter.
+//! says; but `print_function` what `print_command` says of a function, and `print_redirection` what
+//! `print_item` says of a redirection. The words of their clauses stand in `specs/Written`.
 #![tactic(auto)]
 
 mod bare;
