@@ -249,7 +249,8 @@ module _ (g : Given) where
     pub function : (name : Span) (s : State) → N (inner.function name) (λ c t. is_normal_command c.0 ≡ true) s
 
   module _ (inner : Inner) (fine : Fine inner) where
-    -- a construct that opens, a piece by its kind, and the piece that is there
+    -- after a construct that opens, after a piece of each kind, and after the piece that is there the
+    -- substitutions so far are in normal form
     normal_opened : (mode : Mode) (b : ℕ) (h : WordSoFar) (s : State) → Substs h s →
         N (opened inner mode b h) (Turned Whole g Substs) s
     normal_opened mode b h s so =
@@ -283,7 +284,7 @@ module _ (g : Given) where
     unfolding a_piece
     normal_piece mode b h s so = after (λ piece t. normal_piece_by mode b h piece t so)
 
-    -- all pieces up to what closes them, and a word
+    -- the substitutions of all pieces up to what closes them are in normal form, and so is a word
     pub normal_contents : (mode : Mode) (b : ℕ) (ss : Row ASubst) (s : State) → are_normal_substs (substs_of ss) ≡ true
         → N (contents inner mode b ss) (λ zs t. are_normal_substs (substs_of zs) ≡ true) s
     unfolding contents
@@ -299,7 +300,7 @@ module _ (g : Given) where
         (tells_token Whole g {Q = λ w u. are_normal_substs (substs_of w.0) ≡ true} (normal_contents _ p [] t refl)
         (λ ss u good. good)) (λ w u good. gives good))
 
-    -- ---- commands
+    -- ---- items, redirections and simple commands
 
     -- Each row of a command: where what it has so far is in normal form, so is what it gives.
 
@@ -314,7 +315,7 @@ module _ (g : Given) where
     normal_content Prefix broken w good = good
     normal_content Suffix broken w good = good
 
-    -- one more item that is a word
+    -- the items so far with one more that is a word are in normal form
     normal_item : (i : ItemsSoFar) (position : Position) (s : State) → NormalRow i.items →
         N (an_item inner i position) (Turned Whole g ItemsSo) s
     unfolding an_item
@@ -324,13 +325,14 @@ module _ (g : Given) where
         (λ n u. gives (row_more i.items _ i.next.broken so
         (normal_content position (breaks i) w good) refl))))
 
-    -- the word of a redirection
+    -- the word of a redirection is in normal form
     normal_target : (s : State) → N (a_target inner) (λ w t. is_normal_word w.0 ≡ true) s
     unfolding a_target
     normal_target s = after (λ n t. picked_by (is_word n.token)
         (λ e. tells_with_bytes Whole g (normal_word t) (λ a u so. so)) (stops inner n))
 
-    -- whatever holds of the items with one more in normal form
+    -- after a redirection P holds, where it does of the items with any one more that is in normal form and
+    -- broken as this one is
     normal_redirect : (P : ItemsSoFar → State → Type 0) (broken : Bool) (position : Position) (is : Row AnItem)
         (n : Next)
         (s : State)
@@ -342,7 +344,8 @@ module _ (g : Given) where
         (λ o v. tells_then Whole g (normal_target v) (λ w x good. after (λ h a. pushed_on (after (λ m y.
         gives (more (item broken (redirect d.0 o.0 o.1 w.0 h)) m y good refl))))))))
 
-    -- one more item, the same or none, and the simple command of them all
+    -- the items so far are in normal form with one more, or none, by the position after it and by what the
+    -- token begins; and so is the simple command of them all
     normal_item_by : (i : ItemsSoFar) (position : Option Position) (s : State) → NormalRow i.items →
         N (item_by inner i position) (Turned Whole g ItemsSo) s
     normal_item_by i (Some position) s so = normal_item i position s so
@@ -362,6 +365,8 @@ module _ (g : Given) where
     normal_simple i s so = tells_then Whole g (tells_many Whole g (item_turn inner) ItemsSo normal_item_turn i s so)
         (λ is t good. gives (and_from _ _ good.first good.all))
 
+    -- ---- joins
+
     -- with one more comment, or none, a join that has a comment is broken
     normal_with : (cs : Row Span) (c : Option Span) (broken : Bool) (s : State) → broken_by cs broken ≡ true →
         N (with_comment cs c) (λ ds t. broken_by ds (broken || is_some c) ≡ true) s
@@ -372,13 +377,13 @@ module _ (g : Given) where
     abbrev JoinHolds : JoinSoFar → State → Type 0
     JoinHolds j t = is_normal_join j.join ≡ true
 
-    -- a step that goes on, or ends, by a test
+    -- whether a turn goes on or is the last, its join is in normal form
     join_holds : (p : Bool) (j : JoinSoFar) (t : State) → is_normal_join j.join ≡ true →
         Turned Whole g JoinHolds (step_if p j) t
     join_holds true j t so = so
     join_holds false j t so = so
 
-    -- one more comment or newline of a join, and the join
+    -- the join so far is in normal form with one more comment or newline, or none, and so is a whole join
     normal_join_turn : (j : JoinSoFar) (s : State) → is_normal_join j.join ≡ true →
         N (join_turn j) (Turned Whole g JoinHolds) s
     unfolding join_turn
@@ -391,11 +396,13 @@ module _ (g : Given) where
     normal_join broken s = after (λ n t. tells_then Whole g
         (tells_many Whole g join_turn JoinHolds normal_join_turn _ t refl) (λ j u good. gives good))
 
+    -- ---- commands of any kind, with the redirections after compound ones
+
     -- the redirections after a compound command are in normal form; the first of them may be broken
     abbrev RedirectsSo : ItemsSoFar → State → Type 0
     RedirectsSo i t = are_normal_items (items_of i.items) ≡ true
 
-    -- one more of them, or none
+    -- with one more of them, or none, they are in normal form
     normal_redirect_turn : (i : ItemsSoFar) (s : State) → RedirectsSo i s →
         N (redirect_turn inner i) (Turned Whole g RedirectsSo) s
     unfolding redirect_turn
@@ -411,7 +418,7 @@ module _ (g : Given) where
     normal_with_redirects (simple items) is one all = one
     normal_with_redirects (function name comments body) is one all = one
 
-    -- so it is with all that stand after a command
+    -- a command is in normal form with all redirections that stand after it
     normal_with_redirect_list : (c : ACommand × Next) (s : State) → is_normal_command c.0 ≡ true →
         N (with_redirect_list inner c) (λ d t. is_normal_command d.0 ≡ true) s
     unfolding with_redirect_list
@@ -420,7 +427,7 @@ module _ (g : Given) where
         (items_so_far [] Command c.1) s refl)
         (λ r t all. gives (normal_with_redirects c.0 (items_of r.items) one all))
 
-    -- a compound command, one that begins with a word, and any command
+    -- a compound command is in normal form, and so are a command that begins with a word, and any command
     normal_compound_by : (n : Next) (o : Option Opener) (s : State) →
         N (compound_by inner n o) (λ c t. is_normal_command c.0 ≡ true) s
     normal_compound_by n (Some o) s = tells_then Whole g (fine.compound o s) normal_with_redirect_list
@@ -442,11 +449,13 @@ module _ (g : Given) where
         (picked_by (begins_simple n.token) (λ e. normal_simple (items_so_far [] Command n) s no_items)
         (normal_compound_by n (opener_of n.token) s))
 
+    -- ---- pipelines, and-or lists and entries
+
     -- the commands after the first so far are in normal form, with their joins
     abbrev PipesHold : PipesSoFar → State → Type 0
     PipesHold p t = are_normal_pipes (pipeline_parts_of p.parts) ≡ true
 
-    -- one more command, the same or none, and the pipeline
+    -- they are so with one more command, or none, and the whole pipeline is in normal form
     normal_one_command : (p : PipesSoFar) (s : State) → PipesHold p s →
         N (one_command inner p) (Turned Whole g PipesHold) s
     unfolding one_command
@@ -473,7 +482,7 @@ module _ (g : Given) where
     abbrev AndOrHolds : AndOrSoFar → State → Type 0
     AndOrHolds a t = are_normal_and_ors (and_or_parts_of a.parts) ≡ true
 
-    -- one more pipeline, the same or none, and the and-or list
+    -- they are so with one more pipeline, or none, and the whole and-or list is in normal form
     normal_one_pipeline : (a : AndOrSoFar) (o : AndOrOperator) (s : State) → AndOrHolds a s →
         N (one_pipeline inner a o) (Turned Whole g AndOrHolds) s
     unfolding one_pipeline
@@ -517,13 +526,13 @@ module _ (g : Given) where
       abbrev ListHolds : ListSoFar → State → Type 0
       ListHolds l t = NormalList blank l.list
 
-      -- a step that goes on, or ends, by a test
+      -- whether a turn goes on or is the last, its entries are in normal form
       step_holds : (p : Bool) (l : ListSoFar) (t : State) → NormalList blank l.list →
           Turned Whole g ListHolds (step_if p l) t
       step_holds true l t so = so
       step_holds false l t so = so
 
-      -- one more entry, the same or none, and the comment of a line
+      -- the entries so far are in normal form with one more, or none, and with the comment of a line
       normal_one_entry : (l : ListSoFar) (s : State) → NormalList blank l.list →
           N (one_entry inner l) (Turned Whole g ListHolds) s
       unfolding one_entry
@@ -543,7 +552,7 @@ module _ (g : Given) where
       normal_remark_by l (Some c, n) s so = pushed_on (gives (remark_more blank l.list _ so refl refl))
       normal_remark_by l (None, n) s so = gives so
 
-      -- the entries and the comment of one line, and one more line of a list
+      -- they are so with the entries and the comment of one line, and with one more line of a list
       normal_on_line : (l : ListSoFar) (s : State) → NormalList blank l.list → N (on_line inner l) ListHolds s
       unfolding on_line a_remark
       normal_on_line l s so =
@@ -556,7 +565,7 @@ module _ (g : Given) where
       normal_list_turn l s so = tells_then Whole g (normal_on_line l s so)
           (λ m t good. after (λ x u. gives (step_holds x.0 _ u (newline_more blank m.list good))))
 
-      -- a line of a script, without the bodies of its here-documents
+      -- the entries of a line of a script are in normal form without the bodies of its here-documents
       normal_open_line : (s : State) →
           N (an_open_line inner blank)
           (λ x t. (blank ≡ false → first_not_blank (entries_of x.0) ≡ true) × (are_normal (entries_of x.0) ≡ true)) s
@@ -565,7 +574,7 @@ module _ (g : Given) where
           (normal_on_line (list_so_far (none_listed blank) n) t (no_entries blank))
           (λ l u so. after (λ newline v. gives (so.first, so.all))))
 
-      -- bodies change nothing
+      -- they are so with the bodies too, which change nothing of it
       pub normal_line : (s : State) →
           N (a_line inner blank) (λ x t. (blank ≡ false → first_not_blank (entries_of x.0) ≡ true)
           × (are_normal (entries_of x.0) ≡ true)) s
@@ -579,7 +588,7 @@ module _ (g : Given) where
             ap are_normal (row_filled l.1 l.0.0) ∙ all_filled l.1 (entries_of l.0.0) ∙ so.1,
           ))
 
-    -- a list that holds a command
+    -- a list holds a command and is in normal form
     abbrev HasCommand : {X : Type 0} → (X → Entries) → X → State → Type 0
     HasCommand of x t = (is_whole (of x) ≡ true) × (are_normal (of x) ≡ true)
 

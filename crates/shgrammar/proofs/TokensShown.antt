@@ -105,7 +105,7 @@ module _ (g : Given) where
   join_step true j t so = so
   join_step false j t so = so
 
-  -- a turn over comments and newlines, a join, and a linebreak
+  -- a turn over comments and newlines, a join and a linebreak hand on a token that begins here
   shown_join_turn : (j : JoinSoFar) (s : State) → Begins j.next s → N (join_turn j) (Turned Whole g JoinShown) s
   unfolding join_turn
   shown_join_turn j s so =
@@ -198,6 +198,8 @@ module _ (g : Given) where
         picked (is_word n.token) (shown_word_command s)
         (picked (begins_simple n.token) (shown_simple (items_so_far [] Command n) s so)
         (shown_compound_by n (opener_of n.token) s))
+
+    -- ---- pipelines, and-or lists and entries
 
     -- `!`, if it stands here
     shown_bang : (n : Next) (s : State) → Begins n s → N (a_bang n) HandsOn s

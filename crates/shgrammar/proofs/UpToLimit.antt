@@ -17,17 +17,17 @@ use Rattle.shgrammar.proofs.BodiesHeld.{HoldsWithin, held, unless_above}
 pub record UpTo (g : Given) (limit : ℕ) {X : Type 0} (r : Form X) (P : X → Type 0) (s : State) : Type 0 where
   pub told : Tells Whole g r (λ x t. g.offset + t.at ≤ limit → P x) s
 
--- what a turn gives
+-- P holds of what a turn gives, whether it goes on or is the last
 abbrev pub Stepped : {A : Type 0} → (A → Type 0) → Step A → Type 0
 Stepped P (again a) = P a
 Stepped P (done a) = P a
 
--- a step that goes on or ends by a test
+-- where P holds of a value, it does of a step with that, which goes on or ends by a test
 pub stepped : {A : Type 0} (P : A → Type 0) (b : Bool) (a : A) → P a → Stepped P (step_if b a)
 stepped P true a so = so
 stepped P false a so = so
 
--- what follows from what a turn gives
+-- what follows from P holds of what a turn gives, where P does
 pub step_so : {A : Type 0} (P Q : A → Type 0) → ((a : A) → P a → Q a) → (c : Step A) → Stepped P c → Stepped Q c
 step_so P Q so (again a) one = so a one
 step_so P Q so (done a) one = so a one
@@ -44,7 +44,7 @@ module _ {g : Given} {limit : ℕ} where
       UpTo g limit r P s
   unless {P = P} {r = r} {s = s} so = record { told = unless_above g limit {P = λ x t. P x} r s (λ b. (so b).told) }
 
-  -- what is given, and a fault
+  -- where P holds of a value, it does when that is given; of a fault nothing is asked
   pub gives : {X : Type 0} {P : X → Type 0} {x : X} {s : State} → P x → UpTo g limit (give x) P s
   gives so = record { told = record { told = λ b. so } }
 
@@ -52,7 +52,7 @@ module _ {g : Given} {limit : ℕ} where
       UpTo g limit (stop {X = X} kind at) P s
   stops = record { told = record { told = tt } }
 
-  -- what follows
+  -- what follows from P holds of what a form reads, where P does
   pub follows : {X : Type 0} {P Q : X → Type 0} {r : Form X} {s : State} → UpTo g limit r P s → ((x : X) → P x → Q x) →
       UpTo g limit r Q s
   follows one so = record { told = tells_so Whole g one.told (λ x t there. λ b. so x (there b)) }
@@ -97,17 +97,18 @@ module _ {g : Given} {limit : ℕ} where
   pub stands : {s : State} → UpTo g limit (see here) (λ p. p ≤ limit) s
   stands = record { told = record { told = λ b. b } }
 
-  -- one more element
+  -- where P holds of a row with one more element, it holds of what is read when that is added
   pub adds : {A : Type 0} {P : Row A → Type 0} {xs : Row A} {x : A} {s : State} → P (xs ++ x ∷ []) →
       UpTo g limit (push xs x) P s
   adds so = record { told = record { told = λ b. so } }
 
-  -- and so of each one of a row
+  -- where P holds of each element of a row and of one more, it holds of each once that is added
   pub pushes : {A : Type 0} (P : A → Type 0) {xs : Row A} {x : A} {s : State} → All P xs → P x →
       UpTo g limit (push xs x) (All P) s
   pushes P {xs = xs} {x = x} all one = adds (All-push P xs x all one)
 
-  -- one token
+  -- where P holds of what a form reads, it does when that is read as one token, whose span is within the
+  -- limit
   pub tokens : {X : Type 0} {P : X → Type 0} {how : Telling} {r : Form X} {s : State} → UpTo g limit r P s →
       UpTo g limit (token how r) (λ x. P x.0 × IsSpanWithin limit x.1) s
   tokens {P = P} {r = r} {s = s} one =

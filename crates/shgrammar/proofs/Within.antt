@@ -228,7 +228,7 @@ module _ (keep : Keep) (g : Given) (limit : ℕ) where
     word_fits s = after (λ p t. first (tokens (contents_fit _ p [] t (All-nil (SubstFits limit))))
         (λ w u good. gives (good.1, fits_substs limit w.0 good.0)))
 
-    -- ---- commands
+    -- ---- items, redirections and simple commands
 
     -- Each row of a command: where what it has so far fits within the limit, so does what it gives.
 
@@ -310,6 +310,8 @@ module _ (keep : Keep) (g : Given) (limit : ℕ) where
     simple_fits i s so = first (repeats ItemsFit (item_turn inner) item_turn_fits i s so)
         (λ is t all. gives (fits_simple limit is.items all))
 
+    -- ---- comments and joins
+
     -- a comment fits, where one stands, and so do the comments so far with it
     abbrev OwnComment : Option Span × Next → Type 0
     OwnComment x = MatchOption x.0 (Unit {0}) (CommentFits limit)
@@ -347,6 +349,8 @@ module _ (keep : Keep) (g : Given) (limit : ℕ) where
     unfolding a_join
     join_fits broken s = after (λ n t. first
         (repeats JoinFits join_turn join_turn_fits _ t (All-nil (CommentFits limit))) (λ j u all. gives all))
+
+    -- ---- commands of any kind, with the redirections after compound ones
 
     -- a compound command fits with the redirections after it
     redirect_turn_fits : (i : ItemsSoFar) (s : State) → ItemsFit i → R (redirect_turn inner i) (Stepped ItemsFit) s
@@ -391,6 +395,8 @@ module _ (keep : Keep) (g : Given) (limit : ℕ) where
         picks (is_word n.token) (word_command_fits s)
         (picks (begins_simple n.token) (simple_fits (items_so_far [] Command n) s (All-nil (ItemFits limit)))
         (compound_fits_by n (opener_of n.token) s))
+
+    -- ---- pipelines, and-or lists and entries
 
     -- the commands of a pipeline so far fit, with their joins
     abbrev PipesFit : PipesSoFar → Type 0

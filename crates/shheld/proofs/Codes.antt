@@ -169,7 +169,8 @@ from_ohere = from_option to_here from_here back_here
 pub back_ohere : (x : Option AHere) → from_ohere (to_ohere x) ≡ x
 back_ohere = back_option to_here from_here back_here
 
--- the mark of an item of a `case`, told by where it stands and whether it falls through; this one likewise
+-- the mark of an item of a `case`, told by where it stands and whether it falls through; this one where a
+-- code is of none
 abbrev pub any_mark : ACaseMark
 any_mark = record { mark = any_span; falls = false }
 

@@ -214,8 +214,7 @@ module _ (g : Given) where
       onward Command le ▹ λ n t so.
       tells_many Whole g join_turn JoinHanded join_turn_in _ t so ▹ λ j u good. gives good
 
-  -- after newlines that may stand where no operator does, and comments before them, a token is handed on in
-  -- the text
+  -- after comments and newlines, or none, a token is handed on in the text
   linebreak_in : (cs : Row Span) (n : Next) (s : State) → Handed n s → N (a_linebreak cs n) JoinHanded s
   unfolding a_linebreak
   linebreak_in cs n s so = tells_many Whole g join_turn JoinHanded join_turn_in _ s so
@@ -278,7 +277,7 @@ module _ (g : Given) where
       by_delimiter (Some d) = waits_in _ s le ▹ λ x t low. gives low
       by_delimiter None = record { told = tt }
 
-  -- ---- commands
+  -- ---- items, redirections and simple commands
 
   -- Each row of a command stays in the text, where what may be opened in it does.
 
@@ -338,6 +337,8 @@ module _ (g : Given) where
     simple_in i s so =
         tells_many Whole g (item_turn inner) ItemsHanded item_turn_in i s so ▹ λ j t good. gives good
 
+    -- ---- commands of any kind, with the redirections after compound ones
+
     -- after one more redirection of a compound command, or none, and after all of them, a token is handed on
     -- in the text
     redirect_turn_in : (i : ItemsSoFar) (s : State) → Handed i.next s
@@ -382,6 +383,8 @@ module _ (g : Given) where
     command_in n s so =
         picked_by (is_word n.token) (λ e. word_command_in s so.within)
         (picked_by (begins_simple n.token) (λ e. simple_in (items_so_far [] Command n) s so) (compound_in n s so))
+
+    -- ---- pipelines, and-or lists and entries
 
     -- after the `!` of a pipeline, or none, a token is handed on in the text
     bang_in : (n : Next) (s : State) → Handed n s → N (a_bang n) HandsOn s

@@ -91,7 +91,7 @@ abbrev pub at_line_start : Row AnEntry → Bool → Bool → Option ℕ → List
 at_line_start es blank commands parted =
     record { entries = es; blank = blank; begun = false; commands = commands; parted = parted }
 
--- after an entry of a line
+-- the entries so far, after one of them on its line
 abbrev pub on_this_line : Row AnEntry → Bool → Bool → Option ℕ → Listed
 on_this_line es blank commands parted =
     record { entries = es; blank = blank; begun = true; commands = commands; parted = parted }
@@ -107,7 +107,7 @@ module _ {edition : Edition} {B T : List ℕ} {o : ℕ} (S : StandsIn edition B 
     not_pipe : is_pipe token ≡ false
     no_operator : and_or_operator_of token ≡ None
 
-  -- a newline is told there
+  -- at the end of a line a newline is told
   line_follower : (rest : Marks) → Follower S (line_end ∷ rest) tokens.Newline
   unfolding laid_after
   line_follower rest = record {
@@ -183,7 +183,7 @@ module _ {edition : Edition} {B T : List ℕ} {o : ℕ} (S : StandsIn edition B 
         no_operator = refl;
       }
 
-  -- the separator
+  -- what is read of the separator of an entry, `&` in the background and else none
   record SeparatorRead (h : Held) (e : ℕ) (background : Bool) (ms : Marks) : Type 0 where
     separator : Option ASeparator
     f : ℕ
@@ -193,7 +193,7 @@ module _ {edition : Edition} {B T : List ℕ} {o : ℕ} (S : StandsIn edition B 
     background_is : is_background separator ≡ background
     parted_is : is_some (past_separator separator) ≡ background
 
-  -- another token is no separator
+  -- where another token stands no separator is read
   no_separator : (h : Held) (n : Next) (q : ℕ) → separator_of n.token ≡ None →
       Gives (g S) (a_separator n) (state h q) (None, n) (state h q)
   unfolding a_separator
@@ -251,7 +251,7 @@ module _ {edition : Edition} {B T : List ℕ} {o : ℕ} (S : StandsIn edition B 
     parted_is = refl;
   }
 
-  -- the comment of an entry, and then the end of its line
+  -- what is read of the comment of an entry, or of none, up to the end of its line
   record OwnRead (h : Held) (f : ℕ) (comment : Option Text) (rest : Marks) : Type 0 where
     own : Option Span
     «end» : ℕ
@@ -296,7 +296,7 @@ module _ {edition : Edition} {B T : List ℕ} {o : ℕ} (S : StandsIn edition B 
   unfolding a_remark
   no_remark h l n p e = no_comment_read S h n p e ⟫ given_here
 
-  -- the end of a line
+  -- at the end of a line a newline token stands, and no blank or comment before it
   pub record LineEnd (h : Held) (e : ℕ) (rest : Marks) : Type 0 where
     pub n_is : asked S Command e ≡ record { token = tokens.Newline; broken = false }
     pub q_is : past_blanks T e ≡ e
@@ -321,6 +321,7 @@ module _ {edition : Edition} {B T : List ℕ} {o : ℕ} (S : StandsIn edition B 
   unfolding token_at
   pipeline_within p b = by_byte (byte_at T p) refl
     where
+      -- a pipeline begins with a byte that stands in the text
       by_byte : (x : Option ℕ) → byte_at T p ≡ x → p < length T
       by_byte None e = absurd (both_ways (begins_pipeline (token_in edition (token_of Command T p (byte_at T p))))
           (ap (λ x. begins_pipeline (token_in edition (token_of Command T p x))) e) b.begins)
@@ -336,7 +337,7 @@ module _ {edition : Edition} {B T : List ℕ} {o : ℕ} {S : StandsIn edition B 
     (fine : Fine S room y) where
   -- ---- entries
 
-  -- an entry up to the end of its line
+  -- what is read of an entry, with the offset after its separator, up to the end of its line
   pub record EntryRead (h : Held) (blank : Bool) (n : Next) (p : ℕ) (a : Shape AnAndOrOf) (background : Bool)
       (comment : Option Text) (rest : Marks) : Type 0 where
     pub value : AnEntry
@@ -368,7 +369,7 @@ module _ {edition : Edition} {B T : List ℕ} {o : ℕ} {S : StandsIn edition B 
   unfolding open_entry open_content
   entry_shape blank background a c x comment e f = rw (e, f) refl
 
-  -- it is read there
+  -- an entry is read as it is printed, up to the end of its line
   pub entry_read : (h : Held) (m : Text) (blank : Bool) (a : Shape AnAndOrOf) (background : Bool)
       (comment : Option Text) (n : Next) (p : ℕ) (rest : Marks) → all_blank m ≡ true → GoodAndOr edition room a
       → GoodOwnComment comment → is_normal_and_or a ≡ true → n.token ≡ told S Command p →
@@ -406,20 +407,20 @@ module _ {edition : Edition} {B T : List ℕ} {o : ℕ} {S : StandsIn edition B 
 
   -- ---- lines of a list
 
-  -- no entry begins here
+  -- where no pipeline begins the turns on a line end
   pub no_entry_turn : (h : Held) (l : Listed) (n : Next) (p : ℕ) → begins_pipeline n.token ≡ false →
       Gives (g S) (entry_turn (level room) (list_so_far l n)) (state h p) (done (list_so_far l n)) (state h p)
   unfolding entry_turn
   no_entry_turn h l n p e = second_of _ _ e given_here
 
-  -- a line without entries, up to what ends it
+  -- where neither a pipeline nor a comment begins nothing is read on a line
   pub nothing_on_line : (h : Held) (l : Listed) (n : Next) (p : ℕ) → begins_pipeline n.token ≡ false →
       raw_stands T p number_sign ≡ false →
       Gives (g S) (on_line (level room) (list_so_far l n)) (state h p) (list_so_far l n) (state h p)
   unfolding on_line
   nothing_on_line h l n p e f = last_turn (entry_turn (level room)) (no_entry_turn h l n p e) ⟫ no_remark S h l n p f
 
-  -- an entry on its line
+  -- what is read of an entry alone on its line, up to its end: one entry more than those so far
   pub record OnLine (h : Held) (acc : Row AnEntry) (blank commands : Bool) (before : Option ℕ) (n : Next) (p : ℕ)
       (e : Shape AnEntryOf) (is_a_command : Bool) (rest : Marks) : Type 0 where
     pub value : AnEntry
@@ -433,7 +434,7 @@ module _ {edition : Edition} {B T : List ℕ} {o : ℕ} {S : StandsIn edition B 
     pub shape : shape_of_entry B value ≡ open_entry [] e
     pub texts : Adds S h later (entry_bodies e)
 
-  -- the one entry of a line, by what is read of it
+  -- the turns on a line read its one entry, by what is known of it
   one_entry_by : (h : Held) (acc : Row AnEntry) (blank commands : Bool) (before : Option ℕ) (n : Next) (p : ℕ)
       (a : Shape AnAndOrOf) (background : Bool) (comment : Option Text) (rest : Marks)
       → begins_pipeline n.token ≡ true → p < length T →
@@ -462,7 +463,7 @@ module _ {edition : Edition} {B T : List ℕ} {o : ℕ} {S : StandsIn edition B 
       (state h p)
       (step_if b more) (state r.later (past_blanks T r.«end»))) r.parted_is turned)
 
-  -- a command on its line
+  -- a command is read on its line
   command_on_line : (h : Held) (m : Text) (acc : Row AnEntry) (blank commands : Bool) (before : Option ℕ)
       (a : Shape AnAndOrOf) (background : Bool) (comment : Option Text) (n : Next) (p : ℕ) (rest : Marks) →
       all_blank m ≡ true
@@ -499,6 +500,7 @@ module _ {edition : Edition} {B T : List ℕ} {o : ℕ} {S : StandsIn edition B 
         texts = r.texts;
       }
     where
+      -- between a place where a pipeline begins and one where the line ends the reading has moved
       must_move : (h : Held) (p q : ℕ) → p ≤ q → PipelineBegins S p → At S h q (line_end ∷ rest) → p < q
       must_move h p q low b at_q =
           ⊎_elim (λ lt. lt) (λ ge. let same : p ≡ q = omega (arith, low, ge) in
@@ -508,7 +510,7 @@ module _ {edition : Edition} {B T : List ℕ} {o : ℕ} {S : StandsIn edition B 
           (subst (λ r. drop r T ≡ newline_char ∷ after_line h rest) (sym same) (at_q ∙ laid_line h rest)))))))
           (cases_lt p q)
 
-  -- a comment on a line of its own
+  -- a comment is read on a line of its own
   remark_on_line : (h : Held) (acc : Row AnEntry) (blank commands : Bool) (before : Option ℕ) (c : Text)
       (n : Next) (p : ℕ) (rest : Marks) → CommentAnywhere c → n.token ≡ told S Command p →
       At S h p (text c ∷ line_end ∷ rest)
@@ -537,6 +539,7 @@ module _ {edition : Edition} {B T : List ℕ} {o : ℕ} {S : StandsIn edition B 
         texts = λ ts. refl;
       }
     where
+      -- the entry has the shape of the comment
       remark_shape : (h : Held) (blank : Bool) (c : Text) (p : ℕ) → At S h p (text c ∷ line_end ∷ rest) →
           shape_of_entry B (entry (remark (span o p (p + length c))) false (blank && true) None)
           ≡ entry (remark c) false blank None
@@ -563,7 +566,7 @@ module _ {edition : Edition} {B T : List ℕ} {o : ℕ} {S : StandsIn edition B 
   entry_on_line h m acc blank commands before (remark c) false
       (Some d) n p rest blank_m good good_c normal token_is at = absurd cc
 
-  -- either begins where it is printed
+  -- a command or a comment begins where it is printed
   pub content_start : (h : Held) (m : Text) (what : Shape AContentOf) (background blank : Bool)
       (comment : Option Text) (p : ℕ) (rest : Marks) → GoodContent edition room what → GoodOwnComment comment
       → is_normal_entry (entry what background blank comment) ≡ true →
@@ -576,7 +579,7 @@ module _ {edition : Edition} {B T : List ℕ} {o : ℕ} {S : StandsIn edition B 
   content_start h m (remark c) true blank comment p rest good good_c normal at = absurd cc
   content_start h m (remark c) false blank (Some d) p rest good good_c normal at = absurd cc
 
-  -- an entry and the newline after it
+  -- what a turn of a list reads of an entry and the newline after it, and that it goes on
   record LineRead (h : Held) (acc : Row AnEntry) (blank commands : Bool) (before : Option ℕ) (n : Next) (p : ℕ)
       (x : Shape AnEntryOf) (rest : Marks) : Type 0 where
     value : AnEntry
@@ -617,7 +620,8 @@ module _ {edition : Edition} {B T : List ℕ} {o : ℕ} {S : StandsIn edition B 
         texts = λ ts. z.texts ts ∙ r.texts ts;
       }
 
-  -- a line without entries
+  -- what a turn of a list reads of a line without entries: where entries stand before it the next one is
+  -- blank
   pub record EmptyLine (h : Held) (acc : Row AnEntry) (blank commands : Bool) (before : Option ℕ) (e : ℕ)
       (rest : Marks) : Type 0 where
     pub later : Held
@@ -631,7 +635,7 @@ module _ {edition : Edition} {B T : List ℕ} {o : ℕ} {S : StandsIn edition B 
     pub on : leads_on (g S) (state h (past_blanks T e)) (state later (past_blanks T q)) ≡ true
     pub texts : Adds S h later no_more
 
-  -- so is an empty line
+  -- an empty line is read
   pub empty_line : (h : Held) (acc : Row AnEntry) (blank commands : Bool) (before : Option ℕ) (e : ℕ) (rest : Marks) →
       At S h e (line_end ∷ rest) → EmptyLine h acc blank commands before e rest
   unfolding list_turn
@@ -651,7 +655,7 @@ module _ {edition : Edition} {B T : List ℕ} {o : ℕ} {S : StandsIn edition B 
         texts = z.texts;
       }
 
-  -- what is read of a list, up to what closes it
+  -- what is read of the lines of a list, up to what closes it
   pub record ListRead (h : Held) (acc : Row AnEntry) (commands : Bool) (before : Option ℕ) (n : Next) (p : ℕ)
       (es : Shape EntriesOf) (rest : Marks) : Type 0 where
     pub value : Row AnEntry
@@ -679,7 +683,7 @@ module _ {edition : Edition} {B T : List ℕ} {o : ℕ} {S : StandsIn edition B 
       (past_blanks T e) c.not_entry c.not_comment ⟫ no_newline_read S h (asked S Command e)
       (past_blanks T e) c.not_newline ⟫ given_here
 
-  -- a row of lines of which the first entry is blank or not
+  -- what is read of the lines of a list, of which the first entry is blank or not
   record ListBy (h : Held) (acc : Row AnEntry) (first_blank commands : Bool) (before : Option ℕ) (e : ℕ)
       (es : Shape EntriesOf) (rest : Marks) : Type 0 where
     value : Row AnEntry
@@ -695,7 +699,7 @@ module _ {edition : Edition} {B T : List ℕ} {o : ℕ} {S : StandsIn edition B 
     shape : shape_of B (entries_of value) ≡ opened [] es
     texts : Adds S h later (entries_bodies es)
 
-  -- one line more in front
+  -- a line that is read, and the further ones that are, make one row of entries
   list_turned : (h k later : Held) (acc : Row AnEntry) (b commands : Bool) (before between last : Option ℕ)
       (n : Next) (p : ℕ) (v : AnEntry) (c : Bool) (next : Next) (r : ℕ) (vs : Row AnEntry) (blank d : Bool)
       (z : Next) (f : ℕ)
@@ -725,7 +729,7 @@ module _ {edition : Edition} {B T : List ℕ} {o : ℕ} {S : StandsIn edition B 
   unfolding opened
   entries_shape v vs x es e f = rw (e, f) refl
 
-  -- the first line of a row of them, from where its margin begins
+  -- the first line of a list is read, from where its margin begins
   first_line : (h : Held) (d : Text) (acc : Row AnEntry) (blank commands : Bool) (before : Option ℕ)
       (what : Shape AContentOf) (background : Bool) (comment : Option Text) (e : ℕ) (rest : Marks) →
       all_blank d ≡ true
@@ -745,7 +749,7 @@ module _ {edition : Edition} {B T : List ℕ} {o : ℕ} {S : StandsIn edition B 
       (entry_on_line h d acc blank commands before what background comment
       (asked S Command e) q rest blank_d good good_c normal refl at_q)
 
-  -- the first line with its margin, and then the others by what is known of them
+  -- the lines of a list are read: the first with its margin, and then the others by what is known of them
   list_by : (h : Held) (d : Text) (what : Shape AContentOf) (background blank : Bool) (comment : Option Text)
       (es : Shape EntriesOf) (acc : Row AnEntry) (commands : Bool) (before : Option ℕ) (e : ℕ) (rest : Marks) →
       all_blank d ≡ true

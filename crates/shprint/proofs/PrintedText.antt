@@ -84,7 +84,7 @@ blank_join : (a b : Text) → all_blank a ≡ true → all_blank b ≡ true → 
 blank_join [] b one two = two
 blank_join (c ∷ a) b one two = let parts = and_parts _ _ one in and_from _ _ parts.0 (blank_join a b parts.1 two)
 
--- a margin that is one step deeper is of blanks
+-- a step is of blanks, and so is a margin that is one step deeper
 step_blank : (y : Layout) → all_blank (step y) ≡ true
 step_blank y = cond_both (y.indent == 0) (codes "\t") (replicate y.indent space) (λ t. all_blank t ≡ true) (λ e. refl)
     (λ e. all_spaces y.indent)
@@ -96,7 +96,7 @@ deeper_blank y m blank = blank_join m (step y) blank (step_blank y)
 abbrev pub Some_byte : Text → Type 0
 Some_byte t = (c : ℕ) × (cs : Text) × (t ≡ c ∷ cs)
 
--- a deeper margin has a byte
+-- one space or more has a byte, and so have a step and a deeper margin
 some_spaces : (n : ℕ) → (n == 0) ≡ false → Some_byte (replicate n space)
 some_spaces zero e = absurd cc
 some_spaces (suc n) e = (space, replicate n space, refl)
@@ -109,7 +109,7 @@ pub deeper_some : (y : Layout) (m : Text) → Some_byte (deeper y m)
 deeper_some y [] = step_some y
 deeper_some y (c ∷ m) = (c, m ++ step y, refl)
 
--- the margin of an operand
+-- the margin of an operand is of blanks
 pub operand_blank : (y : Layout) (m : Text) (b : Bool) → all_blank m ≡ true → all_blank (operand_margin y m b) ≡ true
 operand_blank y m true blank = deeper_blank y m blank
 operand_blank y m false blank = blank
@@ -144,6 +144,7 @@ no_other tokens.Comment e = absurd cc
 no_other tokens.Number e = record { newline = refl; comment = refl; bang = refl }
 no_other (tokens.Reserved r) e = record { newline = refl; comment = refl; bang = no_bang r e }
   where
+    -- a reserved word that begins a command is not `!`
     no_bang : (r : Reserved) → begins_command (tokens.Reserved r) ≡ true → is_bang (tokens.Reserved r) ≡ false
     no_bang reserved.Bang e = absurd cc
     no_bang reserved.OpenBrace e = refl
@@ -233,7 +234,7 @@ module _ {edition : Edition} {B T : List ℕ} {o : ℕ} (S : StandsIn edition B 
       asked position e ≡ record { token = told position q; broken = broken }
   asked_after position gap = ap (next_in edition) (next_after position gap)
 
-  -- so is a token, and a word whatever the edition
+  -- the edition makes the same of equal tokens, and leaves a word as it is
   pub tell : {s t : Token} → s ≡ t → token_in edition s ≡ token_in edition t
   tell e = ap (token_in edition) e
 
@@ -256,18 +257,18 @@ module _ {edition : Edition} {B T : List ℕ} {o : ℕ} (S : StandsIn edition B 
       Gives (g S) (move one_byte) (state h p) tt (state h (p + 1))
   one_moved h p on = subst (λ q. Gives (g S) (move one_byte) (state h p) tt (state h q)) on (moved_here one_byte)
 
-  -- a word that is printed here
+  -- a word that is printed here is read, up to its end
   pub printed_word : (room : ℕ) (h : Held) (w : Text) (ss : Shape SubstsOf) (p : ℕ)
       (v : WordOf room (g S) p (length w) B (word w ss)) →
       Gives (g S) (a_word (level room)) (state h p) v.0 (state h (p + length w))
   printed_word room h w ss p v = gives _ (word_waiting room (g S) p (p + length w) v.0 _ (state h p) v.1.0)
 
-  -- one byte that is read as it stands
+  -- one byte that is read as it stands is passed
   pub byte_moved : (h : Held) (p c : ℕ) (xs : Text) → (c == backslash) ≡ false → drop p T ≡ c ∷ xs →
       Gives (g S) (move one_byte) (state h p) tt (state h (p + 1))
   byte_moved h p c xs clear at = one_moved h p (byte_here T p c xs clear at).place_after
 
-  -- the second of two bytes
+  -- of two bytes that stand here the second stands one place on
   pub byte_after : (p c d : ℕ) (xs : Text) → drop p T ≡ c ∷ d ∷ xs → drop (p + 1) T ≡ d ∷ xs
   byte_after p c d xs at = skip T p (c ∷ []) (d ∷ xs) at
 
@@ -321,7 +322,7 @@ module _ {edition : Edition} {B T : List ℕ} {o : ℕ} (S : StandsIn edition B 
         gap.blanks,
       )
 
-  -- what is read of a newline
+  -- what is read of a newline and the bodies after it, up to the next token: no document is added
   pub record NewlineRead (h : Held) (n : Next) (p : ℕ) (ms : Marks) : Type 0 where
     pub later : Held
     pub q : ℕ
@@ -330,7 +331,7 @@ module _ {edition : Edition} {B T : List ℕ} {o : ℕ} (S : StandsIn edition B 
     pub reads : Gives (g S) (a_newline n) (state h p) (true, asked Command q) (state later (past_blanks T q))
     pub texts : Adds h later no_more
 
-  -- a newline, and the bodies that wait for it
+  -- a newline is read with the bodies that wait for it
   pub newline_read : (h : Held) (n : Next) (p : ℕ) (ms : Marks) → is_newline_token n.token ≡ true →
       At S h p (line_end ∷ ms) → NewlineRead h n p ms
   unfolding a_newline
@@ -358,7 +359,7 @@ module _ {edition : Edition} {B T : List ℕ} {o : ℕ} (S : StandsIn edition B 
   unfolding a_comment comment_at
   no_comment_read h n p none = seen_here the_comment ⟫ (rw none given_here)
 
-  -- a comment, up to the end of its line
+  -- a comment is read, up to the end of its line
   pub comment_read : (h : Held) (c : Text) (n : Next) (p : ℕ) (ms : Marks) → CommentAnywhere c →
       At S h p (text c ∷ line_end ∷ ms)
       → Gives (g S) (a_comment n) (state h p) (Some (span o p (p + length c)), asked Command (p + length c))
@@ -371,12 +372,12 @@ module _ {edition : Edition} {B T : List ℕ} {o : ℕ} (S : StandsIn edition B 
       subst (λ q. Gives (g S) (move a_comment_on) (state h p) tt (state h q)) found.1 (moved_here a_comment_on) in
       seen_here the_comment ⟫ (rw found.0 (moved ⟫ next_read h Command (p + length c) ⟫ given_here))
 
-  -- its span has its text
+  -- the text at the span of a comment is the comment
   pub comment_shape : (h : Held) (c : Text) (p : ℕ) (ms : Marks) → At S h p (text c ∷ ms) →
       text_at B (span o p (p + length c)) ≡ c
   comment_shape h c p ms at = text_of_span S p c (lay h ms) (at ∙ laid_text h c ms)
 
-  -- where a comment begins
+  -- a token begins where a comment does
   pub comment_start : (h : Held) (c : Text) (p : ℕ) (ms : Marks) → CommentAnywhere c →
       At S h p (text c ∷ line_end ∷ ms) → Start T p
   comment_start h c p ms good at =
@@ -386,20 +387,20 @@ module _ {edition : Edition} {B T : List ℕ} {o : ℕ} (S : StandsIn edition B 
 
   -- ---- gaps
 
-  -- after a margin
+  -- a margin is a gap up to what stands after it, in which no continuation stands
   pub margin_gap : (h : Held) (m : Text) (e : ℕ) (ms : Marks) → all_blank m ≡ true → At S h e (text m ∷ ms) →
       Start T (e + length m) → Gap T e (e + length m) false
   margin_gap h m e ms blank at s = blanks_gap T e m (lay h ms) blank (at ∙ laid_text h m ms) s
 
   -- ---- joins
 
-  -- what an operand begins with
+  -- an operand begins with a token that is neither a comment nor a newline
   pub record Operand (p : ℕ) : Type 0 where
     pub start : Start T p
     pub no_comment : raw_stands T p number_sign ≡ false
     pub no_newline : is_newline_token (told Command p) ≡ false
 
-  -- the turns of a join: none, a comment and its newline, a newline
+  -- where neither a comment nor a newline stands the turns of a join end
   pub last_join_turn : (h : Held) (b : Bool) (acc : Row Span) (n : Next) (p : ℕ) → raw_stands T p number_sign ≡ false →
       is_newline_token n.token ≡ false
       → Gives (g S) (join_turn (join_so_far (a_join_of b acc) n)) (state h p) (done (join_so_far (a_join_of b acc) n))
@@ -410,7 +411,7 @@ module _ {edition : Edition} {B T : List ℕ} {o : ℕ} (S : StandsIn edition B 
       ⟫ subst (λ c. Gives (g S) (give (done (join_so_far (a_join_of c acc) n))) (state h p)
       (done (join_so_far (a_join_of b acc) n)) (state h p)) (sym (or-false (b || false) ∙ or-false b)) given_here
 
-  -- a turn that read the end of a line
+  -- what a turn of a join reads up to the end of a line: it is broken then, and the turns go on
   pub record TurnRead (h : Held) (b : Bool) (acc all : Row Span) (n : Next) (p : ℕ) (ms : Marks) : Type 0 where
     pub later : Held
     pub q : ℕ
@@ -420,12 +421,12 @@ module _ {edition : Edition} {B T : List ℕ} {o : ℕ} (S : StandsIn edition B 
     pub on : leads_on (g S) (state h p) (state later (past_blanks T q)) ≡ true
     pub texts : Adds h later no_more
 
-  -- it stands in the text
+  -- a comment that stands here begins before the end of the text
   comment_within : (h : Held) (c : Text) (p : ℕ) (ms : Marks) → CommentAnywhere c → At S h p (text c ∷ ms) →
       p < length T
   comment_within h c p ms good at = some_word p c (lay h ms) good.some (at ∙ laid_text h c ms)
 
-  -- a comment with the newline after it
+  -- a turn reads a comment with the newline after it
   pub comment_join_turn : (h : Held) (c : Text) (b : Bool) (acc : Row Span) (n : Next) (p : ℕ) (ms : Marks) →
       CommentAnywhere c → At S h p (text c ∷ line_end ∷ ms)
       → TurnRead h b acc (acc ++ span o p (p + length c) ∷ []) n p ms
@@ -453,7 +454,7 @@ module _ {edition : Edition} {B T : List ℕ} {o : ℕ} (S : StandsIn edition B 
         texts = r.texts;
       }
 
-  -- a newline alone
+  -- a turn reads a newline alone
   pub newline_join_turn : (h : Held) (b : Bool) (acc : Row Span) (n : Next) (p : ℕ) (ms : Marks) →
       is_newline_token n.token ≡ true → At S h p (line_end ∷ ms) → TurnRead h b acc acc n p ms
   unfolding join_turn
@@ -496,7 +497,7 @@ module _ {edition : Edition} {B T : List ℕ} {o : ℕ} (S : StandsIn edition B 
       shape_of_comments B ss ≡ cs → shape_of_comments B (s ∷ ss) ≡ c ∷ cs
   cons_shape s ss c cs e f = rw (e, f) refl
 
-  -- one comment more in front
+  -- a comment before those that are read, and those, are one row of comments
   pub joined : (h later : Held) (b : Bool) (n : Next) (p : ℕ) (acc : Row Span) (s : Span) (ss : Row Span) (q : ℕ)
       (next : Next)
       → Gives (g S) (many join_turn (join_so_far (a_join_of b acc) n)) (state h p)
@@ -507,7 +508,7 @@ module _ {edition : Edition} {B T : List ℕ} {o : ℕ} (S : StandsIn edition B 
       subst (λ all. Gives (g S) (many join_turn (join_so_far (a_join_of b acc) n)) (state h p)
       (join_so_far (a_join_of true all) next) (state later q)) (append_assoc acc (s ∷ []) ss) r
 
-  -- after an operator: the join, and where its operand begins
+  -- what is read after an operator: the join, and where its operand begins
   pub record JoinRead (h : Held) (e : ℕ) (j : AJoinOf Text) (ms : Marks) : Type 0 where
     pub join : AJoin
     pub q : ℕ
@@ -521,7 +522,7 @@ module _ {edition : Edition} {B T : List ℕ} {o : ℕ} (S : StandsIn edition B 
 
   module _ (d : Text) (blank : all_blank d ≡ true) (ms : Marks)
       (operand : (h : Held) (p : ℕ) → At S h p ms → Operand p) where
-    -- after a newline the margin of the operand
+    -- after a newline the margin of the operand is passed, and no comment is read
     operand_line : (h : Held) (b : Bool) (acc : Row Span) (e : ℕ) → At S h e (text d ∷ ms) →
         JoinLines h true acc (asked Command e) (past_blanks T e) [] ms
     operand_line h b acc e at =
@@ -547,7 +548,7 @@ module _ {edition : Edition} {B T : List ℕ} {o : ℕ} (S : StandsIn edition B 
     abbrev further : Row Text → Marks
     further cs = print_further_comments d cs ++ (line_end ∷ text d ∷ ms)
 
-    -- such a comment begins a token
+    -- a token begins where such a comment does
     further_start : (h : Held) (c : Text) (cs : Row Text) (p : ℕ) → CommentAnywhere c → At S h p (text c ∷ further cs) →
         Start T p
     further_start h c [] p good at = comment_start h c p (text d ∷ ms) good at
@@ -595,7 +596,7 @@ module _ {edition : Edition} {B T : List ℕ} {o : ℕ} (S : StandsIn edition B 
           texts = λ ts. rest.texts ts ∙ turn.texts ts;
         }
 
-    -- the line is broken
+    -- where the lines of a join are read, a broken join is
     join_of : (h : Held) (e : ℕ) (cs : Row Text) →
         JoinLines h (is_broken_at T e) [] (asked Command e) (past_blanks T e) cs ms →
         JoinRead h e (record { broken = true; comments = cs }) ms
@@ -612,7 +613,7 @@ module _ {edition : Edition} {B T : List ℕ} {o : ℕ} (S : StandsIn edition B 
       texts = r.texts;
     }
 
-    -- it is not
+    -- a join with a space alone is read as one that is not broken
     join_on_line : (h : Held) (e : ℕ) → At S h e (text (codes " ") ∷ ms) →
         JoinRead h e (record { broken = false; comments = [] }) ms
     unfolding a_join
@@ -640,7 +641,7 @@ module _ {edition : Edition} {B T : List ℕ} {o : ℕ} (S : StandsIn edition B 
           texts = λ ts. refl;
         }
 
-    -- a newline without a comment
+    -- a newline without a comment is read, and then the margin of the operand
     pub newline_lines : (h : Held) (b : Bool) (e : ℕ) → At S h e (line_end ∷ text d ∷ ms) →
         JoinLines h b [] (asked Command e) (past_blanks T e) [] ms
     newline_lines h b e at =
@@ -662,7 +663,7 @@ module _ {edition : Edition} {B T : List ℕ} {o : ℕ} (S : StandsIn edition B 
           texts = λ ts. rest.texts ts ∙ turn.texts ts;
         }
 
-    -- comments
+    -- comments after a space are read, and then the margin of the operand
     pub commented : (h : Held) (b : Bool) (c : Text) (cs : Row Text) (e : ℕ) → GoodComments (c ∷ cs) →
         At S h e (text (codes " ") ∷ text c ∷ further cs) →
         JoinLines h b [] (asked Command e) (past_blanks T e) (c ∷ cs) ms
@@ -699,7 +700,7 @@ module _ {edition : Edition} {B T : List ℕ} {o : ℕ} (S : StandsIn edition B 
   follower_after {t = t} f none h e at =
       record { token = t; seen_as = f.seen_as h e at; no_item = none; no_round = f.no_round }
 
-  -- an operator after a space
+  -- a space is a gap up to an operator
   pub space_then : (h : Held) (e : ℕ) (c : ℕ) (cs : Text) (ms : Marks) → (c == backslash) ≡ false → is_blank c ≡ false →
       At S h e (text (codes " ") ∷ text (c ∷ cs) ∷ ms) → Gap T e (e + 1) false
   space_then h e c cs ms clear no_blank at =

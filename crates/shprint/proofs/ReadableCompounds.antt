@@ -60,10 +60,12 @@ module _ (B : List ℕ) (g : Given) (here : g.text ≡ drop g.offset B) where
     abbrev OpenForm : Row Due → AForm → Row Due → Type 0
     OpenForm D f E = Opens g fill_form (λ h. GoodForm g.edition room (shape_of_form B h)) D f E
 
+    -- a row of entries: with their bodies they are good. Their documents are those that E has after D.
     abbrev OpenRow : Row Due → Row AnEntry → Row Due → Type 0
     OpenRow D es E = Opens g (fill_all g fill_entry)
         (λ ls. GoodEntries g.edition room (shape_of B (entries_of ls))) D es E
 
+    -- entries as a list, a branch, an `else` or none, and an item of a case: each is good with its bodies
     abbrev OpenEntries : Row Due → Entries → Row Due → Type 0
     OpenEntries D es E = Opens g fill_entries (λ ls. GoodEntries g.edition room (shape_of B ls)) D es E
 
@@ -87,6 +89,8 @@ module _ (B : List ℕ) (g : Given) (here : g.text ≡ drop g.offset B) where
     module _ (fine : Fine B g here room) where
       -- ---- lists
 
+      -- the entries of the list so far are good with their bodies; their documents are those that D has
+      -- after C
       abbrev Listing : Row Due → ListSoFar → Row Due → ℕ → Type 0
       Listing C l D p = OpenRow C l.list.entries D
 
@@ -94,11 +98,14 @@ module _ (B : List ℕ) (g : Given) (here : g.text ≡ drop g.offset B) where
       abbrev ListOn : Row Due → ListSoFar → Row Due → ℕ → Type 0
       ListOn C l D p = Listing C l D p × Stands g Command l.next p
 
+      -- entries that are good, and one more that is, are good together
       entry_more : {C D E : Row Due} (es : Row AnEntry) (e : AnEntry) → OpenRow C es D → OpenEntry B g here room D e E →
           OpenRow C (es ++ e ∷ []) E
       entry_more es e all one = opens_last g es e
           (λ ls l good more. entries_join B g.edition room ls (l ∷ []) good (more, tt)) all one
 
+      -- one more entry is read, and the entries are good; where a separator parts it from a next one, the
+      -- next token stands where a command may begin
       reads_one_entry : (C : Row Due) (l : ListSoFar) (D : Row Due) (p : ℕ) → ListOn C l D p →
           Adds g D (one_entry inner l) (Turns g (ListOn C) (Listing C)) p
       unfolding one_entry
@@ -108,17 +115,20 @@ module _ (B : List ℕ) (g : Given) (here : g.text ≡ drop g.offset B) where
           add_pushes g (add_gives g (turns_if g (ListOn C) (Listing C) (is_some x.parted) _ E e
           (λ on. (all, one.1 on)) all)))
 
+      -- so the entries are good after each turn on a line, which reads one more where a pipeline begins
       reads_entry_turn : (C : Row Due) (l : ListSoFar) (D : Row Due) (p : ℕ) → ListOn C l D p →
           Adds g D (entry_turn inner l) (Turns g (ListOn C) (Listing C)) p
       unfolding entry_turn
       reads_entry_turn C l D p so =
           add_picks g (begins_pipeline l.next.token) (λ is. reads_one_entry C l D p so) (add_gives g so.0)
 
+      -- a comment on a line of its own is a good entry and has no documents
       remark_open : {D : Row Due} (c : Span) (blank : Bool) → CommentAnywhere (text_at B c) →
           OpenEntry B g here room D (entry (remark c) false blank None) D
       unfolding fill_entry fill_content
       remark_open c blank good = opens_nothing g (entry (remark c) false blank None) (λ ts. refl) (good, tt)
 
+      -- after the entries of a line a comment is read, or none, and the entries are good with it
       reads_remark : (C : Row Due) (l : ListSoFar) (D : Row Due) (p : ℕ) → Listing C l D p →
           Adds g D (a_remark l) (Listing C) p
       unfolding a_remark
@@ -132,6 +142,7 @@ module _ (B : List ℕ) (g : Given) (here : g.text ≡ drop g.offset B) where
               (entry (remark c) false (is_blank_next l.list) None) so (remark_open c (is_blank_next l.list) one)))
           by_comment (None, n) e one = add_gives g so
 
+      -- what stands on one line is read, and the entries are good with those of the line
       reads_on_line : (C : Row Due) (l : ListSoFar) (D : Row Due) (p : ℕ) → ListOn C l D p →
           Adds g D (on_line inner l) (Listing C) p
       unfolding on_line
@@ -139,6 +150,7 @@ module _ (B : List ℕ) (g : Given) (here : g.text ≡ drop g.offset B) where
           add_first g (add_repeats g (entry_turn inner) (ListOn C) (ListOn C) (Listing C) (reads_entry_turn C)
           (λ m E d on. on) (λ m E d on. on.0) l D p so) (λ m E e all. reads_remark C m E e all)
 
+      -- so they are after a turn of a list: what stands on a line, and then a newline or none
       reads_list_turn : (C : Row Due) (l : ListSoFar) (D : Row Due) (p : ℕ) → ListOn C l D p →
           Adds g D (list_turn inner l) (Turns g (ListOn C) (Listing C)) p
       unfolding list_turn
@@ -147,12 +159,14 @@ module _ (B : List ℕ) (g : Given) (here : g.text ≡ drop g.offset B) where
           (λ m E e all. read_first g (reads_newline g ⊥ m.next e (λ no. absurd no)) (λ x f more.
           add_gives g (turns_if g (ListOn C) (Listing C) x.0 _ E f (λ on. (all, more.1 on)) all)))
 
+      -- all lines of a list are read, and their entries are good
       reads_lines : (n : Next) (D : Row Due) (p : ℕ) → Stands g Command n p →
           Adds g D (many (list_turn inner) (list_so_far (none_listed false) n)) (Listing D) p
       reads_lines n D p so =
           add_repeats g (list_turn inner) (ListOn D) (ListOn D) (Listing D) (reads_list_turn D) (λ l E d on. on)
           (λ l E d on. on.0) (list_so_far (none_listed false) n) D p (opens_none g fill_entry tt, so)
 
+      -- a list is read as good entries; where it has no command no row goes on
       reads_list : (n : Next) (D : Row Due) (p : ℕ) → Stands g Command n p →
           Adds g D (a_list inner n) (λ x E e. OpenEntries D x.0 E) p
       unfolding a_list
@@ -163,6 +177,7 @@ module _ (B : List ℕ) (g : Given) (here : g.text ≡ drop g.offset B) where
 
       -- ---- a line
 
+      -- where a text ends without a newline all documents have their bodies, or the row stops
       none_waiting : (D : Row Due) (p : ℕ) (ws : Row Waiting) (bs : Row Span) → Docs g D ws bs
           → Tells Whole g (nothing_waits >> give false) (λ x t. Feeds g D t.bodies [])
           (record { at = p; waiting = ws; bodies = bs })
@@ -195,6 +210,7 @@ module _ (B : List ℕ) (g : Given) (here : g.text ≡ drop g.offset B) where
           ∙ ap (λ ts. entries_of (fill_all g fill_entry es ts).0) r.1 in
           subst (λ (ls : Entries). GoodEntries g.edition room (shape_of B ls)) (sym is) r.2
 
+      -- the entries of a line that was read are good with the bodies that were read after it
       reads_open_line : (blank : Bool) (p : ℕ) →
           Tells Whole g (an_open_line inner blank)
           (λ x t. GoodEntries g.edition room (shape_of B (entries_of (filled_row t.bodies x.0)))) (standing p)
@@ -206,6 +222,7 @@ module _ (B : List ℕ) (g : Given) (here : g.text ≡ drop g.offset B) where
           tells_then Whole g (line_ends l.next all.0 u all.1)
           (λ newline v done. tells_give Whole g (line_filled all.0 l.list.entries v.bodies all.2 done))))
 
+      -- a line is read as good entries, with the bodies filled into them
       reads_line : (blank : Bool) (p : ℕ) →
           Tells Whole g (a_line inner blank) (λ x t. GoodEntries g.edition room (shape_of B (entries_of x.0)))
           (standing p)
@@ -217,17 +234,21 @@ module _ (B : List ℕ) (g : Given) (here : g.text ≡ drop g.offset B) where
 
       -- ---- compound commands
 
+      -- a list and what closes it are read as good entries; after it a token stands where a command may
+      -- begin
       reads_group : (c : Closing) (n : Next) (D : Row Due) (p : ℕ) → Stands g Command n p →
           Adds g D (a_group inner c n) (λ x E e. OpenEntries D x.what E × Stands g Command x.next e) p
       unfolding a_group
       reads_group c n D p so = add_first g (reads_list n D p so)
           (λ l E e good. read_first g (reads_closing g inner c l.1 e) (λ k f stands. add_gives g (good, stands)))
 
+      -- two lists that are good make a good branch
       branch_open : {C D E : Row Due} (c b : Entries) → OpenEntries C c D → OpenEntries D b E →
           OpenBranch C (branch c b) E
       unfolding fill_branch
       branch_open c b one two = opens_two g (branch c b) branch (λ ts. refl) (λ x y good more. (good, more)) one two
 
+      -- a condition, `then` and a body are read as a good branch
       reads_branch : (n : Next) (D : Row Due) (p : ℕ) → Stands g Command n p →
           Adds g D (a_branch inner n) (λ x E e. OpenBranch D x.0 E) p
       unfolding a_branch
@@ -236,13 +257,16 @@ module _ (B : List ℕ) (g : Given) (here : g.text ≡ drop g.offset B) where
           (λ c C e one. read_first g (reads_closing g inner closings.Then c.1 e) (λ t f stands.
           add_first g (reads_list t.1 C f stands) (λ b E h two. add_gives g (branch_open c.0 b.0 one two))))
 
+      -- a row of branches: with their bodies they are good
       abbrev OpenBranches : Row Due → Row ABranch → Row Due → Type 0
       OpenBranches D bs E = Opens g (fill_all g fill_branch)
           (λ xs. GoodBranches g.edition room (shape_of_branches B (branches_of xs))) D bs E
 
+      -- the branches after the first one, so far, are good
       abbrev BranchesGood : Row Due → BranchesSoFar → Row Due → ℕ → Type 0
       BranchesGood C b D p = OpenBranches C b.branches D
 
+      -- a turn reads `elif` and one more branch, or neither, and the branches are good
       reads_elif : (C : Row Due) (b : BranchesSoFar) (D : Row Due) (p : ℕ) → BranchesGood C b D p →
           Adds g D (elif_turn inner b) (Turns g (BranchesGood C) (BranchesGood C)) p
       unfolding elif_turn
@@ -254,14 +278,17 @@ module _ (B : List ℕ) (g : Given) (here : g.text ≡ drop g.offset B) where
           (add_gives g (opens_last g b.branches x.0 (branches_more B g.edition room) so good)))))
           (add_gives g so)
 
+      -- an `else` is good where its list is
       else_open : {D E : Row Due} (es : Entries) → OpenEntries D es E → OpenElse D (otherwise es) E
       unfolding fill_else
       else_open es one = opens_one g (otherwise es) otherwise (λ ts. refl) (λ ls good. good) one
 
+      -- where no `else` stands nothing has to be good
       no_else_open : {D : Row Due} → OpenElse D no_else D
       unfolding fill_else
       no_else_open = opens_nothing g no_else (λ ts. refl) tt
 
+      -- an `else` with its list, or none, is read as a good one
       reads_else : (n : Next) (D : Row Due) (p : ℕ) → Adds g D (an_else inner n) (λ x E e. OpenElse D x.0 E) p
       unfolding an_else
       reads_else n D p =
@@ -270,9 +297,11 @@ module _ (B : List ℕ) (g : Given) (here : g.text ≡ drop g.offset B) where
           (λ k e stands. add_first g (reads_list k.1 D e stands) (λ l E f good. add_gives g (else_open l.0 good))))
           (add_gives g no_else_open)
 
+      -- a form is good with its bodies, and after it a token stands where a command may begin
       abbrev FormGood : Row Due → Closed AForm → Row Due → ℕ → Type 0
       FormGood D f E p = OpenForm D f.what E × Stands g Command f.next p
 
+      -- an `if` is good where its first branch, its further ones and its `else` are
       if_open : {A C D E : Row Due} (f : ABranch) (bs : Row ABranch) (o : Otherwise) → OpenBranch A f C →
           OpenBranches C bs D → OpenElse D o E → OpenForm A (if_then f (branches_of bs) o) E
       unfolding fill_form
@@ -281,6 +310,7 @@ module _ (B : List ℕ) (g : Given) (here : g.text ≡ drop g.offset B) where
           (λ ts. rw (branches_going bs (fill_branch f ts).1) refl) (λ x y good more. (good.0, good.1, more))
           (opens_both g one all) other
 
+      -- what stands after `if`, up to `fi`, is read as a good form
       reads_if : (n : Next) (D : Row Due) (p : ℕ) → Stands g Command n p → Adds g D (an_if inner n) (FormGood D) p
       unfolding an_if
       reads_if n D p so =
@@ -292,6 +322,7 @@ module _ (B : List ℕ) (g : Given) (here : g.text ≡ drop g.offset B) where
           (λ x E h other. read_first g (reads_closing g inner closings.Fi x.1 h)
           (λ c k stands. add_gives g (if_open f.0 b.branches x.0 one all other, stands)))))
 
+      -- a condition, `do`, a body and `done` are read as a good branch
       reads_loop : (n : Next) (D : Row Due) (p : ℕ) → Stands g Command n p →
           Adds g D (a_loop inner n) (λ x E e. OpenBranch D x.what E × Stands g Command x.next e) p
       unfolding a_loop
@@ -304,6 +335,7 @@ module _ (B : List ℕ) (g : Given) (here : g.text ≡ drop g.offset B) where
 
       -- ---- `for`
 
+      -- a word that was read, and is a NAME where it begins, is a good name of a `for`
       for_name : (n : Next) (p q : ℕ) (w : AWord) → Stands g Suffix n p → begins_word n.token ≡ true →
           WordRead g room p w q → is_name_at g.text p ≡ true → GoodName g.edition room (shape_of_word B w)
       for_name n p q w so begins read name =
@@ -324,6 +356,7 @@ module _ (B : List ℕ) (g : Given) (here : g.text ≡ drop g.offset B) where
             names = subst NameAnywhere (raw_at B g here p q) names;
           }
 
+      -- the name of a `for` is read as a good one
       reads_for_name : (n : Next) (p : ℕ) → Stands g Suffix n p →
           Reads g (a_for_name inner n) (λ x e. GoodName g.edition room (shape_of_word B x.0) × Stands g Command x.1 e) p
       unfolding a_for_name
@@ -336,6 +369,8 @@ module _ (B : List ℕ) (g : Given) (here : g.text ≡ drop g.offset B) where
           (record { reads = λ D s docs. record { told = tt } })))))
           (stopped g inner n)
 
+      -- a semicolon or newlines, with comments, are read; the comments are good, and a token stands after
+      -- them
       reads_sequential_sep : (cs : Row Span) (n : Next) (p : ℕ) → Comments B g here cs →
           Reads g (a_sequential_sep inner cs n) (λ l e. Comments B g here l.join.comments × Stands g Command l.next e) p
       unfolding a_sequential_sep
@@ -350,12 +385,15 @@ module _ (B : List ℕ) (g : Given) (here : g.text ≡ drop g.offset B) where
         pub good : GoodItems g.edition room of_for Suffix (items i) Suffix
         pub stands : Stands g Suffix i.next p
 
+      -- after the last word of a `for` its words are good
       abbrev WordsDone : ItemsSoFar → ℕ → Type 0
       WordsDone i p = GoodWords g.edition room (items i)
 
+      -- the words so far are good, whatever token follows them
       words_are : (i : ItemsSoFar) (p : ℕ) → WordsSo i p → GoodWords g.edition room (items i)
       words_are i p so = record { last = Suffix; items = so.good }
 
+      -- a turn reads one more word and the token after it, or neither, and the words are good
       reads_word_turn : (i : ItemsSoFar) (p : ℕ) → WordsSo i p →
           Reads g (word_turn inner i) (Turned g WordsSo WordsDone) p
       unfolding word_turn an_item
@@ -376,10 +414,12 @@ module _ (B : List ℕ) (g : Given) (here : g.text ≡ drop g.offset B) where
           })))))
           (gives g (words_are i p so))
 
+      -- the words of a `for` and the comments before its `do` are good, and a token stands after them
       abbrev HeadGood : Headed → ℕ → Type 0
       HeadGood h e = GoodForWords g.edition room (shape_of_for_words B h.words) × Comments B g here h.comments
           × Stands g Command h.next e
 
+      -- `in`, the words after it and what ends them are read as good ones
       reads_for_words : (cs : Row Span) (p : ℕ) → Comments B g here cs → Reads g (for_words inner cs) HeadGood p
       unfolding for_words
       reads_for_words cs p good =
@@ -388,6 +428,7 @@ module _ (B : List ℕ) (g : Given) (here : g.text ≡ drop g.offset B) where
           (items_so_far [] Suffix i.1) e (record { good = none_more; stands = stands })) (λ ws f words.
           first g (reads_sequential_sep cs ws.next f good) (λ l h lines. gives g (words, lines.0, lines.1))))
 
+      -- what stands between the name of a `for` and `do` is read as good, be there an `in` or not
       reads_for_head : (n : Next) (p : ℕ) → Stands g Command n p → Reads g (a_for_head inner n) HeadGood p
       unfolding a_for_head
       reads_for_head n p so =
@@ -396,17 +437,20 @@ module _ (B : List ℕ) (g : Given) (here : g.text ≡ drop g.offset B) where
           picks g (not s.0 && is_closing closings.In l.next.token) (λ is. reads_for_words l.join.comments f two.0)
           (gives g (tt, two.0, two.1 (inl tt)))))
 
+      -- comments on lines of their own, and then entries, are good entries where both are good
       remarks_good : (cs : Row Span) (es : Entries) → Comments B g here cs →
           GoodEntries g.edition room (shape_of B es) → GoodEntries g.edition room (shape_of B (after_remarks cs es))
       remarks_good [] es all so = so
       remarks_good (c ∷ cs) es all so = ((all.0, tt), remarks_good cs es all.1 so)
 
+      -- bodies go into such entries as into those after the comments, which take none
       remarks_filled : (cs : Row Span) (es : Entries) (ts : Row Span) →
           fill_entries (after_remarks cs es) ts ≡ (after_remarks cs (fill_entries es ts).0, (fill_entries es ts).1)
       unfolding fill_entries fill_entry fill_content
       remarks_filled [] es ts = refl
       remarks_filled (c ∷ cs) es ts = rw (remarks_filled cs es ts) refl
 
+      -- a `for` is good where its name, its words, the comments before `do` and its list are
       for_open : {D E : Row Due} (name : AWord) (words : ForWords) (cs : Row Span) (es : Entries) →
           GoodName g.edition room (shape_of_word B name) → GoodForWords g.edition room (shape_of_for_words B words) →
           Comments B g here cs
@@ -417,6 +461,7 @@ module _ (B : List ℕ) (g : Given) (here : g.text ≡ drop g.offset B) where
           (λ ts. rw (remarks_filled cs es ts) refl)
           (λ ls good. (one, two, remarks_good cs ls comments good)) body
 
+      -- what stands after `for`, up to `done`, is read as a good form
       reads_for : (n : Next) (D : Row Due) (p : ℕ) → Stands g Suffix n p → Adds g D (a_for inner n) (FormGood D) p
       unfolding a_for
       reads_for n D p so =
@@ -428,6 +473,7 @@ module _ (B : List ℕ) (g : Given) (here : g.text ≡ drop g.offset B) where
 
       -- ---- `case`
 
+      -- a word that was read where such a token stands is a good word in its position
       good_word : (position : Position) (begins : Token → Bool) (n : Next) (p q : ℕ) (w : AWord) → Stands g position n p
           → begins n.token ≡ true → is_a_word n.token ≡ true → WordRead g room p w q
           → GoodWord g.edition room position begins (shape_of_word B w)
@@ -446,6 +492,7 @@ module _ (B : List ℕ) (g : Given) (here : g.text ≡ drop g.offset B) where
                 (raw_at B g here p q) anywhere;
           }
 
+      -- the word of a `case` is read as a good one, and a token stands after it
       reads_case_word : (n : Next) (p : ℕ) → Stands g Suffix n p →
           Reads g (a_case_word inner n)
           (λ x e. GoodWord g.edition room Suffix begins_word (shape_of_word B x.0) × Stands g Command x.1 e) p
@@ -456,9 +503,11 @@ module _ (B : List ℕ) (g : Given) (here : g.text ≡ drop g.offset B) where
           gives g (good_word Suffix begins_word n p q w so begins (item_is_word n.token begins) read, stands))))
           (stopped g inner n)
 
+      -- the patterns of an item so far are good
       abbrev PatternsGood : PatternsSoFar → ℕ → Type 0
       PatternsGood x p = GoodPatterns g.edition room (shape_of_patterns B (patterns_of x.patterns))
 
+      -- one more pattern is read; the patterns are good with it, if they are with any good word
       reads_pattern : (position : Position) (begins : Token → Bool) (ws : Row AWord) (n : Next) (p : ℕ) →
           Stands g position n p → begins n.token ≡ true → is_a_word n.token ≡ true
           → ((w : AWord) → GoodWord g.edition room position begins (shape_of_word B w) →
@@ -470,6 +519,7 @@ module _ (B : List ℕ) (g : Given) (here : g.text ≡ drop g.offset B) where
           (λ w q read. pushes g (first g (reads_next g Suffix q)
           (λ m e stands. gives g (all w (good_word position begins n p q w so begin is_word read)))))
 
+      -- after a `|` one more pattern is read and the patterns are good, or no row goes on
       reads_one_pattern : (x : PatternsSoFar) (p : ℕ) → PatternsGood x p →
           Reads g (one_pattern inner x.patterns) (Turned g PatternsGood PatternsGood) p
       unfolding one_pattern
@@ -480,11 +530,13 @@ module _ (B : List ℕ) (g : Given) (here : g.text ≡ drop g.offset B) where
           (λ y h good. gives g good))
           (stopped g inner n)))
 
+      -- so the patterns are good after each turn
       reads_pattern_turn : (x : PatternsSoFar) (p : ℕ) → PatternsGood x p →
           Reads g (pattern_turn inner x) (Turned g PatternsGood PatternsGood) p
       unfolding pattern_turn
       reads_pattern_turn x p so = picks g (is_pipe x.next.token) (λ is. reads_one_pattern x p so) (gives g so)
 
+      -- all patterns of an item are read as good ones
       reads_patterns : (n : Next) (p : ℕ) → Stands g Command n p → Reads g (a_pattern_list inner n) PatternsGood p
       unfolding a_pattern_list
       reads_patterns n p so =
@@ -495,6 +547,7 @@ module _ (B : List ℕ) (g : Given) (here : g.text ≡ drop g.offset B) where
           (λ y d all. all) (λ y d all. all) x e good))
           (stopped g inner n)
 
+      -- the bracket before the patterns is read, or none; after it a token stands where a command may begin
       reads_bracket : (n : Next) (p : ℕ) → Stands g Command n p →
           Reads g (an_open_bracket n) (λ m e. Stands g Command m e) p
       unfolding an_open_bracket
@@ -504,6 +557,8 @@ module _ (B : List ℕ) (g : Given) (here : g.text ≡ drop g.offset B) where
       abbrev FallsLater : Next → Type 0
       FallsLater n = falls_through n.token ≡ true → is_later g.edition ≡ true
 
+      -- the entries of an item are read as good ones, and the next token falls through in a later edition
+      -- alone
       reads_body : (n : Next) (D : Row Due) (p : ℕ) → Stands g Command n p →
           Adds g D (a_body inner n) (λ l E e. Listing D l E e × FallsLater l.next) p
       unfolding a_body
@@ -517,9 +572,12 @@ module _ (B : List ℕ) (g : Given) (here : g.text ≡ drop g.offset B) where
       abbrev Onward : Next → ℕ → Type 0
       Onward n e = is_closing closings.Esac n.token ≡ false → Stands g Command n e
 
+      -- the comments after an item are good, and the next token, where it is not `esac`, stands where a
+      -- command may begin
       abbrev EndGood : ItemEnd → ℕ → Type 0
       EndGood x e = Comments B g here x.comments × Onward x.next e
 
+      -- the ender of an item is read, with the comments and newlines after it
       reads_ender : (falling : Bool) (p : ℕ) → Reads g (an_ender falling) EndGood p
       unfolding an_ender
       reads_ender falling p =
@@ -527,6 +585,7 @@ module _ (B : List ℕ) (g : Given) (here : g.text ≡ drop g.offset B) where
           first g (reads_linebreak B g here (Unit {0}) [] n i tt (λ y. stands))
           (λ l j so. gives g (so.0, (λ no. so.1 (inl tt)))))))
 
+      -- an item ends with its ender or before `esac`; at another token no row goes on
       reads_item_end : (there : ℕ) (n : Next) (p : ℕ) → Reads g (an_item_end inner there n) EndGood p
       unfolding an_item_end
       reads_item_end there n p =
@@ -535,16 +594,22 @@ module _ (B : List ℕ) (g : Given) (here : g.text ≡ drop g.offset B) where
           (λ is. gives g (tt, (λ no. absurd (both_ways (is_closing closings.Esac n.token) no is))))
           (stopped g inner n))
 
+      -- a row of items: with their bodies they are good
       abbrev OpenCases : Row Due → Row ACaseItem → Row Due → Type 0
       OpenCases D cs E = Opens g (fill_all g fill_case)
           (λ xs. GoodCases g.edition room (shape_of_cases B (cases_of xs))) D cs E
 
+      -- after the last item all items are good, and so are the comments after them
       abbrev CasesDone : Row Due → CasesSoFar → Row Due → ℕ → Type 0
       CasesDone C c D p = OpenCases C c.items D × Comments B g here c.comments
 
+      -- so they are before each turn, and the next token, where it is not `esac`, stands where a command may
+      -- begin
       abbrev CasesOn : Row Due → CasesSoFar → Row Due → ℕ → Type 0
       CasesOn C c D p = OpenCases C c.items D × Comments B g here c.comments × Onward c.next p
 
+      -- an item is good where its comments, patterns and entries are, and it falls through in a later
+      -- edition alone
       case_open : {D E : Row Due} (cs : Row Span) (ws : Row AWord) (es : Row AnEntry) (mark : ACaseMark) →
           Comments B g here cs →
           GoodPatterns g.edition room (shape_of_patterns B (patterns_of ws)) →
@@ -556,6 +621,7 @@ module _ (B : List ℕ) (g : Given) (here : g.text ≡ drop g.offset B) where
           (λ ls. case_item cs (patterns_of ws) (entries_of ls) mark) (λ ts. rw (entries_going es ts) refl)
           (λ ls good. (comments, words, good, falls)) body
 
+      -- one more item is read, from its bracket to its end, and the items are good
       reads_one_case : (C : Row Due) (c : CasesSoFar) (D : Row Due) (p : ℕ) → CasesOn C c D p →
           Stands g Command c.next p →
           Adds g D (one_case inner c) (Turns g (CasesOn C) (CasesDone C)) p
@@ -573,6 +639,7 @@ module _ (B : List ℕ) (g : Given) (here : g.text ≡ drop g.offset B) where
             end.1,
           ))))))))
 
+      -- so they are after each turn, which reads no item where `esac` stands
       reads_case_turn : (C : Row Due) (c : CasesSoFar) (D : Row Due) (p : ℕ) → CasesOn C c D p →
           Adds g D (case_turn inner c) (Turns g (CasesOn C) (CasesDone C)) p
       unfolding case_turn
@@ -583,6 +650,8 @@ module _ (B : List ℕ) (g : Given) (here : g.text ≡ drop g.offset B) where
           by_end true is = add_gives g (so.0, so.1)
           by_end false is = reads_one_case C c D p so (so.2 is)
 
+      -- the word of a `case` and `in` are read, with good comments after both, and a token stands after
+      -- them
       reads_case_head : (n : Next) (p : ℕ) → Stands g Suffix n p
           → Reads g (a_case_head inner n)
           (λ h e. GoodWord g.edition room Suffix begins_word (shape_of_word B h.0) × Comments B g here h.1
@@ -596,6 +665,7 @@ module _ (B : List ℕ) (g : Given) (here : g.text ≡ drop g.offset B) where
           (λ k j three.
           gives g (one.0, three.0, three.1 (inl tt))))))
 
+      -- a `case` is good where its word, its items and the comments after them are
       cases_open : {D E : Row Due} (w : AWord) (cs : Row ACaseItem) (tail : Row Span) →
           GoodWord g.edition room Suffix begins_word (shape_of_word B w) → Comments B g here tail → OpenCases D cs E
           → OpenForm D (case_in w (cases_of cs) tail) E
@@ -604,6 +674,7 @@ module _ (B : List ℕ) (g : Given) (here : g.text ≡ drop g.offset B) where
           opens_one g (case_in w (cases_of cs) tail) (λ xs. case_in w (cases_of xs) tail)
           (λ ts. rw (cases_going cs ts) refl) (λ xs good. (one, good, comments)) all
 
+      -- what stands after `case`, up to `esac`, is read as a good form
       reads_case : (n : Next) (D : Row Due) (p : ℕ) → Stands g Suffix n p → Adds g D (a_case inner n) (FormGood D) p
       unfolding a_case
       reads_case n D p so =
@@ -614,6 +685,9 @@ module _ (B : List ℕ) (g : Given) (here : g.text ≡ drop g.offset B) where
           read_first g (reads_closing g inner closings.Esac c.next f)
           (λ k j stands. add_gives g (cases_open h.0 c.items c.comments one.0 all.1 all.0, stands))))
 
+      -- ---- any compound command
+
+      -- braces, brackets and loops are good where the list or the branch in them is
       brace_open : {D E : Row Due} (es : Entries) → OpenEntries D es E → OpenForm D (brace es) E
       unfolding fill_form
       brace_open es one = opens_one g (brace es) brace (λ ts. refl) (λ ls good. good) one
@@ -630,6 +704,7 @@ module _ (B : List ℕ) (g : Given) (here : g.text ≡ drop g.offset B) where
       unfolding fill_form
       until_open b one = opens_one g (until_do b) until_do (λ ts. refl) (λ x good. good) one
 
+      -- what stands after an opener is read as a good form
       reads_form : (o : Opener) (n : Next) (D : Row Due) (p : ℕ) → Stands g (position_after o) n p →
           Adds g D (a_form inner o n) (FormGood D) p
       reads_form openers.Brace n D p so =
@@ -646,6 +721,7 @@ module _ (B : List ℕ) (g : Given) (here : g.text ≡ drop g.offset B) where
       reads_form openers.For n D p so = reads_for n D p so
       reads_form openers.Case n D p so = reads_case n D p so
 
+      -- a compound command is read up to its closer, and its form is good
       reads_compound : (o : Opener) (D : Row Due) (p : ℕ)
           → Adds g D (a_compound inner o)
           (λ c E e. (form : AForm) × (mark : Span) × (c.0 ≡ compound (formed form mark no_item)) × OpenForm D form E
@@ -658,9 +734,11 @@ module _ (B : List ℕ) (g : Given) (here : g.text ≡ drop g.offset B) where
 
       -- ---- functions
 
+      -- a function is good with its bodies, where one construct more may be open than in its own body
       abbrev OpenFunction : Row Due → ACommand → Row Due → Type 0
       OpenFunction D c E = Opens g fill_command (λ d. GoodCommand g.edition (suc room) (shape_of_command B d)) D c E
 
+      -- a function is good where its name is one, and the comments before its body and the body are good
       under_good : {D E : Row Due} (name : Span) (cs : Row Span) (c : ACommand) (body : ACompound) → c ≡ compound body →
           NameBefore (suc room) (text_at B name) → Comments B g here cs → OpenCompound B g here room D body E
           → OpenFunction D (under_name name cs c) E
@@ -669,6 +747,7 @@ module _ (B : List ℕ) (g : Given) (here : g.text ≡ drop g.offset B) where
           subst (λ (x : ACommand). OpenFunction D (under_name name cs x) E) (sym is)
           (opens_one g (function name cs body) (function name cs) (λ ts. refl) (λ y all. (before, own, all)) good)
 
+      -- what stands after the name of a function is read as a good one
       reads_function : (name : Span) (D : Row Due) (p : ℕ) → NameBefore (suc room) (text_at B name) →
           Adds g D (a_function inner name) (λ c E e. OpenFunction D c.0 E) p
       unfolding a_function
@@ -704,6 +783,7 @@ module _ (edition : Edition) (B : List ℕ) where
       subst (Holds (λ x t. GoodEntries edition most_open (shape_of B (entries_of x.0))))
       (sym ((computed_is_only (a_line (level most_open) blank) g (standing 0)).only _ _ part)) line.told
 
+  -- where the entries so far are good, those of the whole script are
   lines_good : (so : LinesSoFar) (p : ℕ) (s : AScript) (k : Row Spelled) → Lines edition B so p s k →
       GoodEntries edition most_open (shape_of B (entries_of so.entries)) →
       GoodEntries edition most_open (shape_of B s.entries)

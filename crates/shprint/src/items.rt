@@ -70,6 +70,7 @@ impl<'a, S: Source> Printer<'a, S> {
         self.print_text(word.span, page)
     }
 
+    /// The number of a redirection without its continuations, or nothing where it has none.
     fn print_number(&self, number: Option<Span>, page: &mut Page) -> Result<(), AllocError>
         ensures { OnOk result (Prints page.old page.new
             (print_number (option_map (bare_at (S.bytes self.now.source.now)) number))) }
@@ -92,6 +93,7 @@ impl<'a, S: Source> Printer<'a, S> {
         }
     }
 
+    /// The operator of a redirection, and a space where the layout has one or the word would lengthen it.
     fn print_operator(
         &self,
         operator: RedirectOperator,
@@ -109,6 +111,7 @@ impl<'a, S: Source> Printer<'a, S> {
         Ok(())
     }
 
+    /// An item of a command: a word or an assignment as it stands, or a redirection.
     fn print_item(&self, item: &Item, page: &mut Page) -> Result<(), AllocError>
         ensures { OnOk result (Puts S.bytes self.now page.old page.new
             (print_item self.now.layout) shape_of_item (view_item item.now)) }
@@ -119,6 +122,7 @@ impl<'a, S: Source> Printer<'a, S> {
         }
     }
 
+    /// A redirection: number, operator and word. The body of its document is held for the end of the line.
     fn print_redirection(&self, redirect: &Redirection, page: &mut Page) -> Result<(), AllocError>
         ensures { OnOk result (Puts S.bytes self.now page.old page.new
             (print_item self.now.layout)
