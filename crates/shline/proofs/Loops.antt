@@ -1,8 +1,11 @@
--- Loops whose turns are rows: a turn that goes on, and the last one.
-use Rattle.std.proofs.Common.{◌≡◌, ◌≤◌, ◌∙◌, ℕ, Bool, true, false, Ok, length, sym, arith}
+-- Loops whose turns are rows: a turn that goes on, and the last one; and loops that end where no turn begins.
+use Rattle.std.proofs.Common.{◌≡◌, ◌≤◌, ◌∙◌, ℕ, Bool, true, false, Ok, length, refl, sym, arith}
 use Rattle.shline.specs.declared.cursor.Cursor.{Cursor}
 use Rattle.shline.specs.Clauses.{at_token, given_of, keep_of, Keeps, Leads, Rests, start_of, text_of, Turns}
-use Rattle.shgrammar.specs.Form.{Form, Step, many}
+use Rattle.shgrammar.specs.Form.{Form, Step, does, done, many}
+use Rattle.shgrammar.specs.Commands.{is_pipe, is_word}
+use Rattle.shgrammar.specs.declared.token.Token.{Token}
+use Rattle.shgrammar.specs.declared.token.Token.TheVariants as tokens
 use Rattle.shgrammar.proofs.Turns.{many_again, many_done}
 
 -- what stayed over two steps
@@ -48,3 +51,26 @@ module _ {S A : Type 0} {k : ℕ} {g : _} (start now new : Cursor S k g) (turn :
           onward = omega (arith, left.onward, one.onward);
           same = over start now new kept one.same;
         }
+
+-- ---- a token that no turn takes
+
+-- it is no `|`, or no word
+pub not_pipe : (token : Token) → (token ≡ tokens.Pipe → ⊥) → is_pipe token ≡ false
+not_pipe tokens.Pipe never = absurd (never refl)
+not_pipe _ never = refl
+
+pub not_word : (token : Token) → (token ≡ tokens.Word → ⊥) → is_word token ≡ false
+not_word tokens.Word never = absurd (never refl)
+not_word _ never = refl
+
+-- from the start of a loop to such a token
+module _ {S A : Type 0} {k : ℕ} {g : _} (start now : Cursor S k g) (turn : A → Form (Step A)) (first a : A)
+  where
+    pub loop_over : Rests start (many turn first) (at_token start) (many turn a) (at_token now) now →
+        does (turn a) (keep_of start) (given_of start) (at_token now) ≡ Ok (done a, at_token now)
+        → Leads start (many turn first) (at_token start) a (at_token now) now
+    loop_over left one = record {
+      read = sym left.read ∙ many_done turn (keep_of start) (given_of start) a a (at_token now) (at_token now) one;
+      onward = left.onward;
+      same = left.same;
+    }

@@ -12,13 +12,12 @@ use crate::stop::Stop;
 use shast::{AndOrOperator, AndOrPart};
 use shmake::make::and_or_part_of;
 use shsource::Source;
-use std::mem;
 
 impl<'a, S: Source, const TREE: u8> Cursor<'a, S, TREE> {
     /// One more pipeline of an and-or list, after `&&` or `||`. It stands apart to
     /// keep the frames of nested commands small.
     #[cycle(commands)]
-    #[tactic(auto, unfolding(shgrammar::specs::Commands::one_pipeline))]
+    #[tactic(auto, unfolding(shgrammar::specs::Commands::one_pipeline), using(crate::proofs::Kept::pushed_seen))]
     fn one_pipeline(
         &mut self,
         operator: AndOrOperator,
@@ -36,41 +35,23 @@ impl<'a, S: Source, const TREE: u8> Cursor<'a, S, TREE> {
         self.bump();
         let join = self.join(broken)?;
         let pipeline = self.pipeline(room)?;
-        if self.grows() {
-            parts.push(and_or_part_of(operator, join, pipeline))?;
-        } else {
-            mem::forget(pipeline);
-        }
+        self.push(parts, and_or_part_of(operator, join, pipeline))?;
         Ok(())
-    }
-
-    /// One more, if such an operator stands here. Answers whether there was one.
-    #[cycle(commands)]
-    #[inline(always)]
-    #[tactic(auto, unfolding(shgrammar::specs::Commands::and_or_turn, crate::specs::InHand::InHand))]
-    fn and_or_turn(&mut self, parts: &mut Vec<AndOrPart>, room: usize) -> Result<bool, Stop>
-        ensures { Turns self.old (and_or_turn (level room) (and_or_so_far (view_and_or_parts
-            parts.old) self.old.next)) result (and_or_so_far (view_and_or_parts parts.new)
-            self.new.next) self.new }
-    {
-        let Some(operator) = self.next.token.and_or_operator() else {
-            return Ok(false);
-        };
-        self.one_pipeline(operator, parts, room)?;
-        Ok(true)
     }
 
     /// The pipelines of an and-or list after its first.
     #[cycle(commands)]
     #[inline(always)]
-    #[tactic(auto, using(crate::proofs::Stops::many_stop))]
+    #[tactic(auto, unfolding(shgrammar::specs::Commands::and_or_turn, crate::specs::InHand::InHand), using(shgrammar::proofs::Turns::many_again, shgrammar::proofs::Turns::many_done, crate::proofs::Stops::many_stop))]
     pub(crate) fn joined_pipelines(&mut self, room: usize) -> Result<Vec<AndOrPart>, Stop>
         ensures { TokenToToken self.old
             (many (and_or_turn (level room)) (and_or_so_far [] self.old.next))
             result (λ parts. and_or_so_far (view_and_or_parts parts) self.new.next) self.new }
     {
         let mut parts = Vec::new(self.alloc);
-        'turns: while self.and_or_turn(&mut parts, room)? {}
+        'turns: while let Some(operator) = self.next.token.and_or_operator() {
+            self.one_pipeline(operator, &mut parts, room)?;
+        }
         Ok(parts)
     }
 }

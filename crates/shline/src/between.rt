@@ -87,8 +87,7 @@ impl<'a, S: Source, const TREE: u8> Cursor<'a, S, TREE> {
     {
         if self.next.token.begins_word() {
             let at = self.origin + self.start();
-            let mut substs = Vec::new(self.alloc);
-            self.pass_word(&mut substs, room)?;
+            let _ = self.word(room)?;
             return Ok(Fault {
                 kind: FaultKind::Unexpected,
                 at,

@@ -51,27 +51,9 @@ fn body_end(before: usize, body: &Listed) -> usize
 }
 
 impl<'a, S: Source, const TREE: u8> Cursor<'a, S, TREE> {
-    /// The word after `case`.
-    #[cycle(commands)]
-    #[tactic(auto, unfolding(shgrammar::specs::Compounds::a_case_word, shgrammar::specs::Commands::next_token, crate::specs::InHand::InHand))]
-    fn case_word(&mut self, room: usize) -> Result<Word, Stop>
-        ensures { TokenToToken self.old (a_case_word (level room) self.old.next) result
-            (λ x. (view_word x, self.new.next)) self.new }
-    {
-        if !self.next.token.begins_word() {
-            return Err(Stop::Wrong(self.what_is_wrong(room)?));
-        }
-        let start = self.start();
-        let mut substs = Vec::new(self.alloc);
-        self.pass_word(&mut substs, room)?;
-        let word = self.word_from(start, substs);
-        self.next_token(Position::Command);
-        Ok(word)
-    }
-
     /// The pattern that begins here.
     #[cycle(commands)]
-    #[tactic(auto, unfolding(shgrammar::specs::Compounds::a_pattern, shgrammar::specs::Commands::next_token))]
+    #[tactic(auto, unfolding(shgrammar::specs::Compounds::a_pattern, shgrammar::specs::Commands::next_token), using(crate::proofs::Kept::pushed_seen))]
     fn pattern(&mut self, patterns: &mut Vec<Word>, room: usize) -> Result<(), Stop>
         requires { ends_word (text_of self.old) (start_of self.old) ≡ false }
         ensures value { TokenToToken self.old
@@ -79,14 +61,8 @@ impl<'a, S: Source, const TREE: u8> Cursor<'a, S, TREE> {
             (λ _. patterns_so_far (view_words patterns.new) self.new.next) self.new }
         ensures onward { IfOk result (λ _. start_of self.old < start_of self.new) }
     {
-        let start = self.start();
-        let mut substs = Vec::new(self.alloc);
-        self.pass_word(&mut substs, room)?;
-        if self.grows() {
-            patterns.push(self.word_from(start, substs))?;
-        } else {
-            mem::forget(substs);
-        }
+        let word = self.word(room)?;
+        self.push(patterns, word)?;
         self.next_token(Position::Suffix);
         Ok(())
     }
@@ -107,32 +83,18 @@ impl<'a, S: Source, const TREE: u8> Cursor<'a, S, TREE> {
         self.pattern(patterns, room)
     }
 
-    /// One more, if a `|` stands here. Answers whether there was one.
-    #[cycle(commands)]
-    #[tactic(auto, unfolding(shgrammar::specs::Compounds::pattern_turn, crate::specs::InHand::InHand))]
-    fn pattern_turn(&mut self, patterns: &mut Vec<Word>, room: usize) -> Result<bool, Stop>
-        ensures { Turns self.old
-            (pattern_turn (level room) (patterns_so_far (view_words patterns.old)
-            self.old.next)) result
-            (patterns_so_far (view_words patterns.new) self.new.next) self.new }
-    {
-        let Token::Pipe = self.next.token else {
-            return Ok(false);
-        };
-        self.one_pattern(patterns, room)?;
-        Ok(true)
-    }
-
     /// The patterns after the first one.
     #[cycle(commands)]
-    #[tactic(auto, using(crate::proofs::Stops::many_stop))]
+    #[tactic(auto, unfolding(shgrammar::specs::Compounds::pattern_turn, crate::specs::InHand::InHand), using(shgrammar::proofs::Turns::many_again, shgrammar::proofs::Turns::many_done, crate::proofs::Stops::many_stop))]
     fn more_patterns(&mut self, patterns: &mut Vec<Word>, room: usize) -> Result<(), Stop>
         ensures { TokenToToken self.old
             (many (pattern_turn (level room)) (patterns_so_far (view_words
             patterns.old) self.old.next)) result (λ _. patterns_so_far (view_words patterns.new)
             self.new.next) self.new }
     {
-        'turns: while self.pattern_turn(patterns, room)? {}
+        'turns: while let Token::Pipe = self.next.token {
+            self.one_pattern(patterns, room)?;
+        }
         Ok(())
     }
 
@@ -200,7 +162,7 @@ impl<'a, S: Source, const TREE: u8> Cursor<'a, S, TREE> {
 
     /// One more item, which has the comments before it.
     #[cycle(commands)]
-    #[tactic(auto, unfolding(shgrammar::specs::Compounds::one_case))]
+    #[tactic(auto, unfolding(shgrammar::specs::Compounds::one_case, shgrammar::specs::Compounds::a_body), using(crate::proofs::Kept::pushed_seen))]
     fn one_case(&mut self, cases: &mut Cases, room: usize) -> Result<(), Stop>
         ensures { Adds self.old (one_case (level room) (view_cases cases.old self.old.next)) result
             (view_cases cases.new self.new.next) self.new }
@@ -209,22 +171,15 @@ impl<'a, S: Source, const TREE: u8> Cursor<'a, S, TREE> {
         self.open_bracket();
         let patterns = self.patterns(room)?;
         let closer = self.closing(Closing::Paren, room)?;
-        let body = self.body(room)?;
+        let mut body = Listed::new(self.alloc, false);
+        self.list_lines(&mut body, room)?;
         let there = body_end(closer.end, &body);
         let lines = mem::replace(&mut cases.lines, no_lines(self.alloc));
         let falls = self.next.token.falls_through();
         let end = self.item_end(there, &mut cases.lines, room)?;
-        if self.grows() {
-            let list = list_of(body.entries);
-            let span = Span { start, end };
-            cases
-                .items
-                .push(case_item_of(lines.comments, patterns, list, span, falls))?;
-        } else {
-            mem::forget(lines);
-            mem::forget(patterns);
-            mem::forget(body);
-        }
+        let list = list_of(body.entries);
+        let item = case_item_of(lines.comments, patterns, list, Span { start, end }, falls);
+        self.push(&mut cases.items, item)?;
         Ok(())
     }
 
@@ -243,13 +198,17 @@ impl<'a, S: Source, const TREE: u8> Cursor<'a, S, TREE> {
 
     /// What stands between `case` and its items. The comments go into `lines`.
     #[cycle(commands)]
-    #[tactic(auto, unfolding(shgrammar::specs::Compounds::a_case_head))]
+    #[tactic(auto, unfolding(shgrammar::specs::Compounds::a_case_head, shgrammar::specs::Compounds::a_case_word, shgrammar::specs::Commands::next_token, crate::specs::InHand::InHand))]
     fn case_head(&mut self, lines: &mut Join, room: usize) -> Result<Word, Stop>
         requires { (view_join lines.old).comments ≡ [] }
         ensures { TokenToToken self.old (a_case_head (level room) self.old.next) result
             (λ word. (view_word word, (view_join lines.new).comments, self.new.next)) self.new }
     {
-        let word = self.case_word(room)?;
+        if !self.next.token.begins_word() {
+            return Err(Stop::Wrong(self.what_is_wrong(room)?));
+        }
+        let word = self.word(room)?;
+        self.next_token(Position::Command);
         self.linebreak(lines)?;
         self.closing(Closing::In, room)?;
         self.linebreak(lines)?;

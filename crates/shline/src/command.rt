@@ -31,6 +31,31 @@ fn item_of(word: Word, position: Position, broken: bool) -> Item
 }
 
 impl<'a, S: Source, const TREE: u8> Cursor<'a, S, TREE> {
+    /// One more item, which is this word, by the position after it, if a tree grows here.
+    #[inline(always)]
+    fn add_word(
+        &self,
+        word: Word,
+        items: &mut Vec<Item>,
+        position: Position,
+        broken: bool,
+    ) -> Result<(), AllocError>
+        ensures memory { IfErr result (λ e. (TREE == 1) ≡ true) }
+        ensures value { IfOk result (λ _. view_items items.new ≡ pushed (grows (keep_of self.now))
+            (view_items items.old) (item broken (as_item position (view_word word)))) }
+    {
+        if !self.grows() {
+            mem::forget(word);
+            return Ok(());
+        }
+        // An assignment is most often all of its command: it takes room for no more.
+        if items.capacity() == 0 && position == Position::Prefix {
+            items.reserve_exact(1)?;
+        }
+        items.push(item_of(word, position, broken))?;
+        Ok(())
+    }
+
     /// One more item, which is the word here, and the token after it, which stands in this position.
     #[cycle(commands)]
     #[tactic(auto, unfolding(shgrammar::specs::Commands::an_item, shgrammar::specs::Commands::next_token))]
@@ -48,21 +73,9 @@ impl<'a, S: Source, const TREE: u8> Cursor<'a, S, TREE> {
         ensures onward { IfOk result (λ _. start_of self.old < start_of self.new) }
         ensures same { Keeps self.old self.new }
     {
-        let start = self.start();
         let broken = !items.is_empty() && self.next.broken;
-        let mut substs = Vec::new(self.alloc);
-        self.pass_word(&mut substs, room)?;
-        if !self.grows() {
-            mem::forget(substs);
-            self.next_token(position);
-            return Ok(());
-        }
-        let word = self.word_from(start, substs);
-        // An assignment is most often all of its command: it takes room for no more.
-        if items.capacity() == 0 && position == Position::Prefix {
-            items.reserve_exact(1)?;
-        }
-        items.push(item_of(word, position, broken))?;
+        let word = self.word(room)?;
+        self.add_word(word, items, position, broken)?;
         // Asked for only now, so that the push is done when the items are moved.
         self.next_token(position);
         Ok(())
@@ -115,21 +128,6 @@ impl<'a, S: Source, const TREE: u8> Cursor<'a, S, TREE> {
         Ok(())
     }
 
-    /// The simple command that begins with the assignment or the redirection here.
-    #[cycle(commands)]
-    #[inline(always)]
-    #[tactic(auto, unfolding(shgrammar::specs::Commands::a_simple))]
-    fn simple(&mut self, room: usize) -> Result<Command, Stop>
-        ensures { TokenToToken self.old
-            (a_simple (level room) (items_so_far [] AsCommand self.old.next)) result
-            (λ x. (view_command x, self.new.next)) self.new }
-    {
-        let mut items = self.room_for_items();
-        let mut position = Position::Command;
-        self.items(&mut items, &mut position, room)?;
-        Ok(simple_of(items))
-    }
-
     /// Adds the first word of a command, after which the token in hand stands.
     #[inline(always)]
     fn add_first(&self, word: Word, items: &mut Vec<Item>) -> Result<(), AllocError>
@@ -158,9 +156,7 @@ impl<'a, S: Source, const TREE: u8> Cursor<'a, S, TREE> {
             (λ x. (view_command x, self.new.next)) self.new }
     {
         let start = self.start();
-        let mut substs = Vec::new(self.alloc);
-        self.pass_word(&mut substs, room)?;
-        let word = self.word_from(start, substs);
+        let word = self.word(room)?;
         self.next_token(Position::Suffix);
         if let Token::OpenParen = self.next.token {
             return self.named_function(word.span, start, room);
@@ -176,14 +172,19 @@ impl<'a, S: Source, const TREE: u8> Cursor<'a, S, TREE> {
     /// The command that the token here begins.
     #[cycle(commands)]
     #[inline(always)]
-    #[tactic(auto, unfolding(shgrammar::specs::Commands::a_command))]
+    #[tactic(auto, unfolding(shgrammar::specs::Commands::a_command, shgrammar::specs::Commands::a_simple))]
     pub(crate) fn command(&mut self, room: usize) -> Result<Command, Stop>
         ensures { TokenToToken self.old (a_command (level room) self.old.next) result
             (λ x. (view_command x, self.new.next)) self.new }
     {
         match self.next.token {
             Token::Word => self.word_command(room),
-            Token::Assignment | Token::Number | Token::Redirect(_) => { self.simple(room) }
+            Token::Assignment | Token::Number | Token::Redirect(_) => {
+                let mut items = self.room_for_items();
+                let mut position = Position::Command;
+                self.items(&mut items, &mut position, room)?;
+                Ok(simple_of(items))
+            }
             _ => self.compound_by(room),
         }
     }

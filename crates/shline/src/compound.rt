@@ -80,36 +80,20 @@ impl<'a, S: Source, const TREE: u8> Cursor<'a, S, TREE> {
         Ok(branch_of(condition, body))
     }
 
-    /// One more branch, after an `elif`. Answers whether there was one.
-    #[cycle(commands)]
-    #[tactic(auto, unfolding(shgrammar::specs::Compounds::elif_turn, crate::specs::InHand::InHand))]
-    fn elif_turn(&mut self, branches: &mut Vec<Branch>, room: usize) -> Result<bool, Stop>
-        ensures { Turns self.old
-            (elif_turn (level room) (branches_so_far (view_branches branches.old)
-            self.old.next)) result
-            (branches_so_far (view_branches branches.new) self.new.next) self.new }
-    {
-        if !self.next.token.is_closing(Closing::Elif) {
-            return Ok(false);
-        }
-        let _ = self.reserved_or_paren(false, Position::Command);
-        let branch = self.branch(room)?;
-        if self.grows() {
-            branches.push(branch)?;
-        }
-        Ok(true)
-    }
-
     /// The branches after the first, up to what is no `elif`.
     #[cycle(commands)]
-    #[tactic(auto, using(crate::proofs::Stops::many_stop))]
+    #[tactic(auto, unfolding(shgrammar::specs::Compounds::elif_turn, crate::specs::InHand::InHand), using(shgrammar::proofs::Turns::many_again, shgrammar::proofs::Turns::many_done, crate::proofs::Stops::many_stop, crate::proofs::Kept::pushed_seen))]
     fn elifs(&mut self, room: usize) -> Result<Vec<Branch>, Stop>
         ensures { TokenToToken self.old
             (many (elif_turn (level room)) (branches_so_far [] self.old.next)) result
             (λ branches. branches_so_far (view_branches branches) self.new.next) self.new }
     {
         let mut branches = Vec::new(self.alloc);
-        'turns: while self.elif_turn(&mut branches, room)? {}
+        'turns: while self.next.token.is_closing(Closing::Elif) {
+            let _ = self.reserved_or_paren(false, Position::Command);
+            let branch = self.branch(room)?;
+            self.push(&mut branches, branch)?;
+        }
         Ok(branches)
     }
 

@@ -10,7 +10,8 @@ use shast::{Entry, Item};
 use shgrammar::{Edition, Keep, Next, Token};
 use shmake::Spare;
 use shsource::Source;
-use std::alloc::Global;
+use std::alloc::{AllocError, Global};
+use std::mem;
 
 /// `TREE` of a cursor that may grow the tree of what it reads. A number, since the
 /// check states no `bool` of a type beside ghost fields.
@@ -74,7 +75,8 @@ pub(crate) struct Cursor<'a, S: Source, const TREE: u8> {
 
 impl<'a, S: Source, const TREE: u8> Cursor<'a, S, TREE> {
     ghost use Rattle.shline.specs.Clauses.{at_place, Holds, keep_of};
-    ghost use Rattle.shgrammar.specs.Form.{grows};
+    ghost use Rattle.std.specs.Prelude.{IfErr, IfOk};
+    ghost use Rattle.shgrammar.specs.Form.{grows, pushed};
     ghost use Rattle.shgrammar.specs.Sights.{standing};
 
     /// The start of a line, which is read so, in this spare room where there is some.
@@ -120,6 +122,22 @@ impl<'a, S: Source, const TREE: u8> Cursor<'a, S, TREE> {
         ensures tree { result ≡ true → (TREE == 1) ≡ true }
     {
         TREE == WITH_TREE && self.how.keep.grows()
+    }
+
+    /// One more of a row of the tree, if one grows here. What is not kept holds no memory, and is
+    /// forgotten: what is not dropped need not be made.
+    #[inline(always)]
+    pub(crate) fn push<T: Drop>(&self, row: &mut Vec<T>, part: T) -> Result<(), AllocError>
+        ensures memory { IfErr result (λ e. (TREE == 1) ≡ true) }
+        ensures value { IfOk result
+            (λ _. row.new.items ≡ pushed (grows (keep_of self.now)) row.old.items part) }
+    {
+        if self.grows() {
+            row.push(part)?;
+        } else {
+            mem::forget(part);
+        }
+        Ok(())
     }
 
     /// A vector for the items of a command: with room, where a tree grows here and some was kept.

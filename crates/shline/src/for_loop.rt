@@ -62,12 +62,10 @@ impl<'a, S: Source, const TREE: u8> Cursor<'a, S, TREE> {
         // Asked before the word is passed: the stretch may go on after it.
         let at = self.next_at;
         let is_name = self.is_name(at);
-        let mut substs = Vec::new(self.alloc);
-        self.pass_word(&mut substs, room)?;
+        let word = self.word(room)?;
         if !is_name {
             return Err(self.wrong_at(FaultKind::BadForName, start));
         }
-        let word = self.word_from(start, substs);
         self.next_token(Position::Command);
         Ok(word)
     }
@@ -101,56 +99,25 @@ impl<'a, S: Source, const TREE: u8> Cursor<'a, S, TREE> {
         Ok(())
     }
 
-    /// One more word after `in`, if the token here begins one, and the token after
-    /// it. Answers whether there was one.
-    #[cycle(commands)]
-    #[tactic(auto, unfolding(shgrammar::specs::Compounds::word_turn, crate::specs::InHand::InHand))]
-    fn word_turn(&mut self, words: &mut Vec<Item>, room: usize) -> Result<bool, Stop>
-        ensures { Turns self.old (word_turn (level room) (items_so_far (view_items words.old) Suffix
-            self.old.next)) result
-            (items_so_far (view_items words.new) Suffix self.new.next) self.new }
-    {
-        let Token::Word = self.next.token else {
-            return Ok(false);
-        };
-        self.item(words, Position::Suffix, room)?;
-        Ok(true)
-    }
-
     /// The words of a `for`, up to what is none.
     #[cycle(commands)]
-    #[tactic(auto, using(crate::proofs::Stops::many_stop))]
+    #[tactic(auto, unfolding(shgrammar::specs::Compounds::word_turn, crate::specs::InHand::InHand), using(shgrammar::proofs::Turns::many_again, shgrammar::proofs::Turns::many_done, crate::proofs::Stops::many_stop))]
     fn words(&mut self, room: usize) -> Result<Vec<Item>, Stop>
         ensures { TokenToToken self.old
             (many (word_turn (level room)) (items_so_far [] Suffix self.old.next))
             result (λ words. items_so_far (view_items words) Suffix self.new.next) self.new }
     {
         let mut words = Vec::new(self.alloc);
-        'turns: while self.word_turn(&mut words, room)? {}
-        Ok(words)
-    }
-
-    /// The `in` here, the words after it, and what ends them.
-    #[cycle(commands)]
-    #[tactic(auto, unfolding(shgrammar::specs::Compounds::for_words))]
-    fn for_words(&mut self, lines: &mut Join, room: usize) -> Result<Vec<Item>, Stop>
-        requires { IsRead (text_of self.old) (start_of self.old) }
-        ensures value { TokenToToken self.old
-            (for_words (level room) (view_join lines.old).comments)
-            result (λ words. headed (for_words_of (Some (view_items words))) (join_so_far (view_join
-            lines.new) self.new.next)) self.new }
-        ensures tree { IfOk result (λ words. GrowsNone TREE lines.old lines.new) }
-    {
-        let _ = self.reserved_or_paren(false, Position::Suffix);
-        let words = self.words(room)?;
-        self.sequential_sep(lines, room)?;
+        'turns: while let Token::Word = self.next.token {
+            self.item(&mut words, Position::Suffix, room)?;
+        }
         Ok(words)
     }
 
     /// What stands between the name and `do`: the words after `in`, where it stands.
     /// The comments go into `lines`.
     #[cycle(commands)]
-    #[tactic(auto, unfolding(shgrammar::specs::Compounds::a_for_head, crate::specs::InHand::InHand))]
+    #[tactic(auto, unfolding(shgrammar::specs::Compounds::a_for_head, shgrammar::specs::Compounds::for_words, crate::specs::InHand::InHand))]
     fn for_head(&mut self, lines: &mut Join, room: usize) -> Result<Option<Vec<Item>>, Stop>
         requires { (view_join lines.old).comments ≡ [] }
         ensures value { TokenToToken self.old (a_for_head (level room) self.old.next) result
@@ -164,7 +131,10 @@ impl<'a, S: Source, const TREE: u8> Cursor<'a, S, TREE> {
         if !begins_words(semicolon, self.next.token) {
             return Ok(None);
         }
-        Ok(Some(self.for_words(lines, room)?))
+        let _ = self.reserved_or_paren(false, Position::Suffix);
+        let words = self.words(room)?;
+        self.sequential_sep(lines, room)?;
+        Ok(Some(words))
     }
 
     /// A `for`, from just after that word. The comments of its head stand in its body.

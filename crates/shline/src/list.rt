@@ -1,23 +1,21 @@
 //! Lists: entries on one line or on many (XCU 2.9.3, 2.10.2).
-ghost use Rattle.std.specs.Prelude.{◌≡◌, ◌++◌, [], ◌∷◌, IfOk, None, false, map};
-ghost use Rattle.shline.specs.Clauses.{Holds, TokenToToken, Turns};
-ghost use Rattle.shgrammar.specs.Commands.{past_separator};
-ghost use Rattle.shgrammar.specs.Compounds.{a_body};
-ghost use Rattle.shgrammar.specs.Form.{many};
+ghost use Rattle.std.specs.Prelude.{◌≡◌, ◌++◌, ◌==◌, [], ◌∷◌, IfErr, IfOk, None, false, map, option_map, true};
+ghost use Rattle.shline.specs.Clauses.{Holds, keep_of, TokenToToken, Turns};
+ghost use Rattle.shgrammar.specs.Commands.{is_background, past_separator};
+ghost use Rattle.shgrammar.specs.Form.{grows, many, pushed};
 ghost use Rattle.shgrammar.specs.Levels.{level};
 ghost use Rattle.shline.specs.Listed.{view_listed};
-ghost use Rattle.shgrammar.specs.Lists.{a_list, a_remark, entry_turn, list_so_far, list_turn, next_line, none_listed, on_line};
-ghost use Rattle.shast.specs.Tree.{entry, remark};
-ghost use Rattle.shast.specs.View.{view_comment, view_entry, view_list};
+ghost use Rattle.shgrammar.specs.Lists.{a_list, a_remark, entry_turn, is_blank_next, list_so_far, list_turn, next_line, none_listed, on_line, with_command};
+ghost use Rattle.shast.specs.Tree.{command, entry, remark};
+ghost use Rattle.shast.specs.View.{view_and_or, view_comment, view_entry, view_list};
 
 use crate::cursor::Cursor;
 use crate::stop::Stop;
-use shast::{Comment, Entry, List};
+use shast::{AndOr, Comment, Entry, List};
 use shgrammar::{Separator, Token};
 use shmake::make::{and_or_of, command_entry, comment_entry, list_of, pipeline_of};
 use shsource::Source;
 use std::alloc::{AllocError, Global};
-use std::mem;
 
 /// The entries of a list so far.
 #[derive(Drop)]
@@ -123,6 +121,39 @@ impl<'a, S: Source, const TREE: u8> Cursor<'a, S, TREE> {
         listed.room_for_only(self.next.token)
     }
 
+    /// One more entry, which is a command, with what parts it from the next one, and the comment after it on
+    /// its line. It is kept if a tree grows here.
+    #[inline(always)]
+    #[tactic(auto, using(crate::proofs::Kept::pushed_seen))]
+    fn add_command(
+        &mut self,
+        listed: &mut Listed,
+        and_or: AndOr,
+        separator: Option<(Separator, usize)>,
+        comment: Option<Comment>,
+    ) -> Result<(), AllocError>
+        ensures memory { IfErr result (λ e. (TREE == 1) ≡ true) }
+        ensures value { IfOk result (λ _. view_listed listed.new ≡ with_command
+            (view_listed listed.old) (pushed (grows (keep_of self.old)) (view_listed
+            listed.old).entries (entry (command (view_and_or and_or)) (is_background separator)
+            (is_blank_next (view_listed listed.old)) (option_map view_comment comment)))
+            (past_separator separator)) }
+        ensures same { Holds self.old self.new }
+    {
+        let blank = listed.blank && !listed.begun;
+        let background = matches!(separator, Some((Separator::Ampersand, _)));
+        listed.begun = true;
+        listed.commands = true;
+        listed.parted = past_separator(separator);
+        if self.grows() {
+            self.room_for_entry(listed)?;
+        }
+        self.push(
+            &mut listed.entries,
+            command_entry(and_or, background, blank, comment),
+        )
+    }
+
     /// One more entry of a line, if the token here begins one: a command, with what parts it from the next
     /// one, and the comment after it on its line. Answers whether another may follow.
     #[cycle(commands)]
@@ -135,7 +166,6 @@ impl<'a, S: Source, const TREE: u8> Cursor<'a, S, TREE> {
         if !self.next.token.begins_pipeline() {
             return Ok(false);
         }
-        let blank = listed.blank && !listed.begun;
         // Its parts are read here: a pipeline and an and-or list would each be moved out of a `Result`.
         let bang = self.bang();
         let first = self.command(room)?;
@@ -143,24 +173,8 @@ impl<'a, S: Source, const TREE: u8> Cursor<'a, S, TREE> {
         let pipelines = self.joined_pipelines(room)?;
         let separator = self.separator();
         let comment = self.comment();
-        listed.begun = true;
-        listed.commands = true;
-        listed.parted = past_separator(separator);
-        if self.grows() {
-            let background = matches!(separator, Some((Separator::Ampersand, _)));
-            self.room_for_entry(listed)?;
-            listed.entries.push(command_entry(
-                and_or_of(pipeline_of(bang, first, commands), pipelines),
-                background,
-                blank,
-                comment,
-            ))?;
-        } else {
-            // They hold no memory, and what is not dropped needs not be made.
-            mem::forget(first);
-            mem::forget(commands);
-            mem::forget(pipelines);
-        }
+        let and_or = and_or_of(pipeline_of(bang, first, commands), pipelines);
+        self.add_command(listed, and_or, separator, comment)?;
         Ok(separator.is_some())
     }
 
@@ -238,18 +252,6 @@ impl<'a, S: Source, const TREE: u8> Cursor<'a, S, TREE> {
     {
         'turns: while self.list_turn(listed, room)? {}
         Ok(())
-    }
-
-    /// The entries of the body of an item of a `case`, which may hold no command.
-    #[cycle(commands)]
-    #[tactic(auto, unfolding(shgrammar::specs::Compounds::a_body))]
-    pub(crate) fn body(&mut self, room: usize) -> Result<Listed, Stop>
-        ensures { TokenToToken self.old (a_body (level room) self.old.next) result
-            (λ listed. list_so_far (view_listed listed) self.new.next) self.new }
-    {
-        let mut listed = Listed::new(self.alloc, false);
-        self.list_lines(&mut listed, room)?;
-        Ok(listed)
     }
 
     /// A list that holds a command. It ends where no entry may begin; who reads it

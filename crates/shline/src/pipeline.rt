@@ -14,7 +14,6 @@ use shast::{Pipeline, PipelinePart, Span};
 use shgrammar::{Position, Reserved, Token};
 use shmake::make::{pipeline_of, pipeline_part_of};
 use shsource::Source;
-use std::mem;
 
 impl<'a, S: Source, const TREE: u8> Cursor<'a, S, TREE> {
     /// Passes the `!` of a pipeline, if one stands here.
@@ -36,7 +35,7 @@ impl<'a, S: Source, const TREE: u8> Cursor<'a, S, TREE> {
     /// One more command of a pipeline, after a `|`. It stands apart to keep the
     /// frames of nested commands small.
     #[cycle(commands)]
-    #[tactic(auto, unfolding(shgrammar::specs::Commands::one_command))]
+    #[tactic(auto, unfolding(shgrammar::specs::Commands::one_command), using(crate::proofs::Kept::pushed_seen))]
     fn one_command(&mut self, parts: &mut Vec<PipelinePart>, room: usize) -> Result<(), Stop>
         requires { IsRead (text_of self.old) (start_of self.old) }
         ensures { Adds self.old
@@ -48,42 +47,23 @@ impl<'a, S: Source, const TREE: u8> Cursor<'a, S, TREE> {
         self.step();
         let join = self.join(broken)?;
         let command = self.command(room)?;
-        if self.grows() {
-            parts.push(pipeline_part_of(join, command))?;
-        } else {
-            mem::forget(command);
-        }
+        self.push(parts, pipeline_part_of(join, command))?;
         Ok(())
-    }
-
-    /// One more, if a `|` stands here. Answers whether there was one.
-    #[cycle(commands)]
-    #[inline(always)]
-    #[tactic(auto, unfolding(shgrammar::specs::Commands::pipe_turn, crate::specs::InHand::InHand))]
-    fn pipe_turn(&mut self, parts: &mut Vec<PipelinePart>, room: usize) -> Result<bool, Stop>
-        ensures { Turns self.old
-            (pipe_turn (level room) (pipes_so_far (view_pipeline_parts parts.old)
-            self.old.next)) result
-            (pipes_so_far (view_pipeline_parts parts.new) self.new.next) self.new }
-    {
-        let Token::Pipe = self.next.token else {
-            return Ok(false);
-        };
-        self.one_command(parts, room)?;
-        Ok(true)
     }
 
     /// The commands of a pipeline after its first.
     #[cycle(commands)]
     #[inline(always)]
-    #[tactic(auto, using(crate::proofs::Stops::many_stop))]
+    #[tactic(auto, unfolding(shgrammar::specs::Commands::pipe_turn, crate::specs::InHand::InHand), using(shgrammar::proofs::Turns::many_again, shgrammar::proofs::Turns::many_done, crate::proofs::Stops::many_stop))]
     pub(crate) fn pipes(&mut self, room: usize) -> Result<Vec<PipelinePart>, Stop>
         ensures { TokenToToken self.old
             (many (pipe_turn (level room)) (pipes_so_far [] self.old.next)) result
             (λ parts. pipes_so_far (view_pipeline_parts parts) self.new.next) self.new }
     {
         let mut parts = Vec::new(self.alloc);
-        'turns: while self.pipe_turn(&mut parts, room)? {}
+        'turns: while let Token::Pipe = self.next.token {
+            self.one_command(&mut parts, room)?;
+        }
         Ok(parts)
     }
 

@@ -1,21 +1,23 @@
 //! Redirections (XCU 2.7): among the items of a simple command, and after a compound command.
-ghost use Rattle.std.specs.Prelude.{◌≡◌, ◌+◌, ◌<◌, ◌≤◌, [], IfOk, Some};
-ghost use Rattle.shline.specs.Clauses.{Adds, at_place, at_token, end_of, Finds, here_of, is_compound, Leads, PlaceToPlace, start_of, text_of, TokenToToken};
+ghost use Rattle.std.specs.Prelude.{◌≡◌, ◌+◌, ◌<◌, ◌≤◌, ◌==◌, [], IfErr, IfOk, Some, true};
+ghost use Rattle.shline.specs.Clauses.{Adds, at_place, at_token, end_of, Finds, here_of, is_compound, keep_of, Leads, PlaceToPlace, start_of, text_of, TokenToToken};
 ghost use Rattle.shgrammar.specs.Commands.{a_number, a_target, an_operator, is_long, one_redirect, redirect_operator_of, redirect_turn, items_so_far, with_redirect_list};
 ghost use Rattle.shgrammar.specs.declared.token.Position.TheVariants.{Command as AsCommand};
-ghost use Rattle.shgrammar.specs.Form.{many, raw};
+ghost use Rattle.shgrammar.specs.Form.{grows, many, pushed, raw};
 ghost use Rattle.shgrammar.specs.Levels.{level};
 ghost use Rattle.shline.specs.Rows.{view_items};
 ghost use Rattle.shast.specs.Nodes.{word_span};
-ghost use Rattle.shast.specs.View.{view_command, view_word};
+ghost use Rattle.shast.specs.Tree.{item};
+ghost use Rattle.shast.specs.View.{view_command, view_redirection, view_word};
 
 use crate::cursor::Cursor;
 use crate::documents::is_strip;
 use crate::stop::Stop;
-use shast::{Command, Item, RedirectOperator, Span, Word};
+use shast::{Command, Item, RedirectOperator, Redirection, Span, Word};
 use shgrammar::{FaultKind, Position, Token};
 use shmake::make::{redirect_of, redirection_of, with_redirects};
 use shsource::Source;
+use std::alloc::AllocError;
 use std::mem;
 
 /// Whether it has two bytes, or more.
@@ -75,9 +77,28 @@ impl<'a, S: Source, const TREE: u8> Cursor<'a, S, TREE> {
             return Err(Stop::Wrong(self.what_is_wrong(room)?));
         };
         let start = self.start();
-        let mut substs = Vec::new(self.alloc);
-        self.pass_word(&mut substs, room)?;
-        Ok((self.word_from(start, substs), start))
+        let word = self.word(room)?;
+        Ok((word, start))
+    }
+
+    /// One more item, which is a redirection, if a tree grows here.
+    #[inline(always)]
+    fn add_redirect(
+        &self,
+        items: &mut Vec<Item>,
+        redirection: Redirection,
+        broken: bool,
+    ) -> Result<(), AllocError>
+        ensures memory { IfErr result (λ e. (TREE == 1) ≡ true) }
+        ensures value { IfOk result (λ _. view_items items.new ≡ pushed (grows (keep_of self.now))
+            (view_items items.old) (item broken (view_redirection redirection))) }
+    {
+        if self.grows() {
+            items.push(redirect_of(Box::new(self.alloc, redirection)?, broken))?;
+        } else {
+            mem::forget(redirection);
+        }
+        Ok(())
     }
 
     /// The redirection that begins here, as one more of these items, and the token
@@ -103,12 +124,11 @@ impl<'a, S: Source, const TREE: u8> Cursor<'a, S, TREE> {
         let span = self.operator(operator);
         let (word, begin) = self.target(room)?;
         let here = self.document(operator, span.start, begin)?;
-        if self.grows() {
-            let redirection = redirection_of(number, operator, span, word, here);
-            items.push(redirect_of(Box::new(self.alloc, redirection)?, broken))?;
-        } else {
-            mem::forget(word);
-        }
+        self.add_redirect(
+            items,
+            redirection_of(number, operator, span, word, here),
+            broken,
+        )?;
         self.next_token(position);
         Ok(())
     }

@@ -1,5 +1,5 @@
 //! Words (XCU 2.3), and how far they go: their pieces in the five modes (XCU 2.2, 2.6).
-ghost use Rattle.std.specs.Prelude.{◌≡◌, ◌≢◌, ◌+◌, ◌<◌, ◌≤◌, [], length, IfOk, List as Row, false};
+ghost use Rattle.std.specs.Prelude.{◌≡◌, ◌≢◌, ◌+◌, ◌<◌, ◌≤◌, length, IfOk, List as Row, false};
 ghost use Rattle.shgrammar.specs.Bytes.{ends_word};
 ghost use Rattle.shgrammar.specs.Shows.{IsRead};
 ghost use Rattle.shline.specs.Pieces.{PieceShows};
@@ -7,6 +7,7 @@ ghost use Rattle.shline.specs.Clauses.{here_of, IsHere, Keeps, Moves, on, Onward
 ghost use Rattle.shgrammar.specs.Form.{again, step_if};
 ghost use Rattle.shgrammar.specs.Pieces.{past_closer};
 ghost use Rattle.shline.specs.Rows.{view_substs};
+ghost use Rattle.shast.specs.Nodes.{word_span};
 ghost use Rattle.shast.specs.Tree.{ASubst};
 ghost use Rattle.shast.specs.View.{view_word};
 ghost use Rattle.shgrammar.specs.Words.{a_piece, a_word, contents, word_so_far, holds_others, piece_row};
@@ -229,29 +230,31 @@ impl<'a, S: Source, const TREE: u8> Cursor<'a, S, TREE> {
         Ok(())
     }
 
-    /// Passes the word that begins here, and tells its substitutions. Most words are plain bytes alone.
+    /// The word that begins here. Most words are plain bytes alone.
     #[cycle(commands)]
     #[inline(always)]
     #[tactic(auto, using(shgrammar::proofs::PlainBytes::plain_word, shgrammar::proofs::PlainBytes::word_rest, crate::proofs::Stops::word_stops, shgrammar::proofs::Places::word_longer))]
-    pub(crate) fn pass_word(&mut self, substs: &mut Vec<Subst>, room: usize) -> Result<(), Stop>
-        requires word { ends_word (text_of self.old) (start_of self.old) ≡ false }
-        requires none { substs.old.items ≡ [] }
-        ensures value { TokenToPlace self.old (a_word (level room)) result
-            (λ _. word_from self.old.origin (start_of self.old) self.new substs.new) self.new }
+    pub(crate) fn word(&mut self, room: usize) -> Result<Word, Stop>
+        requires { ends_word (text_of self.old) (start_of self.old) ≡ false }
+        ensures value { TokenToPlace self.old (a_word (level room)) result view_word self.new }
         ensures onward { IfOk result (λ _. start_of self.old < here_of self.new) }
+        ensures start { IfOk result
+            (λ x. (word_span (view_word x)).start ≡ self.old.origin + start_of self.old) }
     {
         let start = self.start();
+        let mut substs = Vec::new(self.alloc);
         self.at = self.next_at;
         self.skip_plain(Mode::Plain);
         let at = self.at;
         if !self.ends_at(at) {
-            self.contents(Mode::Plain, start, substs, room)?;
+            self.contents(Mode::Plain, start, &mut substs, room)?;
         }
-        Ok(())
+        Ok(self.word_from(start, substs))
     }
 
     /// The word from a place of the text to here, with these substitutions.
-    pub(crate) fn word_from(&self, start: usize, substs: Vec<Subst>) -> Word
+    #[inline(always)]
+    fn word_from(&self, start: usize, substs: Vec<Subst>) -> Word
         requires { start ≤ here_of self.now }
         ensures { view_word result ≡ word_from self.now.origin start self.now substs }
     {

@@ -1,10 +1,10 @@
-use Rattle.std.proofs.Common.{rules, ◌≡◌, [], ℕ, ◌<◌, ◌≤◌, ◌+◌, ◌-◌, ◌∙◌, Ok, Some, List as Row, length, map, ap, sym, arith, true, false, refl}
+use Rattle.std.proofs.Common.{rules, ◌≡◌, [], ℕ, ◌<◌, ◌≤◌, ◌+◌, ◌-◌, ◌∙◌, Ok, None, Some, List as Row, length, map, ap, sym, arith, true, false, refl}
 use Rattle.shgrammar.specs.declared.mode.Piece.TheVariants as pieces
 use Rattle.shgrammar.specs.Bytes.{past_continuations}
 use Rattle.shline.specs.InHand.{InHand}
 use Rattle.shline.specs.Clauses.{at_place, at_token, here_of, keep_of, on, standing_with, start_of, text_of, view_waiting}
 use Rattle.shgrammar.specs.Comments.{span}
-use Rattle.shgrammar.specs.Form.{does, done, grows, pushed}
+use Rattle.shgrammar.specs.Form.{does, grows, pushed}
 use Rattle.shgrammar.specs.HereDocuments.{outer_level, own_level}
 use Rattle.shgrammar.specs.Pieces.{piece_at, piece_in}
 use Rattle.shgrammar.specs.Plain.{ArePlain}
@@ -18,15 +18,14 @@ use Rattle.shast.specs.Tree.{ASubst, subst}
 use Rattle.shast.specs.View.{view_list, view_subst}
 use Rattle.shgrammar.proofs.Levels.{substitution_read}
 use Rattle.shgrammar.proofs.PlainBytes.{ordinary_here, piece_and_plain}
-use Rattle.shgrammar.specs.Commands.{begins_redirect, item_turn, and_or_turn, and_or_so_far, pipe_turn, pipes_so_far, redirect_operator_of, redirect_turn, items_so_far}
+use Rattle.shgrammar.specs.Commands.{begins_redirect, item_turn, and_or_operator_of, and_or_turn, and_or_so_far, pipe_turn, pipes_so_far, redirect_operator_of, redirect_turn, items_so_far}
 use Rattle.shgrammar.specs.Compounds.{branches_so_far, case_turn, elif_turn, is_closing, pattern_turn, patterns_so_far, word_turn}
 use Rattle.shgrammar.specs.Lists.{list_so_far, list_turn}
-use Rattle.shgrammar.specs.declared.token.Closing.TheVariants.{Esac}
+use Rattle.shgrammar.specs.declared.token.Closing.TheVariants.{Elif, Esac}
 use Rattle.shgrammar.specs.declared.token.Position.TheVariants.{Suffix, Command as AsCommand}
-use Rattle.shgrammar.proofs.Turns.{many_done}
 use Rattle.shline.specs.Listed.{view_cases, view_listed}
-use Rattle.shline.specs.Rows.{view_items, view_words}
-use Rattle.shline.proofs.Loops.{loop_done, loop_again}
+use Rattle.shline.specs.Rows.{view_and_or_parts, view_branches, view_items, view_pipeline_parts, view_words}
+use Rattle.shline.proofs.Loops.{loop_again, loop_done, loop_over, not_pipe, not_word}
 use Rattle.shline.proofs.Wanted.{here_wants}
 use Rattle.shline.proofs.cursor.Cursor.+commands.Goals as goal
 
@@ -169,91 +168,77 @@ redirect-document-requires g t c =
       ),
     )
 
+-- ---- loops that end at a token that no turn takes
+
 -- no redirection follows
 pub redirects-returns : goal.redirects-returns
 unfolding redirect_turn
 redirects-returns g t c =
-    let start = c.args.self.now in
-    let here = given start.how.edition (text_of start) start.origin in
     let self = c.turns.self in
-    let all = items_so_far (view_items c.turns.redirects) AsCommand self.next in
     let stops : begins_redirect self.next.token ≡ false = sym c.begins_redirect.ensures ∙ c.turns-test.false in
-    let one : does (redirect_turn (level c.args.room) all) (keep_of start) here (at_token self)
-    ≡ Ok (done all, at_token self) = rw stops refl in record {
-      read =
-          sym c.turns.invariant.read ∙ many_done (redirect_turn (level c.args.room)) (keep_of start) here all all
-          (at_token self) (at_token self) one;
-      onward = search rules;
-      same = search rules;
-    }
+    loop_over c.args.self.now self (redirect_turn (level c.args.room))
+    (items_so_far [] AsCommand c.args.self.now.next) (items_so_far (view_items c.turns.redirects) AsCommand self.next)
+    c.turns.invariant (rw stops refl)
 
 -- nor an item of a `case`
 pub cases-returns : goal.cases-returns
 unfolding case_turn
 cases-returns g t c =
-    let start = c.args.self.now in
-    let here = given start.how.edition (text_of start) start.origin in
     let self = c.turns.self in
-    let all = view_cases c.turns.cases self.next in
     let stops : is_closing Esac self.next.token ≡ true = sym c.is_closing.ensures.value ∙ c.turns-test.false in
-    let one : does (case_turn (level c.args.room) all) (keep_of start) here (at_token self)
-    ≡ Ok (done all, at_token self) = rw stops refl in record {
-      read =
-          sym c.turns.invariant.read ∙ many_done (case_turn (level c.args.room)) (keep_of start) here all all
-          (at_token self) (at_token self) one;
-      onward = search rules;
-      same = search rules;
-    }
+    loop_over c.args.self.now self (case_turn (level c.args.room))
+    (view_cases c.args.cases.now c.args.self.now.next) (view_cases c.turns.cases self.next)
+    c.turns.invariant (rw stops refl)
+
+-- nor an `elif`
+pub elifs-returns : goal.elifs-returns
+unfolding elif_turn
+elifs-returns g t c =
+    let self = c.turns.self in
+    let stops : is_closing Elif self.next.token ≡ false = sym c.is_closing.ensures.value ∙ c.turns-test.false in
+    loop_over c.args.self.now self (elif_turn (level c.args.room))
+    (branches_so_far [] c.args.self.now.next) (branches_so_far (view_branches c.turns.branches) self.next)
+    c.turns.invariant (rw stops refl)
+
+-- nor a `|` with a command
+pub pipes-returns : goal.pipes-returns
+unfolding pipe_turn
+pipes-returns g t c =
+    let self = c.turns.self in
+    let stops = not_pipe self.next.token c.in_default.not-Pipe in
+    loop_over c.args.self.now self (pipe_turn (level c.args.room)) (pipes_so_far [] c.args.self.now.next)
+    (pipes_so_far (view_pipeline_parts c.turns.parts) self.next) c.turns.invariant (rw stops refl)
+
+-- nor one with a pattern
+pub more_patterns-returns : goal.more_patterns-returns
+unfolding pattern_turn
+more_patterns-returns g t c =
+    let self = c.turns.self in
+    let stops = not_pipe self.next.token c.in_default.not-Pipe in
+    loop_over c.args.self.now self (pattern_turn (level c.args.room))
+    (patterns_so_far (view_words c.args.patterns.now) c.args.self.now.next)
+    (patterns_so_far (view_words c.turns.patterns) self.next) c.turns.invariant (rw stops refl)
+
+-- nor `&&` or `||`
+pub joined_pipelines-returns : goal.joined_pipelines-returns
+unfolding and_or_turn
+joined_pipelines-returns g t c =
+    let self = c.turns.self in
+    let stops : and_or_operator_of self.next.token ≡ None =
+    sym c.and_or_operator.ensures.value ∙ c.in_default.is in
+    loop_over c.args.self.now self (and_or_turn (level c.args.room)) (and_or_so_far [] c.args.self.now.next)
+    (and_or_so_far (view_and_or_parts c.turns.parts) self.next) c.turns.invariant (rw stops refl)
+
+-- nor a word
+pub words-returns : goal.words-returns
+unfolding word_turn
+words-returns g t c =
+    let self = c.turns.self in
+    let stops = not_word self.next.token c.in_default.not-Word in
+    loop_over c.args.self.now self (word_turn (level c.args.room)) (items_so_far [] Suffix c.args.self.now.next)
+    (items_so_far (view_items c.turns.words) Suffix self.next) c.turns.invariant (rw stops refl)
 
 -- ---- loops whose turns are rows
-
-pub elifs-turns-preserved : goal.elifs-turns-preserved
-elifs-turns-preserved g t c =
-    loop_again c.args.self.now c.turns.self c.elif_turn.new.self (elif_turn (level c.args.room))
-    (branches_so_far [] c.args.self.now.next) _ _
-    c.if-branch.true c.turns.invariant c.in_ok-elif_turn.ensures
-
-pub elifs-returns : goal.elifs-returns
-elifs-returns g t c =
-    loop_done c.args.self.now c.turns.self c.elif_turn.new.self (elif_turn (level c.args.room))
-    (branches_so_far [] c.args.self.now.next) _ _
-    c.if-branch.false c.turns.invariant c.in_ok-elif_turn.ensures
-
-pub pipes-turns-preserved : goal.pipes-turns-preserved
-pipes-turns-preserved g t c =
-    loop_again c.args.self.now c.turns.self c.pipe_turn.new.self (pipe_turn (level c.args.room))
-    (pipes_so_far [] c.args.self.now.next) _ _
-    c.if-branch.true c.turns.invariant c.in_ok-pipe_turn.ensures
-
-pub pipes-returns : goal.pipes-returns
-pipes-returns g t c =
-    loop_done c.args.self.now c.turns.self c.pipe_turn.new.self (pipe_turn (level c.args.room))
-    (pipes_so_far [] c.args.self.now.next) _ _
-    c.if-branch.false c.turns.invariant c.in_ok-pipe_turn.ensures
-
-pub joined_pipelines-turns-preserved : goal.joined_pipelines-turns-preserved
-joined_pipelines-turns-preserved g t c =
-    loop_again c.args.self.now c.turns.self c.and_or_turn.new.self (and_or_turn (level c.args.room))
-    (and_or_so_far [] c.args.self.now.next) _ _
-    c.if-branch.true c.turns.invariant c.in_ok-and_or_turn.ensures
-
-pub joined_pipelines-returns : goal.joined_pipelines-returns
-joined_pipelines-returns g t c =
-    loop_done c.args.self.now c.turns.self c.and_or_turn.new.self (and_or_turn (level c.args.room))
-    (and_or_so_far [] c.args.self.now.next) _ _
-    c.if-branch.false c.turns.invariant c.in_ok-and_or_turn.ensures
-
-pub words-turns-preserved : goal.words-turns-preserved
-words-turns-preserved g t c =
-    loop_again c.args.self.now c.turns.self c.word_turn.new.self (word_turn (level c.args.room))
-    (items_so_far [] Suffix c.args.self.now.next) _ _
-    c.if-branch.true c.turns.invariant c.in_ok-word_turn.ensures
-
-pub words-returns : goal.words-returns
-words-returns g t c =
-    loop_done c.args.self.now c.turns.self c.word_turn.new.self (word_turn (level c.args.room))
-    (items_so_far [] Suffix c.args.self.now.next) _ _
-    c.if-branch.false c.turns.invariant c.in_ok-word_turn.ensures
 
 pub list_lines-turns-preserved : goal.list_lines-turns-preserved
 list_lines-turns-preserved g t c =
@@ -266,18 +251,6 @@ list_lines-returns g t c =
     loop_done c.args.self.now c.turns.self c.list_turn.new.self (list_turn (level c.args.room))
     (list_so_far (view_listed c.args.listed.now) c.args.self.now.next) _ _
     c.if-branch.false c.turns.invariant c.in_ok-list_turn.ensures
-
-pub more_patterns-turns-preserved : goal.more_patterns-turns-preserved
-more_patterns-turns-preserved g t c =
-    loop_again c.args.self.now c.turns.self c.pattern_turn.new.self (pattern_turn (level c.args.room))
-    (patterns_so_far (view_words c.args.patterns.now) c.args.self.now.next) _ _
-    c.if-branch.true c.turns.invariant c.in_ok-pattern_turn.ensures
-
-pub more_patterns-returns : goal.more_patterns-returns
-more_patterns-returns g t c =
-    loop_done c.args.self.now c.turns.self c.pattern_turn.new.self (pattern_turn (level c.args.room))
-    (patterns_so_far (view_words c.args.patterns.now) c.args.self.now.next) _ _
-    c.if-branch.false c.turns.invariant c.in_ok-pattern_turn.ensures
 
 pub items-turns-preserved : goal.items-turns-preserved
 items-turns-preserved g t c =

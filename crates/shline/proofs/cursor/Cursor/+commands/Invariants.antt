@@ -31,8 +31,8 @@ decreases-take_piece g l = 128 * l.room + 5
 abbrev pub decreases-contents : goal.decreases-contents
 decreases-contents g l = 128 * l.room + 6
 
-abbrev pub decreases-pass_word : goal.decreases-pass_word
-decreases-pass_word g l = 128 * l.room + 8
+abbrev pub decreases-word : goal.decreases-word
+decreases-word g l = 128 * l.room + 8
 
 abbrev pub decreases-what_is_wrong : goal.decreases-what_is_wrong
 decreases-what_is_wrong g l = 128 * l.room + 10
@@ -73,20 +73,11 @@ decreases-for_name g l = 128 * l.room + 12
 abbrev pub decreases-sequential_sep : goal.decreases-sequential_sep
 decreases-sequential_sep g l = 128 * l.room + 12
 
-abbrev pub decreases-case_word : goal.decreases-case_word
-decreases-case_word g l = 128 * l.room + 12
-
 abbrev pub decreases-one_pattern : goal.decreases-one_pattern
 decreases-one_pattern g l = 128 * l.room + 12
 
 abbrev pub decreases-item_end : goal.decreases-item_end
 decreases-item_end g l = 128 * l.room + 12
-
-abbrev pub decreases-simple : goal.decreases-simple
-decreases-simple g l = 128 * l.room + 20
-
-abbrev pub decreases-for_words : goal.decreases-for_words
-decreases-for_words g l = 128 * l.room + 16
 
 abbrev pub decreases-case_head : goal.decreases-case_head
 decreases-case_head g l = 128 * l.room + 14
@@ -157,9 +148,6 @@ decreases-substitution_list g l = 128 * l.room + 60
 abbrev pub decreases-one_substitution : goal.decreases-one_substitution
 decreases-one_substitution g l = 128 * l.room + 62
 
-abbrev pub decreases-body : goal.decreases-body
-decreases-body g l = 128 * l.room + 60
-
 abbrev pub decreases-branch : goal.decreases-branch
 decreases-branch g l = 128 * l.room + 62
 
@@ -174,9 +162,6 @@ decreases-otherwise g l = 128 * l.room + 62
 
 abbrev pub decreases-one_case : goal.decreases-one_case
 decreases-one_case g l = 128 * l.room + 62
-
-abbrev pub decreases-elif_turn : goal.decreases-elif_turn
-decreases-elif_turn g l = 128 * l.room + 64
 
 abbrev pub decreases-elifs : goal.decreases-elifs
 decreases-elifs g l = 128 * l.room + 66
@@ -195,18 +180,6 @@ decreases-case_command g l = 128 * l.room + 68
 
 abbrev pub decreases-form : goal.decreases-form
 decreases-form g l = 128 * l.room + 70
-
-abbrev pub decreases-word_turn : goal.decreases-word_turn
-decreases-word_turn g l = 128 * l.room + 12
-
-abbrev pub decreases-pattern_turn : goal.decreases-pattern_turn
-decreases-pattern_turn g l = 128 * l.room + 14
-
-abbrev pub decreases-pipe_turn : goal.decreases-pipe_turn
-decreases-pipe_turn g l = 128 * l.room + 34
-
-abbrev pub decreases-and_or_turn : goal.decreases-and_or_turn
-decreases-and_or_turn g l = 128 * l.room + 42
 
 -- ---- loops
 
