@@ -1,5 +1,5 @@
 -- What is kept of a tree: one more of a row, and what stands in a substitution.
-use Rattle.std.proofs.Common.{◌≡◌, ℕ, zero, suc, ◌-◌, ◌<◌, Bool, true, false, List as Row, [], ◌∷◌, ◌++◌, map, refl, arith, sub-one, if◌then◌else◌, ◌==◌}
+use Rattle.std.proofs.Common.{◌≡◌, ℕ, zero, suc, ◌-◌, ◌<◌, Bool, true, false, List as Row, [], ◌∷◌, map, refl, arith, sub-one, if◌then◌else◌, ◌==◌}
 use Rattle.std.proofs.lemmas.List.{map-append}
 use Rattle.shgrammar.specs.declared.keep.Keep.{Keep}
 use Rattle.shgrammar.specs.declared.keep.Keep.TheVariants.{Nothing}

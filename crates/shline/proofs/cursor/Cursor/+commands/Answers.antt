@@ -2,7 +2,7 @@ use Rattle.std.proofs.Common.{rules, ◌≡◌, [], ℕ, ◌<◌, ◌≤◌, ◌
 use Rattle.shgrammar.specs.declared.mode.Piece.TheVariants as pieces
 use Rattle.shgrammar.specs.Bytes.{past_continuations}
 use Rattle.shline.specs.InHand.{InHand}
-use Rattle.shline.specs.Clauses.{at_place, at_token, here_of, keep_of, on, standing_with, start_of, text_of, view_waiting}
+use Rattle.shline.specs.Clauses.{at_place, here_of, keep_of, on, standing_with, start_of, text_of, view_waiting}
 use Rattle.shgrammar.specs.Comments.{span}
 use Rattle.shgrammar.specs.Form.{does, grows, pushed}
 use Rattle.shgrammar.specs.HereDocuments.{outer_level, own_level}

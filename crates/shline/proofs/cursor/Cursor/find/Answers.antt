@@ -1,4 +1,4 @@
-use Rattle.std.proofs.Common.{◌+◌, ◌-◌, ◌<◌, ℕ, List, ◌∙◌, ap, arith, drop, length, length-drop, Some, subst, sym}
+use Rattle.std.proofs.Common.{◌+◌, ◌<◌, ℕ, List, ◌∙◌, ap, arith, drop, length, length-drop, Some, subst, sym}
 use Rattle.std.proofs.lemmas.List.{take_rest}
 use Rattle.memchr.specs.Find.{IsFirstByte}
 use Rattle.shgrammar.specs.Standing.{next_such}

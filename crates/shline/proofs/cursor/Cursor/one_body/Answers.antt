@@ -1,4 +1,4 @@
-use Rattle.std.proofs.Common.{◌≡◌, ◌+◌, ◌∙◌, ◌∷◌, ◌++◌, [], None, Some, ap, rules, sym}
+use Rattle.std.proofs.Common.{◌≡◌, ◌∙◌, ◌∷◌, ◌++◌, [], None, Some, ap, rules, sym}
 use Rattle.shline.specs.Clauses.{given_of, here_of, text_of, view_waiting}
 use Rattle.shgrammar.specs.HereDocuments.{bodies_from, delimiter_from, past_line}
 use Rattle.shgrammar.specs.Comments.{span}
