@@ -22,10 +22,10 @@ impl<'a, S: Source, const TREE: u8> Cursor<'a, S, TREE> {
     fn dollar(&self, here: usize) -> Piece
         requires here { ByteHere self.now here }
         ensures value { result ≡ dollar_at (text_of self.now) (here_of self.now) }
-        ensures two { (result ≡ Piece.Pid) ⊎ (result ≡ Piece.Subst) ⊎ (result ≡ Piece.Arith) ⊎
+        ensures second { (result ≡ Piece.Pid) ⊎ (result ≡ Piece.Subst) ⊎ (result ≡ Piece.Arith) ⊎
             (result ≡ Piece.Param) ⊎ (result ≡ Piece.DollarSingle) → IsRead (text_of self.now) (on
             self.now here + 1) }
-        ensures three { result ≡ Piece.Arith →
+        ensures third { result ≡ Piece.Arith →
             IsRead (text_of self.now) (past_byte (text_of self.now)
             (on self.now here + 1)) }
         ensures kinds { (result ≢ Piece.Closer) × (result ≢ Piece.Missing) × (result ≢ Piece.Escape)
@@ -225,7 +225,7 @@ impl<'a, S: Source, const TREE: u8> Cursor<'a, S, TREE> {
     #[tactic(auto, unfolding(shgrammar::specs::Words::dollar_single, shgrammar::specs::Bytes::past_byte), using(shgrammar::proofs::Stretches::place_low))]
     pub(crate) fn dollar_single(&mut self, here: usize) -> Result<(), Stop>
         requires here { ByteHere self.old here }
-        requires two { IsRead (text_of self.old) (on self.old here + 1) }
+        requires second { IsRead (text_of self.old) (on self.old here + 1) }
         ensures value { PlaceToPlace self.old dollar_single result (λ _. tt) self.new }
         ensures onward { IfOk result (λ _. on self.old here < here_of self.new) }
     {

@@ -25,8 +25,8 @@ impl<'a, S: Source, const TREE: u8> Cursor<'a, S, TREE> {
     #[tactic(auto, unfolding(shgrammar::specs::Bytes::past_byte), using(shgrammar::proofs::Stretches::place_low))]
     fn close(&mut self, mode: Mode, here: usize)
         requires here { IsHere self.old here }
-        requires one { mode ≢ Mode.Plain → on self.old here < length (text_of self.old) }
-        requires two { mode ≡ Mode.Arith → IsRead (text_of self.old) (on self.old here + 1) }
+        requires first { mode ≢ Mode.Plain → on self.old here < length (text_of self.old) }
+        requires second { mode ≡ Mode.Arith → IsRead (text_of self.old) (on self.old here + 1) }
         ensures { Moves self.old self.new (past_closer (text_of self.old) mode (here_of self.old)) }
     {
         match mode {
