@@ -1,8 +1,8 @@
 -- What clap's model makes of the name of check or print, and of FILE.
 use Rattle.std.proofs.Common.{◌≡◌, ◌==◌, ◌∙◌, ℕ, Bool, List, [], ◌∷◌, None, Some, ap, codes, false, refl, subst, sym, true}
-use Rattle.std.specs.Prelude.{not}
 use Rattle.std.specs.Option.{option_map_or}
 use Rattle.std.specs.Str.{bytes_eq}
+use Rattle.std.proofs.lemmas.Bool.{not-true}
 use denote.Ref.{Bor}
 use Rattle.clap.specs.Faults.{check_fault, defaults_fault, fault_of, level_fault, settle_fault, step_fault, walk_fault}
 use Rattle.clap.specs.Kinds.{Kinds, or_else}
@@ -131,10 +131,6 @@ off flag is = record {
   off = λ same. is;
 }
 
-unless : (b : Bool) → not b ≡ true → b ≡ false
-unless true is = sym is
-unless false is = refl
-
 abbrev run : Tool → Layout → Bor Text → Settings
 run tool layout file = record { tool = tool; edition = Y2017; layout = layout; file = Some file }
 
@@ -147,11 +143,11 @@ plain_run words Check layout file (c ∷ cs) is are plain =
       are_years = refl;
       name = codes "check";
       own = check_rows (c ∷ cs);
-      matches = (check c cs (unless (c == hyphen) are.1) years).matches;
+      matches = (check c cs (not-true (c == hyphen) are.1) years).matches;
       tool = refl;
       edition = refl;
       layout = plain;
-      file = ap Some is ∙ sym (no_input c cs (unless (c == hyphen) are.1));
+      file = ap Some is ∙ sym (no_input c cs (not-true (c == hyphen) are.1));
     })
 plain_run words Print layout file (c ∷ cs) is are plain =
     subst (λ w. AreSettingsOf w (run Print layout file)) (sym are.0) (record {
@@ -159,7 +155,7 @@ plain_run words Print layout file (c ∷ cs) is are plain =
       are_years = refl;
       name = codes "print";
       own = print_rows (c ∷ cs);
-      matches = (print c cs (unless (c == hyphen) are.1) years).matches;
+      matches = (print c cs (not-true (c == hyphen) are.1) years).matches;
       tool = refl;
       edition = refl;
       layout = record {
@@ -168,7 +164,7 @@ plain_run words Print layout file (c ∷ cs) is are plain =
         space_redirects = off layout.space_redirects (ap (λ l. l.space_redirects) plain);
         func_next_line = off layout.func_next_line (ap (λ l. l.func_next_line) plain);
       };
-      file = ap Some is ∙ sym (no_input c cs (unless (c == hyphen) are.1));
+      file = ap Some is ∙ sym (no_input c cs (not-true (c == hyphen) are.1));
     })
 plain_run words Check layout file [] is are plain = let never : false ≡ true = are.1 in cc
 plain_run words Print layout file [] is are plain = let never : false ≡ true = are.1 in cc
@@ -180,12 +176,12 @@ pub plain_passes : (words : List Text) (tool : Tool) (file : Text) → AreToolAn
 plain_passes words Check (c ∷ cs) are = (
   years,
   refl,
-  ap (fault_of (app_with_all_tools years)) are.0 ∙ (check c cs (unless (c == hyphen) are.1) years).faultless,
+  ap (fault_of (app_with_all_tools years)) are.0 ∙ (check c cs (not-true (c == hyphen) are.1) years).faultless,
 )
 plain_passes words Print (c ∷ cs) are = (
   years,
   refl,
-  ap (fault_of (app_with_all_tools years)) are.0 ∙ (print c cs (unless (c == hyphen) are.1) years).faultless,
+  ap (fault_of (app_with_all_tools years)) are.0 ∙ (print c cs (not-true (c == hyphen) are.1) years).faultless,
 )
 plain_passes words Check [] are = let never : false ≡ true = are.1 in cc
 plain_passes words Print [] are = let never : false ≡ true = are.1 in cc

@@ -1,6 +1,6 @@
 -- Tests that look ahead, where a byte ends the reading in both texts: the same answers.
 use Rattle.std.proofs.Common.{◌≡◌, ℕ, zero, suc, ◌+◌, ◌-◌, ◌≤◌, ◌<◌, ◌==◌, Bool, true, false, not, cond, ◌&&◌, List, List as Row, [], ◌∷◌, length, Option, Some, None, slice_get, refl, sym, ap, subst, ◌∙◌, arith, ⊎_elim}
-use Rattle.std.proofs.lemmas.Bool.{and_parts, both_ways, cases_Bool, not-true}
+use Rattle.std.proofs.lemmas.Bool.{and_parts, both_ways, cases_Bool, false_from_ne_true, not-true}
 use Rattle.std.proofs.lemmas.Bool.Decides.{nat_tests}
 use Rattle.shsource.specs.Text.{is_newline}
 use Rattle.shgrammar.specs.Classes.{is_blank, is_letter, is_digit, is_name}
@@ -12,7 +12,7 @@ use Rattle.shgrammar.specs.declared.token.Position.TheVariants.{Command, Prefix,
 use Rattle.shgrammar.specs.declared.token.Token.TheVariants as tokens
 use Rattle.shgrammar.specs.Tokens.{Spelling, is_word_at, first_of_words, reserved_words, reserved_at, begins_assignment, greater_at, is_name_at, is_number, less_at, word_by, token_of, token_at, next_at}
 use Rattle.shgrammar.proofs.Stretches.{place_low, past_more, past_none, stands_in_low, joined_none, joined_more, raw_more, raw_none}
-use Rattle.shgrammar.proofs.Places.{must_fail, after_low, past_low}
+use Rattle.shgrammar.proofs.Places.{after_low, past_low}
 use Rattle.shgrammar.proofs.SameBytes.{Kept, goes_on, Safe, at_limit, halts, one_byte, two_bytes, Place, inside, outside, Here, no_backslash, on_no_backslash, continued, safe_high, safe_low, safe_place, safe_after, none_same, pair_same, place, raw_same, here_byte, here_after, on_no_backslash_by}
 use Rattle.shgrammar.specs.declared.edition.Edition.{Edition}
 
@@ -23,7 +23,7 @@ past_byte_is T p = refl
 
 -- what ends a word is none of these
 pub ender : (b c : ℕ) → ends (Some b) ≡ true → ends (Some c) ≡ false → (b == c) ≡ false
-ender b c e f = must_fail (b == c)
+ender b c e f = false_from_ne_true (b == c)
     (λ g. let is : b ≡ c = grind (arith, nat_tests) in both_ways (ends (Some b)) (rw is f) e)
 
 -- what the byte at the limit is: it is no byte over which anything that is looked for

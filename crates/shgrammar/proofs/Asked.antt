@@ -1,7 +1,7 @@
 -- What a row may see of a text, and where it may move to: the same in each text that
 -- has its bytes up to a newline, or to a `)`.
 use Rattle.std.proofs.Common.{◌≡◌, ℕ, zero, suc, ◌+◌, ◌-◌, ◌≤◌, ◌<◌, ◌==◌, Bool, true, false, not, cond, ◌||◌, List, [], ◌∷◌, take, drop, Option, Some, None, slice_get, refl, sym, ap, subst, ◌∙◌, arith, ⊎_elim}
-use Rattle.std.proofs.lemmas.Bool.{both_ways, cases_lt, cases_Bool}
+use Rattle.std.proofs.lemmas.Bool.{both_ways, cases_lt, cases_Bool, false_from_ne_true}
 use Rattle.std.proofs.lemmas.Bool.Decides.{nat_tests}
 use Rattle.shgrammar.specs.declared.mode.Escaping.{Escaping}
 use Rattle.shgrammar.specs.declared.mode.Escaping.TheVariants as escapings
@@ -17,7 +17,7 @@ use Rattle.shgrammar.specs.Tokens.{past_digits, past_reserved}
 use Rattle.shgrammar.specs.Sights.{Move, continuations, one_taken, the_closer, the_parameter, a_quote_on, blanks, a_comment_on, the_reserved, the_digits, one_byte as byte_on, to as leads, escaped_on}
 use Rattle.shgrammar.specs.Form.{raw}
 use Rattle.shgrammar.proofs.Stretches.{place_low, joined_more, raw_more, get_drop, blanks_before, no_blanks_before}
-use Rattle.shgrammar.proofs.Places.{next_escaped_low, must_fail, place_same, after_low, raw_past_low, raw_past_stops, raw_past_all, next_of_low, next_newline_low, parameter_low, reserved_low, digits_low, blanks_low}
+use Rattle.shgrammar.proofs.Places.{next_escaped_low, place_same, after_low, raw_past_low, raw_past_stops, raw_past_all, next_of_low, next_newline_low, parameter_low, reserved_low, digits_low, blanks_low}
 use Rattle.shgrammar.proofs.SameBytes.{Safe, halts, one_byte, two_bytes, goes_on, safe_high, safe_low, safe_escape, safe_place, no_backslash, continued, raw_there, byte_other}
 use Rattle.shgrammar.proofs.Ahead.{ListEnds, ender, not_backslash, K, Goes, goes_name, goes_digit, goes_one, past_byte_is, same_if, same_and, seen, same_byte, same_after, same_stands, same_stands_in, same_place, next_safe, past_safe, past_back, blanks_safe, blanks_back, same_raw_in}
 use Rattle.shgrammar.specs.declared.edition.Edition.{Edition}
@@ -28,7 +28,8 @@ Good T a M p = Safe T a M p
 
 -- after continuations none stands
 none_there : (T : List ℕ) (p : ℕ) → continues T (past_continuations T p) ≡ false
-none_there T p = must_fail _ (λ c. let is = place_same T p in let more = joined_more T (past_continuations T p) c in
+none_there T p = false_from_ne_true _
+    (λ c. let is = place_same T p in let more = joined_more T (past_continuations T p) c in
     let low = place_low T (past_continuations T p + 2) in absurd (omega (arith, is, more, low)))
 
 -- U has the bytes of T from a up to the place M, where the same byte ends what is
@@ -176,7 +177,7 @@ module _ {edition : Edition} {T U : List ℕ} {a M : ℕ} {to : ℕ → ℕ} {li
 
   -- where the next byte is no newline no continuation stands
   no_newline : (q : ℕ) → raw_stands T (q + 1) newline_char ≡ false → continues T q ≡ false
-  no_newline q e = must_fail _ (λ c. both_ways (raw_stands T (q + 1) newline_char) e (continued T q c).1)
+  no_newline q e = false_from_ne_true _ (λ c. both_ways (raw_stands T (q + 1) newline_char) e (continued T q c).1)
 
   -- from p, after which b stands, up to what is looked for, which is no newline
   found_good : (test : ℕ → Bool) (b p : ℕ) → a ≤ p → p ≤ b → raw_stands T (raw_past test T b) newline_char ≡ false →

@@ -1,7 +1,7 @@
 -- A word or an assignment, wherever its bytes stand before what may follow it in a
 -- printed text: it is read there, as the same token.
 use Rattle.std.proofs.Common.{◌≡◌, ℕ, zero, suc, ◌+◌, ◌-◌, ◌≤◌, ◌<◌, ◌==◌, Bool, true, false, cond, ◌&&◌, ◌||◌, ◌⊎◌, inl, inr, Ok, Err, List, List as Row, [], ◌∷◌, ◌++◌, length, drop, take, Option, Some, None, is_some, slice_get, refl, sym, ap, subst, ◌∙◌, arith, ⊎_elim}
-use Rattle.std.proofs.lemmas.Bool.{and_parts, both_ways, cases_Bool, lt-ltb}
+use Rattle.std.proofs.lemmas.Bool.{and_parts, both_ways, cases_Bool, false_from_ne_true, lt-ltb}
 use Rattle.std.proofs.lemmas.Bool.Decides.{nat_tests}
 use Rattle.std.proofs.lemmas.List.{take_at}
 use Rattle.std.proofs.lemmas.Option.{slice_get_within}
@@ -25,7 +25,7 @@ use Rattle.shgrammar.specs.Words.{WordSoFar, word_so_far, a_piece, contents, a_w
 use Rattle.shgrammar.specs.Levels.{level, ReadsWord}
 use Rattle.shgrammar.specs.Commands.{after_word}
 use Rattle.shgrammar.proofs.Stretches.{place_low, past_more, past_none, stands_in_low, raw_stays}
-use Rattle.shgrammar.proofs.Places.{must_fail, after_low, word_longer}
+use Rattle.shgrammar.proofs.Places.{after_low, word_longer}
 use Rattle.shgrammar.proofs.Turns.{turns_on}
 use Rattle.shgrammar.proofs.Holds.{Holds, holds_then}
 use Rattle.shgrammar.proofs.SameBytes.{Kept, WordEnds, Here, here_byte, here_after, here_stands_in}
@@ -63,7 +63,8 @@ plain_one x f b e = let same : b ≡ x = grind (arith, nat_tests) in rw same f
 -- where a word ends no such byte is
 none_passes : (test : ℕ → Bool) → Plainly test → (x : Option ℕ) → ends x ≡ true → passes test x ≡ false
 none_passes test plain None e = refl
-none_passes test plain (Some b) e = must_fail (test b) (λ f. both_ways (ends (Some b)) (plain_stays b (plain b f)) e)
+none_passes test plain (Some b) e =
+    false_from_ne_true (test b) (λ f. both_ways (ends (Some b)) (plain_stays b (plain b f)) e)
 
 -- whether a byte is c is a test of it, and so is whether c is read at a place
 byte_passes : (x : Option ℕ) (c : ℕ) → is_byte x c ≡ passes (λ b. b == c) x

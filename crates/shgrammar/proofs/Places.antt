@@ -1,6 +1,6 @@
 -- Where something is read there is a byte, and how far the stretches of a text reach.
 use Rattle.std.proofs.Common.{◌≡◌, ℕ, zero, suc, ◌+◌, ◌-◌, ◌≤◌, ◌<◌, ◌==◌, Bool, true, false, not, cond, ◌&&◌, ◌||◌, List, [], ◌∷◌, length, drop, Option, Some, None, slice_get, get_or, refl, sym, ap, ◌∙◌, arith, ⊎_elim}
-use Rattle.std.proofs.lemmas.Bool.{cond_both, both_ways, cases_lt}
+use Rattle.std.proofs.lemmas.Bool.{cond_both, both_ways, cases_lt, false_from_ne_true}
 use Rattle.std.proofs.lemmas.Bool.Decides.{nat_tests}
 use Rattle.std.proofs.lemmas.List.{length-drop, drop-drop}
 use Rattle.std.proofs.lemmas.Option.{slice_get_within, slice_get-get_or}
@@ -13,11 +13,6 @@ use Rattle.shgrammar.specs.declared.mode.Escaping.TheVariants as escapings
 use Rattle.shgrammar.specs.Pieces.{closes_by, next_escaped, past_parameter}
 use Rattle.shgrammar.specs.Tokens.{past_digits, past_reserved}
 use Rattle.shgrammar.proofs.Stretches.{get_drop, place_low, stands_in_low}
-
--- a test that cannot hold fails
-pub must_fail : (b : Bool) → (b ≡ true → ⊥) → b ≡ false
-must_fail true never = absurd (never refl)
-must_fail false never = refl
 
 -- ---- continuations
 
@@ -220,7 +215,7 @@ below_stops : (n : ℕ) (test : ℕ → Bool) (T : List ℕ) (p : ℕ) → lengt
     stands_in test T (past_below n test T p) ≡ false
 unfolding past_below
 below_stops zero test T p low =
-    must_fail (stands_in test T p)
+    false_from_ne_true (stands_in test T p)
     (λ e. let lt = stands_in_low test T p e in let at = place_low T p in absurd (omega arith))
 below_stops (suc n) test T p low =
     cond_both (stands_in test T p) _ _ (λ q. stands_in test T q ≡ false)

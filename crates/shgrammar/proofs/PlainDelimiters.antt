@@ -3,7 +3,7 @@
 use Rattle.std.proofs.Common.{◌≡◌, ℕ, ◌+◌, ◌-◌, ◌==◌, ◌≤◌, Bool, true, false, ◌||◌, not, List, [], ◌∷◌, ◌++◌, length, take, drop, Option, Some, None, get_or, refl, sym, ap, ◌∙◌, arith}
 use Rattle.std.specs.Prelude.{◌&&◌, nat_lt}
 use Rattle.std.specs.List.{list_all}
-use Rattle.std.proofs.lemmas.Bool.{and_left, and_parts, and_right, lt-ltb}
+use Rattle.std.proofs.lemmas.Bool.{and_left, and_parts, and_right, eqb-true, lt-ltb}
 use Rattle.std.proofs.lemmas.Bool.Decides.{nat_tests}
 use Rattle.std.proofs.lemmas.List.{append-nil, drop_all, drop_more, drop-drop, length-drop, length-take-le, take-append-drop}
 use Rattle.shast.specs.Shape.{bare}
@@ -182,9 +182,6 @@ escaped_bare c cs all =
 no_less : (n : ℕ) → not (nat_lt n 2) ≡ true → 2 ≤ n
 no_less n e = grind (arith, nat_tests, e)
 
-same_byte : (b c : ℕ) → (b == c) ≡ true → b ≡ c
-same_byte b c e = grind (arith, nat_tests, e)
-
 wrapped_parts : (word : List ℕ) → is_wrapped word ≡ true → (not (nat_lt (length word) 2) ≡ true)
     × (is_quote not_quoted (get_or word 0 0) ≡ true) × ((get_or word (length word - 1) 0 == get_or word 0 0) ≡ true)
 wrapped_parts word is = all_three (not (nat_lt (length word) 2)) (is_quote not_quoted (get_or word 0 0))
@@ -203,7 +200,7 @@ wrapped_is word is =
     ∙ drop_more word (length word - 1) 0 (omega (arith, long))
     ∙ ap (λ n. get_or word (length word - 1) 0 ∷ drop n word) whole
     ∙ ap (λ l. get_or word (length word - 1) 0 ∷ l) (drop_all (length word) word (omega arith))
-    ∙ ap (λ (b : ℕ). b ∷ []) (same_byte _ _ same) in
+    ∙ ap (λ (b : ℕ). b ∷ []) (eqb-true _ _ same) in
     drop_more word 0 0 (omega (arith, long))
     ∙ ap (λ l. get_or word 0 0 ∷ l)
     (sym (take-append-drop (length word - 1 - 1) (drop 1 word))
@@ -240,7 +237,7 @@ escaped_part : (word : List ℕ) → is_escaped word ≡ true → list_all (is_p
 escaped_part [] is all = absurd cc
 escaped_part (b ∷ []) is all = absurd cc
 escaped_part (b ∷ c ∷ cs) is all =
-    let slash : b ≡ 92 = same_byte b 92 (and_parts _ (b == 92) is).1 in
+    let slash : b ≡ 92 = eqb-true b 92 (and_parts _ (b == 92) is).1 in
     let less : nat_lt (length (c ∷ cs)) (length (92 ∷ c ∷ cs)) ≡ true = lt-ltb _ _ (omega arith) in
     rw (slash, escaped_left c cs all, escaped_bare c cs all, less) refl
 

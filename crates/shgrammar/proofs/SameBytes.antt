@@ -1,12 +1,12 @@
 -- One text and another that has the same bytes from a place on up to a limit: what is read there is the same.
 use Rattle.std.proofs.Common.{◌≡◌, ℕ, zero, suc, ◌+◌, ◌-◌, ◌≤◌, ◌<◌, ◌==◌, Bool, true, false, not, ◌&&◌, ◌||◌, List, Option, Some, None, slice_get, refl, sym, ap, subst, ◌∙◌, arith, ⊎_elim}
-use Rattle.std.proofs.lemmas.Bool.{and_parts, and_left, both_ways, cases_Bool}
+use Rattle.std.proofs.lemmas.Bool.{and_parts, and_left, both_ways, cases_Bool, false_from_ne_true}
 use Rattle.std.proofs.lemmas.Bool.Decides.{nat_tests}
 use Rattle.shgrammar.specs.Standing.{is_byte, passes, raw_stands, raw_in, raw_past, continues}
 use Rattle.shgrammar.specs.Bytes.{ends, past_continuations, byte_at, past_byte, stands, stands_in}
 use Rattle.shgrammar.specs.Characters.{left_parenthesis, backslash, newline_char, number_sign}
 use Rattle.shgrammar.proofs.Stretches.{joined_more, joined_none, place_low, raw_is}
-use Rattle.shgrammar.proofs.Places.{must_fail, raw_past_low, raw_past_all, raw_past_stops}
+use Rattle.shgrammar.proofs.Places.{raw_past_low, raw_past_all, raw_past_stops}
 use Rattle.shgrammar.specs.declared.edition.Edition.{Edition}
 
 -- `to` says where the places of the first text from `a` on are in the second; the bytes are the same below L
@@ -52,7 +52,7 @@ no_backslash T p e = and_left _ _ e
 -- a byte over which it goes on is no backslash
 pub on_no_backslash_by : (b : Option ℕ) → passes goes_on b ≡ true → is_byte b backslash ≡ false
 on_no_backslash_by None e = refl
-on_no_backslash_by (Some b) e = must_fail (b == backslash) (λ f. both_ways (goes_on b) (rw f refl) e)
+on_no_backslash_by (Some b) e = false_from_ne_true (b == backslash) (λ f. both_ways (goes_on b) (rw f refl) e)
 
 pub on_no_backslash : (T : List ℕ) (p : ℕ) → raw_in goes_on T p ≡ true → raw_stands T p backslash ≡ false
 unfolding raw_in raw_stands

@@ -4,7 +4,7 @@ use Rattle.std.specs.Prelude.{◌&&◌, nat_lt}
 use Rattle.std.specs.List.{list_any}
 use Rattle.std.proofs.lemmas.Bool.{and_parts, ltb-true, lt-ltb}
 use Rattle.std.proofs.lemmas.Bool.Decides.{nat_tests}
-use Rattle.std.proofs.lemmas.Option.{slice_get_within, slice_get-get_or}
+use Rattle.std.proofs.lemmas.Option.{slice_get_within, slice_get-get_or, slice_get_past}
 use Rattle.std.proofs.lemmas.List.{append_assoc, drop_more, append-nil, drop_all, length-drop}
 use Rattle.shast.specs.Shape.{bare}
 use Rattle.shgrammar.specs.Characters.{apostrophe, backslash, dollar_sign, left_brace, left_parenthesis, newline_char, quotation_mark}
@@ -57,7 +57,7 @@ pub joined_here : (word : List ℕ) (p q : ℕ) → continues word q ≡ false �
     past_continuations word p ≡ past_continuations word q → byte_at word p ≡ Some (get_or word q 0)
 joined_here word p q c lt is = ap (slice_get word) (is ∙ joined_none word q c) ∙ slice_get-get_or word q 0 lt
 
--- at or past the end of the word there is no continuation, and no byte
+-- at or past the end of the word there is no continuation
 none_past : (word : List ℕ) (q : ℕ) → length word ≤ q → continues word q ≡ false
 unfolding continues raw_stands
 none_past word q le = by (slice_get word q) refl
@@ -66,17 +66,11 @@ none_past word q le = by (slice_get word q) refl
     by None is = refl
     by (Some b) is = let lt = slice_get_within word q b is in absurd (omega (arith, lt, le))
 
-past_end : (word : List ℕ) (q : ℕ) → length word ≤ q → slice_get word q ≡ None
-past_end word q le = by (slice_get word q) refl
-  where
-    by : (x : Option ℕ) → slice_get word q ≡ x → x ≡ None
-    by None is = refl
-    by (Some b) is = let lt = slice_get_within word q b is in absurd (omega (arith, lt, le))
-
 -- so no byte is read where only continuations stand up to there
 pub joined_end : (word : List ℕ) (p q : ℕ) → length word ≤ q → past_continuations word p ≡ past_continuations word q →
     byte_at word p ≡ None
-joined_end word p q le is = ap (slice_get word) (is ∙ joined_none word q (none_past word q le)) ∙ past_end word q le
+joined_end word p q le is = ap (slice_get word) (is ∙ joined_none word q (none_past word q le))
+    ∙ slice_get_past word q le
 
 -- what is read at a place is read at the start of the rest
 rest_byte : (word : List ℕ) (p : ℕ) → byte_at (drop p word) 0 ≡ byte_at word p

@@ -49,10 +49,6 @@ pub data Begins (later last : Bool) (b : ℕ) (x : Option ℕ) : Mode → Piece 
       → is_quote (quoting_in mode) b ≡ false
       → Begins later last b x mode pieces.Ordinary
 
--- bytes that compare equal are one
-same_byte : (b c : ℕ) → (b == c) ≡ true → b ≡ c
-same_byte b c is = eqb-true b c is
-
 module _ (edition : Edition) (T : List ℕ) (last : Bool) (b : ℕ) where
   -- `$'` begins text in dollar-single quotes where the edition and the mode have it, else an ordinary `$`
   dollar_quoted : (mode : Mode) (y : ℕ) → is_unquoted mode ≡ true → b ≡ dollar_sign → (y == dollar_sign) ≡ false
@@ -61,7 +57,7 @@ module _ (edition : Edition) (T : List ℕ) (last : Bool) (b : ℕ) where
   dollar_quoted Plain y read is no_dollar no_open no_brace quoted =
       cond_both (is_later edition && quotes_singly Plain) _ _
       (Begins (is_later edition) last b (Some y) Plain)
-      (λ e. dollar_quote is (ap (λ (n : ℕ). Some n) (same_byte y apostrophe quoted)) (and_parts _ _ e).0)
+      (λ e. dollar_quote is (ap (λ (n : ℕ). Some n) (eqb-true y apostrophe quoted)) (and_parts _ _ e).0)
       (λ e. dollar is no_dollar no_open no_brace
       (λ later. absurd (both_ways (is_later edition && true) e (ap (λ c. c && true) later))))
   dollar_quoted Double y read is no_dollar no_open no_brace quoted =
@@ -81,13 +77,13 @@ module _ (edition : Edition) (T : List ℕ) (last : Bool) (b : ℕ) where
   dollar_begins mode r (Some y) read is =
       let G : Piece → Type 0 =
       λ z. Begins (is_later edition) last b (Some y) mode (piece_in edition mode z) in
-      cond_both (y == dollar_sign) _ _ G (λ e. dollars is (ap (λ (n : ℕ). Some n) (same_byte y dollar_sign e)))
+      cond_both (y == dollar_sign) _ _ G (λ e. dollars is (ap (λ (n : ℕ). Some n) (eqb-true y dollar_sign e)))
       (λ no_dollar. cond_both (y == left_parenthesis) _ _ G
       (λ e. cond_both (stands T (past_byte T r) left_parenthesis) _ _ G
-      (λ f. arithmetic is (ap (λ (n : ℕ). Some n) (same_byte y left_parenthesis e)))
-      (λ f. substitution is (ap (λ (n : ℕ). Some n) (same_byte y left_parenthesis e))))
+      (λ f. arithmetic is (ap (λ (n : ℕ). Some n) (eqb-true y left_parenthesis e)))
+      (λ f. substitution is (ap (λ (n : ℕ). Some n) (eqb-true y left_parenthesis e))))
       (λ no_open. cond_both (y == left_brace) _ _ G
-      (λ e. parameter is (ap (λ (n : ℕ). Some n) (same_byte y left_brace e)))
+      (λ e. parameter is (ap (λ (n : ℕ). Some n) (eqb-true y left_brace e)))
       (λ no_brace. cond_both (y == apostrophe) _ _ G (λ e. dollar_quoted mode y read is no_dollar no_open no_brace e)
       (λ no_quote. dollar is no_dollar no_open no_brace
       (λ later. and_right (is_quote (quoting_in mode) apostrophe) (y == apostrophe) no_quote)))))
@@ -99,12 +95,12 @@ module _ (edition : Edition) (T : List ℕ) (last : Bool) (b : ℕ) where
   byte_begins Plain p x read no_backslash no_tick no_dollar =
       let G : Piece → Type 0 = λ z. Begins (is_later edition) last b x Plain (piece_in edition Plain z) in
       cond_both (ends (Some b)) _ _ G (λ e. ends_here e)
-      (λ more. cond_both (b == apostrophe) _ _ G (λ e. quote (same_byte b apostrophe e))
-      (λ no_quote. cond_both (b == quotation_mark) _ _ G (λ e. double_quote (same_byte b quotation_mark e))
+      (λ more. cond_both (b == apostrophe) _ _ G (λ e. quote (eqb-true b apostrophe e))
+      (λ no_quote. cond_both (b == quotation_mark) _ _ G (λ e. double_quote (eqb-true b quotation_mark e))
       (λ no_double. another no_backslash no_tick no_dollar (rw (no_quote, no_double) refl))))
   byte_begins Double p x read no_backslash no_tick no_dollar =
       let G : Piece → Type 0 = λ z. Begins (is_later edition) last b x Double (piece_in edition Double z) in
-      cond_both (b == quotation_mark) _ _ G (λ e. closes (same_byte b quotation_mark e))
+      cond_both (b == quotation_mark) _ _ G (λ e. closes (eqb-true b quotation_mark e))
       (λ no_double. another no_backslash no_tick no_dollar no_double)
   byte_begins Brace p x read no_backslash no_tick no_dollar = absurd cc
   byte_begins DoubleBrace p x read no_backslash no_tick no_dollar = absurd cc
@@ -119,10 +115,10 @@ piece_begins edition T b mode p read =
     let last = at_end T (past_byte T p) in
     let x = byte_at T (past_byte T p) in
     let G : Piece → Type 0 = λ z. Begins (is_later edition) last b x mode (piece_in edition mode z) in
-    cond_both (b == backslash) _ _ G (λ e. cond_both last _ _ G (λ f. lone) (λ f. escapes (same_byte b backslash e) f))
-    (λ no_backslash. cond_both (b == grave_accent) _ _ G (λ e. backquote (same_byte b grave_accent e))
+    cond_both (b == backslash) _ _ G (λ e. cond_both last _ _ G (λ f. lone) (λ f. escapes (eqb-true b backslash e) f))
+    (λ no_backslash. cond_both (b == grave_accent) _ _ G (λ e. backquote (eqb-true b grave_accent e))
     (λ no_tick. cond_both (b == dollar_sign) _ _ G
-    (λ e. dollar_begins edition T last b mode (past_byte T p) x read (same_byte b dollar_sign e))
+    (λ e. dollar_begins edition T last b mode (past_byte T p) x read (eqb-true b dollar_sign e))
     (λ no_dollar. byte_begins edition T last b mode p x read no_backslash no_tick no_dollar)))
 
 -- so does the piece there that the edition has

@@ -1,7 +1,7 @@
 -- What the loops over the lines of a here-document, and over its word, come to.
 use Rattle.std.proofs.Common.{◌≡◌, ℕ, zero, suc, ◌+◌, ◌-◌, ◌==◌, ◌<◌, ◌≤◌, Bool, true, false, not, cond, List, [], ◌∷◌, ◌++◌, List as Row, length, take, drop, map, fold, Option, Some, None, Ok, Err, slice_get, get_or, bytes_eq, refl, sym, ap, ◌∙◌, arith, ⊎_elim}
 use Rattle.std.specs.Prelude.{Result, ◌&&◌, nat_lt}
-use Rattle.std.proofs.lemmas.Bool.{cases_lt, lt-ltb}
+use Rattle.std.proofs.lemmas.Bool.{and_right, cases_lt, lt-ltb}
 use Rattle.std.proofs.lemmas.Bool.Decides.{nat_tests}
 use Rattle.std.proofs.lemmas.Option.{slice_get_within, slice_get-get_or}
 use Rattle.std.proofs.lemmas.List.{drop-drop, drop_more, length-drop, places, take-take}
@@ -240,11 +240,6 @@ odd_stops_on T b p q so all within stops before =
 
 -- ---- the bytes of a delimiter
 
--- not both of two flags are set where the second is not
-both_false : (a b : Bool) → b ≡ false → (a && b) ≡ false
-both_false true b e = e
-both_false false b e = refl
-
 -- up to q stand the byte at p, and those from p + 1 on
 raw_first : (T : List ℕ) (p q b : ℕ) → p < q → slice_get T p ≡ Some b → raw T p q ≡ b ∷ raw T (p + 1) q
 raw_first T p q b lt is =
@@ -321,7 +316,7 @@ bytes_short T p q bytes le within short =
     none_long (suc n) [] ys le lt = absurd (omega (arith, le))
     none_long (suc n) (x ∷ X) [] le lt = refl
     none_long (suc n) (x ∷ X) (y ∷ ys) le lt =
-        both_false (x == y) (bytes_eq (take n X) ys) (none_long n X ys (omega (arith, le)) (omega (arith, lt)))
+        and_right (x == y) (bytes_eq (take n X) ys) (none_long n X ys (omega (arith, le)) (omega (arith, lt)))
 
 pub bytes_long : (T : List ℕ) (p q : ℕ) (bytes : List ℕ) → q - p < length bytes → bytes_eq (raw T p q) bytes ≡ false
 bytes_long T p q bytes long = none_short (q - p) (drop p T) bytes long
@@ -334,7 +329,7 @@ bytes_long T p q bytes long = none_short (q - p) (drop p T) bytes long
     none_short (suc n) [] [] lt = absurd (omega (arith, lt))
     none_short (suc n) (x ∷ X) [] lt = absurd (omega (arith, lt))
     none_short (suc n) (x ∷ X) (y ∷ ys) lt =
-        both_false (x == y) (bytes_eq (take n X) ys) (none_short n X ys (omega (arith, lt)))
+        and_right (x == y) (bytes_eq (take n X) ys) (none_short n X ys (omega (arith, lt)))
 
 -- ---- one document after another
 

@@ -1,6 +1,5 @@
 -- A walk over the lines of a script, and the line that holds a byte.
-use Rattle.std.proofs.Common.{◌≡◌, ℕ, ◌+◌, ◌-◌, ◌^◌, ◌<◌, ◌≤◌, [], ◌∷◌, ◌++◌, true, List, List as Row, Option, None, Some, Result, Ok, Err, drop, length, refl, sym, ap, subst, ◌∙◌, arith, append_assoc}
-use Rattle.std.specs.Prelude.{OnOk}
+use Rattle.std.proofs.Common.{◌≡◌, ℕ, ◌+◌, ◌-◌, ◌^◌, ◌<◌, ◌≤◌, [], ◌∷◌, ◌++◌, true, List, List as Row, Option, None, Some, drop, length, refl, sym, ap, subst, ◌∙◌, arith, append_assoc}
 use Rattle.shast.specs.declared.node.NodeLine.{NodeLine}
 use Rattle.shast.specs.Nodes.{NodesWithin}
 use Rattle.shast.specs.Tree.{Entries}
@@ -125,10 +124,3 @@ pub outlined : (ns : Row NodeLine) (begin : ℕ) (l : HeldLine AKind) (rest left
     → (ns ++ line_outline begin l.kind) ++ outlines (begin + l.len) rest ≡ ns ++ outlines begin left
 outlined ns begin l rest left first = append_assoc ns (line_outline begin l.kind) (outlines (begin + l.len) rest)
     ∙ sym (ap (λ ls. ns ++ outlines begin ls) first)
-
--- ---- results
-
--- what follows from a fact about a good result
-pub on_ok : {T E : Type 0} {P Q : Type 0} (r : Result T E) → OnOk r P → (P → Q) → OnOk r Q
-on_ok (Ok x) p f = f p
-on_ok (Err e) p f = tt

@@ -1,7 +1,7 @@
 -- The items of a command: what is printed for them is read as the same items, and what is printed for a
 -- simple command as that command.
 use Rattle.std.proofs.Common.{◌≡◌, ℕ, ◌+◌, ◌<◌, ⊎_elim, Bool, true, false, not, List, List as Row, [], ◌∷◌, ◌++◌, length, drop, codes, Some, None, is_some, refl, sym, ap, subst, ◌∙◌, arith, append_assoc, append-nil}
-use Rattle.std.proofs.lemmas.Bool.{both_ways}
+use Rattle.std.proofs.lemmas.Bool.{both_ways, not-true}
 use Rattle.shgrammar.specs.declared.edition.Edition.{Edition}
 use Rattle.shgrammar.specs.declared.token.Next.{Next}
 use Rattle.shgrammar.specs.declared.token.Position.{Position}
@@ -26,7 +26,7 @@ use Rattle.shast.specs.Tree.{AWordOf, AnItemOf, AnItem, AWord, item, items_of, I
 use Rattle.shprint.specs.declared.layout.Layout.{Layout}
 use Rattle.shprint.specs.Marks.{text, Marks, laid_after, one, deeper}
 use Rattle.shprint.specs.Printed.{print_gap, is_broken_item, print_item, print_items, print_simple}
-use Rattle.shprint.proofs.Tokens.{first, skip, Gap, Start, all_blank, blank_gap, broken_gap, no_gap, next_one, kind_of, item_no_round, no_word, no_item_token, redirect_is_item, redirect_no_word, not_true}
+use Rattle.shprint.proofs.Tokens.{first, skip, Gap, Start, all_blank, blank_gap, broken_gap, no_gap, next_one, kind_of, item_no_round, no_word, no_item_token, redirect_is_item, redirect_no_word}
 use Rattle.shprint.proofs.Gives.{Gives, ◌⟫◌, given_here, seen_here, pushed_here, first_of, second_of, last_turn, one_turn}
 use Rattle.shprint.proofs.Held.{At, Followed, Held, StandsIn, g, held_bytes, lay, state}
 use Rattle.shprint.proofs.Good.{Kind, of_command, of_for, of_compound, GoodItem, of_word, of_argument, of_redirect, of_redirect_after, a_redirect_of, GoodItems, none_more, one_more, GoodSimple, SomeItem, an_item_of}
@@ -366,7 +366,7 @@ module _ {edition : Edition} {B T : List ℕ} {o : ℕ} (S : StandsIn edition B 
   -- an item is broken as its token is, where a first one is not
   breaks_by : (acc : Row AnItem) (position : Position) (n : Next) (b : Bool) → (is_empty acc ≡ true → not b ≡ true) →
       n.broken ≡ b → breaks (items_so_far acc position n) ≡ b
-  breaks_by [] position n b none is = sym (not_true b (none refl))
+  breaks_by [] position n b none is = sym (not-true b (none refl))
   breaks_by (i ∷ is) position n b none same = same
 
   -- a printed item is broken as the shape has it
@@ -386,9 +386,9 @@ module _ {edition : Edition} {B T : List ℕ} {o : ℕ} (S : StandsIn edition B 
   -- the first one is not broken
   first_item : (b : Bool) (position : Position) (w : Shape AWordOf) (is : Shape ItemsOf) →
       first_not_broken (more_items (an_item_of b position w) is) ≡ true → b ≡ false
-  first_item b Command w is first = not_true b first
-  first_item b Prefix w is first = not_true b first
-  first_item b Suffix w is first = not_true b first
+  first_item b Command w is first = not-true b first
+  first_item b Prefix w is first = not-true b first
+  first_item b Suffix w is first = not-true b first
 
   module _ (y : Layout) (m : Text) (c : ℕ) (cs : Text) (blank : all_blank (deeper y m) ≡ true)
       (some_margin : deeper y m ≡ c ∷ cs)
@@ -440,7 +440,7 @@ module _ {edition : Edition} {B T : List ℕ} {o : ℕ} (S : StandsIn edition B 
     -- its first item is not broken
     first_unbroken : (n : Next) (i : Shape AnItemOf) (is : Shape ItemsOf) → first_not_broken (more_items i is) ≡ true
         → broken_by of_command (items_so_far [] Command n) ≡ is_broken_item i
-    first_unbroken n (item b what) is first = sym (not_true b first)
+    first_unbroken n (item b what) is first = sym (not-true b first)
 
     -- all items of a simple command, and the token after them
     simple_items : (h : Held) {last : Position} {is : Shape ItemsOf} (n : Next) (p : ℕ) →

@@ -3,7 +3,7 @@
 use Rattle.std.proofs.Common.{◌≡◌, ℕ, zero, suc, ◌+◌, ◌<◌, ◌≤◌, ◌==◌, Bool, true, false, ◌||◌, List, List as Row, [], ◌∷◌, ◌++◌, length, drop, codes, if◌then◌else◌, Some, None, is_some, slice_get, refl, sym, ap, subst, ◌∙◌, arith, append_assoc, append-nil}
 use Rattle.std.proofs.Math.ListN.{replicate}
 use Rattle.std.proofs.Math.Bool.{or-true, or-false}
-use Rattle.std.proofs.lemmas.Bool.{both_ways, lt-ltb, and_from, and_parts, cond_both}
+use Rattle.std.proofs.lemmas.Bool.{both_ways, lt-ltb, and_from, and_parts, cond_both, false_from_ne_true}
 use Rattle.std.proofs.lemmas.List.{length-drop}
 use Rattle.shgrammar.specs.declared.edition.Edition.{Edition}
 use Rattle.shgrammar.specs.declared.token.Next.{Next}
@@ -28,7 +28,7 @@ use Rattle.shgrammar.proofs.Anywhere.{WordOf}
 use Rattle.shgrammar.proofs.WordsWaiting.{word_waiting}
 use Rattle.shast.specs.Normal.{is_normal_join}
 use Rattle.shgrammar.specs.Commands.{begins_pipeline, a_newline, a_comment, join_turn, join_so_far, a_join_of, a_join, begins_simple, opener_of, is_newline_token, is_bang, next_token, is_paren}
-use Rattle.shgrammar.proofs.Places.{must_fail, blanks_low}
+use Rattle.shgrammar.proofs.Places.{blanks_low}
 use Rattle.shgrammar.proofs.Elsewhere.{is_a_word}
 use Rattle.shgrammar.proofs.CommentsElsewhere.{CommentAnywhere}
 use Rattle.shast.specs.declared.tree.AndOrOperator.{AndOrOperator}
@@ -757,7 +757,7 @@ module _ {edition : Edition} {B T : List ℕ} {o : ℕ} (S : StandsIn edition B 
   pub no_sharp : (p : ℕ) → past_continuations T p ≡ p → is_comment (told Command p) ≡ false →
       raw_stands T p number_sign ≡ false
   unfolding raw_stands token_at
-  no_sharp p place none = must_fail (is_byte (slice_get T p) number_sign)
+  no_sharp p place none = false_from_ne_true (is_byte (slice_get T p) number_sign)
       (λ e. both_ways (is_comment (token_in edition (token_of Command T p (byte_at T p)))) none
       (ap (λ b. is_comment (token_in edition (token_of Command T p b)))
       (ap (slice_get T) place ∙ that_byte (slice_get T p) number_sign e)))

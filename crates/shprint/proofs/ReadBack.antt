@@ -1,6 +1,6 @@
 -- The printed text of a script that was read is read back as a script of the same shape, and as no other.
-use Rattle.std.proofs.Common.{◌≡◌, ℕ, ◌+◌, Bool, true, false, not, ◌&&◌, List, List as Row, [], ◌∷◌, ◌++◌, drop, Option, None, refl, sym, ap, subst, ◌∙◌, append_assoc, append-nil}
-use Rattle.std.proofs.lemmas.Bool.{both_ways, and_parts}
+use Rattle.std.proofs.Common.{◌≡◌, ℕ, ◌+◌, Bool, true, false, not, List, List as Row, [], ◌∷◌, ◌++◌, drop, Option, None, refl, sym, ap, subst, ◌∙◌, append_assoc, append-nil}
+use Rattle.std.proofs.lemmas.Bool.{both_ways, and_parts, and_left}
 use Rattle.std.proofs.lemmas.List.{drop-drop}
 use Rattle.shast.specs.Normal.{first_not_blank, are_normal}
 use Rattle.shast.specs.Shape.{Text, Shape, shape_of, shape_of_entry}
@@ -69,9 +69,6 @@ module _ (edition : Edition) (y : Layout) (B : List ℕ) where
           shape_of B (entries_of vs) ≡ es → shape_of B (entries_of (v ∷ vs)) ≡ more_entries x es
       shapes v vs x es e f = rw (e, f) refl
 
-  and_false : (b : Bool) (c : Bool) → b ≡ false → (b && c) ≡ false
-  and_false b c e = rw e refl
-
   -- an entry from the beginning of its line on
   from_margin : (so : LinesSoFar) (p : ℕ) (what : Shape AContentOf) (background blank : Bool) (comment : Option Text)
       (es : Shape EntriesOf) → GoodEntries edition most_open (more_entries (entry what background blank comment) es)
@@ -124,7 +121,7 @@ module _ (edition : Edition) (y : Layout) (B : List ℕ) where
       → At p (print_entries y [] es) → ScriptRead so p es
   lines_read no_entry so p good normal first gap at = end_read so p at
   lines_read (more_entries (entry what background false comment) es) so p good normal first gap at =
-      from_margin so p what background false comment es good normal (and_false so.gap _ gap)
+      from_margin so p what background false comment es good normal (and_left so.gap _ gap)
       (at ∙ ap laid (marks_are what background false comment es))
       (λ to q none some there. lines_read es to q good.1 (and_parts _ _ normal).1
       (λ e. absurd (both_ways (is_empty to.entries) some e)) none there)

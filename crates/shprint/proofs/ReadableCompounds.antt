@@ -2,7 +2,7 @@
 -- good shape: its words, comments and here-documents are read wherever they stand, and no more constructs
 -- are open than may be.
 use Rattle.std.proofs.Common.{◌≡◌, ◌∙◌, refl, sym, ap, subst, ℕ, zero, suc, ◌-◌, Bool, true, false, not, ◌&&◌, ◌||◌, inl, Ok, List, List as Row, [], ◌∷◌, ◌++◌, drop, Option, Some, None, is_some, option_map}
-use Rattle.std.proofs.lemmas.Bool.{both_ways}
+use Rattle.std.proofs.lemmas.Bool.{both_ways, or_cases}
 use Rattle.shgrammar.specs.declared.keep.Keep.TheVariants.{Whole}
 use Rattle.shgrammar.specs.declared.token.Closing.{Closing}
 use Rattle.shgrammar.specs.declared.token.Closing.TheVariants as closings
@@ -44,7 +44,7 @@ use Rattle.shast.proofs.FilledBack.{filled_is}
 use Rattle.shast.proofs.Going.{entries_going, branches_going, cases_going, row_filled}
 use Rattle.shprint.proofs.Good.{GoodOwnComment, an_item_of, of_for, of_argument, GoodItems, none_more, GoodWords, GoodForWords, GoodName, GoodEntries, GoodCommand, GoodForm, GoodBranch, GoodBranches, GoodElse, GoodWord, GoodPatterns, GoodCases, GoodCase}
 use Rattle.shprint.proofs.GoodRows.{branches_more, patterns_last, cases_more, entries_join}
-use Rattle.shprint.proofs.ReadableForms.{pattern_is_word, Reads, gives, first, after, sees, pushes, picks, stopped, Turned, repeats, Adds, add_gives, add_first, read_first, and_told, add_sees, add_pushes, add_picks, add_stops, add_stopped, Turns, turns_if, add_repeats, Stands, word_so, reads_next, reads_semicolon, reads_newline, reads_reserved_or_paren, reads_closing, WordRead, reads_word, reads_comment, Comments, or_parts, reads_linebreak}
+use Rattle.shprint.proofs.ReadableForms.{pattern_is_word, Reads, gives, first, after, sees, pushes, picks, stopped, Turned, repeats, Adds, add_gives, add_first, read_first, and_told, add_sees, add_pushes, add_picks, add_stops, add_stopped, Turns, turns_if, add_repeats, Stands, word_so, reads_next, reads_semicolon, reads_newline, reads_reserved_or_paren, reads_closing, WordRead, reads_word, reads_comment, Comments, reads_linebreak}
 use Rattle.shprint.proofs.ReadableCommands.{item_is, OpenCompound, OpenEntry, word_shape, text_of, substs_in, reads_anywhere, one_more_good, Fine, reads_compound_by, reads_entry}
 use Rattle.shgrammar.proofs.NamesBefore.{NameBefore}
 
@@ -377,7 +377,7 @@ module _ (B : List ℕ) (g : Given) (here : g.text ≡ drop g.offset B) where
       reads_sequential_sep cs n p good =
           first g (reads_semicolon g ⊥ n p (λ no. absurd no))
           (λ s e one. first g (reads_linebreak B g here (s.0 ≡ true) cs s.1 e good (λ y. one.1 y)) (λ l f two.
-          picks g (s.0 || l.join.broken) (λ is. gives g (two.0, two.1 (or_parts B g here _ _ is)))
+          picks g (s.0 || l.join.broken) (λ is. gives g (two.0, two.1 (or_cases _ _ is)))
           (stopped g inner l.next)))
 
       -- the words so far, and the token after them

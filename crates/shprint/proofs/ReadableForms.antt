@@ -2,6 +2,7 @@
 -- and forms that add some. So tokens, words, comments and what stands between commands are read.
 use Rattle.std.proofs.Common.{◌≡◌, ◌∙◌, refl, sym, ap, subst, ℕ, ◌+◌, ◌-◌, Bool, true, false, ◌||◌, ◌⊎◌, inl, inr, ⊎_elim, Ok, Err, List, List as Row, [], ◌∷◌, ◌++◌, drop, take, Option, Some, None, is_some, option_map}
 use Rattle.std.proofs.lemmas.List.{drop-drop}
+use Rattle.std.proofs.lemmas.Bool.{or_cases}
 use Rattle.shgrammar.specs.declared.keep.Keep.TheVariants.{Whole}
 use Rattle.shgrammar.specs.declared.token.Closing.{Closing}
 use Rattle.shgrammar.specs.declared.token.Next.{Next}
@@ -487,11 +488,6 @@ module _ (B : List ℕ) (g : Given) (here : g.text ≡ drop g.offset B) where
   abbrev JoinGood : Type 0 → JoinSoFar → ℕ → Type 0
   JoinGood X j p = Comments j.join.comments × (X ⊎ (j.join.broken ≡ true) → Stands g Command j.next p)
 
-  -- one of two tests
-  pub or_parts : (a b : Bool) → (a || b) ≡ true → (a ≡ true) ⊎ (b ≡ true)
-  or_parts true b e = inl refl
-  or_parts false b e = inr e
-
   -- a comment and a newline, or one of them, within a join
   reads_join_turn : (X : Type 0) (j : JoinSoFar) (p : ℕ) → JoinGood X j p →
       Reads g (join_turn j) (Turned g (JoinGood X) (JoinGood X)) p
@@ -501,12 +497,12 @@ module _ (B : List ℕ) (g : Given) (here : g.text ≡ drop g.offset B) where
       first g (reads_with j.join.comments c.0 e so.0 one.0) (λ cs f two.
       let commented : X ⊎ ((j.join.broken || is_some c.0) ≡ true) →
       Stands g Command c.1 e = λ y. ⊎_elim (λ x. one.1 (inl x))
-      (λ b. ⊎_elim (λ d. one.1 (inr d)) one.2 (or_parts _ _ b)) y in
+      (λ b. ⊎_elim (λ d. one.1 (inr d)) one.2 (or_cases _ _ b)) y in
       first g (reads_newline g (X ⊎ ((j.join.broken || is_some c.0) ≡ true)) c.1 f
       (λ y. subst (Stands g Command c.1) (sym two.1) (commented y))) (λ l h three.
       let ended : X ⊎ (((j.join.broken || is_some c.0) || l.0) ≡ true) →
       Stands g Command l.1 h = λ y. ⊎_elim (λ x. three.0 (inl x))
-      (λ b. ⊎_elim (λ d. three.0 (inr d)) three.1 (or_parts _ _ b)) y in
+      (λ b. ⊎_elim (λ d. three.0 (inr d)) three.1 (or_cases _ _ b)) y in
       gives g (turned_if g (JoinGood X) (JoinGood X) l.0 _ h (λ y. (two.0, ended)) (two.0, ended)))))
 
   -- comments and newlines where no command has to follow

@@ -1,6 +1,6 @@
 -- What is read where some bytes stand in a text: gaps, operators and reserved words, as they are printed.
 use Rattle.std.proofs.Common.{◌≡◌, ℕ, suc, ◌+◌, ◌==◌, Bool, true, false, not, ◌&&◌, ◌||◌, ◌⊎◌, inl, inr, List, List as Row, [], ◌∷◌, ◌++◌, length, drop, take, codes, Option, Some, None, is_some, slice_get, refl, sym, ap, subst, ◌∙◌, arith, cond}
-use Rattle.std.proofs.lemmas.Bool.{and_from, and_parts, both_ways}
+use Rattle.std.proofs.lemmas.Bool.{and_from, and_parts, both_ways, false_from_ne_true, not-true, or_parts}
 use Rattle.std.proofs.lemmas.Bool.Decides.{nat_tests}
 use Rattle.std.proofs.lemmas.List.{drop-drop}
 use Rattle.shgrammar.specs.declared.edition.Edition.{Edition}
@@ -17,7 +17,6 @@ use Rattle.shgrammar.specs.Bytes.{ends, past, past_continuations, byte_at, past_
 use Rattle.shgrammar.specs.Tokens.{Spelling, is_word_at, first_of_words, reserved_words, reserved_at, past_reserved, past_digits, begins_assignment, is_number, first_word, less_at, greater_at, token_of, token_at, token_in, is_later, next_at}
 use Rattle.shsource.specs.Text.{is_newline}
 use Rattle.shgrammar.proofs.Stretches.{get_drop, joined_none, joined_more, place_low, past_more, past_none, raw_more, raw_none}
-use Rattle.shgrammar.proofs.Places.{must_fail}
 use Rattle.shgrammar.proofs.SameBytes.{no_backslash}
 use Rattle.shgrammar.proofs.Ahead.{past_byte_is, spelled_none, spelled_more, ender}
 use Rattle.shgrammar.specs.Commands.{is_word, is_paren, begins_redirect, begins_simple, begins_word, after_word}
@@ -112,7 +111,7 @@ start_here r e = record { place = r.place; no_blank = in_class is_blank r ∙ e 
 
 -- where a token may begin no continuation begins
 no_pair : (T : List ℕ) (p : ℕ) → past_continuations T p ≡ p → continues T p ≡ false
-no_pair T p at = must_fail (continues T p)
+no_pair T p at = false_from_ne_true (continues T p)
     (λ c. let more = joined_more T p c in let low = place_low T (p + 2) in absurd (omega (arith, at, more, low)))
 
 -- there a byte as it stands is the one that is read
@@ -325,15 +324,11 @@ abbrev pub first_same : List ℕ → Row Spelling → Option Reserved
 first_same w [] = None
 first_same w (v ∷ vs) = cond (same_word v.0 w) (Some v.1) (first_same w vs)
 
-pub not_true : (b : Bool) → not b ≡ true → b ≡ false
-not_true true e = absurd cc
-not_true false e = refl
-
 -- a plain word by its first byte and the others
 plain_parts : (c : ℕ) (cs : List ℕ) → is_plain (c ∷ cs) ≡ true → (ends (Some c) ≡ false) × ((c == backslash) ≡ false)
     × (is_plain cs ≡ true)
 plain_parts c cs e = let one = and_parts _ _ e in let two = and_parts _ _ one.1 in
-    (not_true _ one.0, not_true _ two.0, two.1)
+    (not-true _ one.0, not-true _ two.0, two.1)
 
 module _ (T : List ℕ) (x : ℕ) (xs : List ℕ) (clear : (x == backslash) ≡ false) (ends_it : ends (Some x) ≡ true) where
   -- where a plain word stands before a byte that ends it, exactly that word is spelled
@@ -577,16 +572,13 @@ paren_token _ e = absurd cc
 
 -- what begins a simple command is no `(`
 pub item_no_round : (t : Token) → begins_simple t ≡ true → is_paren t ≡ false
-item_no_round t begins = must_fail (is_paren t)
+item_no_round t begins = false_from_ne_true (is_paren t)
     (λ e. both_ways (begins_simple t) (ap begins_simple (paren_token t e)) begins)
 
 -- what begins no simple command is no word
 pub no_word : (t : Token) → begins_simple t ≡ false → is_word t ≡ false
-no_word t none = must_fail (is_word t) (λ e. both_ways (begins_simple t) none (ap begins_simple (word_token t e)))
-
-or_parts : (a b : Bool) → (a || b) ≡ false → (a ≡ false) × (b ≡ false)
-or_parts true b e = absurd cc
-or_parts false b e = (refl, e)
+no_word t none = false_from_ne_true (is_word t)
+    (λ e. both_ways (begins_simple t) none (ap begins_simple (word_token t e)))
 
 none_of : (x : Option Position) → is_some x ≡ false → x ≡ None
 none_of None e = refl
@@ -615,7 +607,7 @@ redirect_is_item t e = must_hold (begins_word t) (begins_redirect t) e
     must_hold false b e = e
 
 pub redirect_no_word : (t : Token) → begins_redirect t ≡ true → is_word t ≡ false
-redirect_no_word t redirect = must_fail (is_word t)
+redirect_no_word t redirect = false_from_ne_true (is_word t)
     (λ e. both_ways (begins_redirect t) (ap begins_redirect (word_token t e)) redirect)
 
 -- where a redirection begins
@@ -652,7 +644,7 @@ no_such_byte : (T : List ℕ) (q x : ℕ) → token_at Suffix T q ≡ tokens.Wor
     is_word (token_of Suffix T q (Some x)) ≡ false → stands T q x ≡ false
 unfolding stands token_at
 no_such_byte T q x word other =
-    must_fail (is_byte (byte_at T q) x)
+    false_from_ne_true (is_byte (byte_at T q) x)
     (λ e. both_ways (is_word (token_of Suffix T q (byte_at T q)))
     (ap (λ b. is_word (token_of Suffix T q b)) (that_byte (byte_at T q) x e) ∙ other) (ap is_word word))
 

@@ -1,5 +1,5 @@
 -- Marks printed one after the other, and what a loop has still to print.
-use Rattle.std.proofs.Common.{◌≡◌, List, [], ◌∷◌, ◌++◌, length, refl, ap, append_assoc, arith, sym, ◌∙◌, OnOk, Result}
+use Rattle.std.proofs.Common.{◌≡◌, [], ◌∷◌, ◌++◌, refl, ap, append_assoc, sym, ◌∙◌, OnOk, Result}
 use Rattle.std.proofs.lemmas.List.{append-nil}
 use Rattle.std.proofs.lemmas.Result.{on_ok_weaker}
 use Rattle.shgrammar.specs.Characters.{newline_char}
@@ -75,11 +75,6 @@ written_document s x = ap (λ r. sheet_of r (s.held ++ x)) (append-nil s.so_far)
 pub written_first : (ms : Marks) → written (sheet_of [] []) ms ≡ sheet_of (laid ms) (held_after [] ms)
 unfolding written
 written_first ms = refl
-
--- a row of no length is empty
-pub empty_row : {A : Type 0} (xs : List A) → length xs ≡ 0 → xs ≡ []
-empty_row [] e = refl
-empty_row (x ∷ xs) e = absurd (omega (arith, e))
 
 -- What the last call says of its result, which is the answer, gives what is wanted of it.
 pub on_ok_then : {T E P Q : Type 0} (r : Result T E) → OnOk r P → (P → Q) → OnOk r Q

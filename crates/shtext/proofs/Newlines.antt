@@ -29,11 +29,6 @@ stays bytes at lt other = (
   since-more bytes at lt ∙ ap (λ t. cond t 0 (since_newline (take at bytes) + 1)) other,
 )
 
--- a test that fails
-pub no_pass : (x : Bool) → (x ≡ true → ⊥) → x ≡ false
-no_pass true never = absurd (never refl)
-no_pass false never = refl
-
 one_more : (bytes : List ℕ) (at n : ℕ) → at < length bytes → n ≤ line_of bytes at → n ≤ line_of bytes (at + 1)
 one_more bytes at n lt low = elim_bool bytes at n lt low (is_newline (get_or bytes at 0)) refl where
   elim_bool : (bytes : List ℕ) (at n : ℕ) → at < length bytes → n ≤ line_of bytes at → (x : Bool) →

@@ -1,11 +1,11 @@
 -- The lines of a text.
 use Rattle.std.proofs.Common.{◌≡◌, ℕ, ◌+◌, ◌-◌, ◌<◌, ◌≤◌, Bool, true, false, List, ◌++◌, Some, length, take, get_or, refl, sym, ap, ◌∙◌, arith, ⊎_elim, count_by, length-append}
-use Rattle.std.proofs.lemmas.Bool.{cases_lt}
+use Rattle.std.proofs.lemmas.Bool.{cases_lt, false_from_ne_true}
 use Rattle.std.proofs.lemmas.List.{get_or-append_right, get_or_append_left, take-append-le}
 use Rattle.std.proofs.Math.Seq.{take-append-add}
 use Rattle.shsource.specs.Text.{IsLineStart, column_of, is_newline, line_of, since_newline}
 use Rattle.shtext.proofs.Counting.{still}
-use Rattle.shtext.proofs.Newlines.{no_pass, ends, stays, grows}
+use Rattle.shtext.proofs.Newlines.{ends, stays, grows}
 use Rattle.shtext.proofs.Summing.{newlines_append}
 
 -- the newlines before an offset of a chunk
@@ -74,7 +74,7 @@ pub column_at : (B : List ℕ) (p at : ℕ) → at ≤ length B → column_of B 
 column_at B p at within column same low =
     let there : p + (at - p) ≡ at = omega (arith, low) in
     let far = still B p (at - p) (omega (arith, there, within))
-    (λ k lt. no_pass _ (λ newline. between B p at (p + k) (omega arith)
+    (λ k lt. false_from_ne_true _ (λ newline. between B p at (p + k) (omega arith)
     (omega (arith, lt, low)) within same newline)) in
     let since : since_newline (take at B) ≡ since_newline (take p B) + (at - p) =
     sym (ap (λ m. since_newline (take m B)) there) ∙ far in

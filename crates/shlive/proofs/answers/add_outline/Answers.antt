@@ -2,7 +2,8 @@ use Rattle.std.proofs.Common.{◌++◌, ◌∙◌, ap, append-nil, sym}
 use Rattle.std.specs.Prelude.{option_map}
 use Rattle.shast.specs.View.{view_list}
 use Rattle.shheld.specs.Walk.{line_outline}
-use Rattle.shlive.proofs.Walking.{entries_are, no_outline, on_ok}
+use Rattle.shprint.proofs.Writing.{on_ok_then}
+use Rattle.shlive.proofs.Walking.{entries_are, no_outline}
 use Rattle.shlive.proofs.answers.add_outline.Goals as goal
 
 pub outline_of-requires : goal.outline_of-requires
@@ -15,7 +16,7 @@ pub returns-in-Some : goal.returns-in-Some
 returns-in-Some c =
     let kind_is = entries_are c.args.line.now.kind (view_list c.in-Some.list.now)
     (sym c.list.ensures ∙ ap (option_map (λ list. view_list list.now)) c.in-Some.is) in
-    on_ok c.outline_of.result c.outline_of.ensures.ok
+    on_ok_then c.outline_of.result c.outline_of.ensures.ok
     (λ is. is ∙ ap (λ k. c.args.nodes.now.items ++ line_outline c.args.begin k) (sym kind_is))
 
 pub returns-in-None : goal.returns-in-None

@@ -1,11 +1,12 @@
 use Rattle.std.proofs.Common.{◌≡◌, ◌∷◌, arith}
+use Rattle.std.proofs.lemmas.List.{nil_from_length}
 use Rattle.shprint.specs.Written.{sheet}
 use Rattle.shprint.proofs.Spaced.{simple_printed}
-use Rattle.shprint.proofs.Writing.{written_none, empty_row}
+use Rattle.shprint.proofs.Writing.{written_none}
 use Rattle.shprint.proofs.printer.Printer.print_simple.Goals as goal
 
 pub returns-in_default : goal.returns-in_default
-returns-in_default g c = grind (arith, written_none, empty_row)
+returns-in_default g c = grind (arith, written_none, nil_from_length)
 
 pub returns : goal.returns
 returns g c =
