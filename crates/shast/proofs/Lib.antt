@@ -3,6 +3,7 @@ pub mod Seen
 pub mod Shaped
 pub mod Spelled
 -- rows of nodes and what a list ends and begins with
+pub mod Picked
 pub mod Last
 pub mod Appended
 pub mod Joined

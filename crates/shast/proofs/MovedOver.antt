@@ -413,11 +413,11 @@ module _ (P : Span → Type 0) (Q : Items → Type 0) (p : (s : Span) → P s) (
 body_unread : (base : ℕ) (s : Span) → s.«end» ≡ 0 → placed_body base s ≡ s
 body_unread base s is = ap (body_by base s) is
 
-body_read : (base : ℕ) (s : Span) (n : ℕ) → s.«end» ≡ suc n → placed_body base s ≡ placed_span base s
+pub body_read : (base : ℕ) (s : Span) (n : ℕ) → s.«end» ≡ suc n → placed_body base s ≡ placed_span base s
 body_read base s n is = ap (body_by base s) is
 
 -- at the base 0 a span stays where it is, and so do a body and a list
-span_still : (s : Span) → placed_span 0 s ≡ s
+pub span_still : (s : Span) → placed_span 0 s ≡ s
 span_still s =
     let one : 0 + s.start ≡ s.start = omega arith in
     let two : 0 + s.«end» ≡ s.«end» = omega arith in

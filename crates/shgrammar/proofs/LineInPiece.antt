@@ -38,12 +38,13 @@ text_front n T D s same within =
     ∙ sym (text_part D n s within)
 
 -- a span, or a body, that is moved by n has the text that it has by itself in the rest from n on
-text_moved : (n : ℕ) (S : List ℕ) (s : Span) → text_at S (placed_span n s) ≡ text_at (drop n S) s
+pub text_moved : (n : ℕ) (S : List ℕ) (s : Span) → text_at S (placed_span n s) ≡ text_at (drop n S) s
 text_moved n S s =
     let size : n + s.«end» - (n + s.start) ≡ s.«end» - s.start = omega arith in
     ap (λ (k : ℕ). take k (drop (n + s.start) S)) size ∙ ap (take (s.«end» - s.start)) (sym (drop-drop s.start n S))
 
-body_moved : (n : ℕ) (S : List ℕ) (s : Span) (e : ℕ) → s.«end» ≡ e → text_at S (body_by n s e) ≡ text_at (drop n S) s
+pub body_moved : (n : ℕ) (S : List ℕ) (s : Span) (e : ℕ) → s.«end» ≡ e →
+    text_at S (body_by n s e) ≡ text_at (drop n S) s
 body_moved n S s zero is =
     let none : s.«end» - s.start ≡ 0 = omega (arith, is) in
     ap (λ (k : ℕ). take k (drop s.start S)) none ∙ sym (ap (λ (k : ℕ). take k (drop s.start (drop n S))) none)

@@ -20,6 +20,7 @@ use Rattle.shgrammar.specs.Sights.{Given, given, State, Waiting, Sight, seen, he
 use Rattle.shgrammar.specs.HereDocuments.{rest_of_line, past_line, takes_newline, delimiter_below, delimiter_on, delimiter_from, body_by, bodies_from, state_by, first_waiting, waits, bodies_here, own_level, outer_level}
 use Rattle.shgrammar.specs.Form.{raw, nothing_read, change, with_bytes, a_level, Spelled, Telling, Read, ◌▸◌, Form, give, see, move, push, stop, both, when, token, many, ends_as, with_end, ended, ended_by, Step, again, done, leads_on, turns, does, moved_on, grows}
 use Rattle.shast.specs.Moved.{placed_body}
+use Rattle.shast.proofs.MovedOver.{body_read}
 use Rattle.shgrammar.specs.Moved.{moved_fault, moved_waiting, moved_state}
 use Rattle.shgrammar.specs.Commands.{pick}
 use Rattle.shgrammar.proofs.Turns.{turns_on, turns_rest, turns_done, turns_fault}
@@ -420,10 +421,6 @@ same_from : (k : ℕ) (T : List ℕ) (w : Waiting) (p : ℕ) → delimiter_from 
 unfolding delimiter_on
 same_from k T w p = same_below k _ T w _ p
 
--- a body that ends above 0
-body_moved : (k : ℕ) (s : Span) (n : ℕ) → s.«end» ≡ suc n → placed_body k s ≡ placed_span k s
-body_moved k s n is = rw is refl
-
 -- the bodies that are found and the place after them, or a fault; and these, moved
 abbrev Bodies : Type 0
 Bodies = Result (Row Span × ℕ) Fault
@@ -446,7 +443,7 @@ module _ (edition : Edition) (T : List ℕ) (k o : ℕ) where
   body_step w ws bodies p from more (Some q) found =
       let low = between T w false p q found in
       let above : o + q ≡ suc (o + q - 1) = omega (arith, from, low.0) in
-      let one : placed_body k (span o p q) ≡ span (k + o) p q = body_moved k (span o p q) (o + q - 1) above
+      let one : placed_body k (span o p q) ≡ span (k + o) p q = body_read k (span o p q) (o + q - 1) above
       ∙ span_moved k o p q in
       let row : map (placed_body k) (bodies ++ span o p q ∷ []) ≡ map (placed_body k) bodies ++ span (k + o) p q ∷ [] =
       map-append (placed_body k) bodies (span o p q ∷ [])

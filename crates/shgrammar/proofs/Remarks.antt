@@ -1,16 +1,9 @@
 -- Comments before a list, as the code has them.
-use Rattle.std.proofs.Common.{◌≡◌, List as Row, [], ◌∷◌, ◌++◌, map, false, None, rules, refl, ap}
+use Rattle.std.proofs.Common.{◌≡◌, List as Row, [], ◌∷◌, ◌++◌, map, false, None, refl, ap}
 use Rattle.shast.specs.declared.tree.Comment.{Comment}
-use Rattle.shast.specs.declared.tree.List as the_list
-use Rattle.shast.specs.declared.tree.Command.TheViews.{out-List}
-use Rattle.shast.specs.declared.tree.Command.TheFolds.{fold_out-List}
 use Rattle.shast.specs.Tree.{AnEntry, entries_of, entry, more_entries, remark}
-use Rattle.shast.specs.View.{view_comment, view_entry, view_list}
+use Rattle.shast.specs.View.{view_comment}
 use Rattle.shgrammar.specs.Compounds.{after_remarks}
-
--- a list, as the code has it, is the row of its entries as they are seen
-pub list_seen : (l : the_list.List) → view_list l ≡ entries_of (map view_entry (out-List l).entries.items)
-list_seen l = search (rules, fold_out-List)
 
 -- a comment as an entry
 abbrev pub as_remark : Comment → AnEntry

@@ -1,16 +1,16 @@
 -- The nodes of a script that hold a byte are those of the line that holds it.
-use Rattle.std.proofs.Common.{◌≡◌, ℕ, ◌+◌, ◌<◌, ◌≤◌, false, List, List as Row, [], ◌∷◌, ◌++◌, Option, None, Some, drop, length, map, option_map, sym, ap, refl, ◌∙◌, arith, append-nil}
+use Rattle.std.proofs.Common.{◌≡◌, ℕ, ◌+◌, ◌<◌, ◌≤◌, false, List, List as Row, [], ◌∷◌, ◌++◌, drop, length, map, sym, ap, refl, ◌∙◌, arith, append-nil}
 use Rattle.std.specs.Prelude.{All, ◌&&◌, nat_le, nat_lt}
 use Rattle.std.specs.List.{filter}
 use Rattle.std.proofs.lemmas.Bool.Decides.{nat_tests}
 use Rattle.std.proofs.lemmas.List.Elements.{All-head, All-tail, filter-append}
 use Rattle.shast.specs.declared.node.NodeLine.{NodeLine}
-use Rattle.shast.specs.declared.tree.Span.{Span}
-use Rattle.shast.specs.Nodes.{IsWithin, entries_nodes, holds, in_order, nodes_at, placed, placed_span}
+use Rattle.shast.specs.Nodes.{IsWithin, entries_nodes, holds, in_order, nodes_at, placed}
 use Rattle.shgrammar.specs.declared.edition.Edition.{Edition}
 use Rattle.shgrammar.specs.Lines.{AKind, blank_line, entries_line, end_line, faulty_line}
 use Rattle.shgrammar.specs.Scripts.{AScript, Outcome}
 use Rattle.shtree.proofs.InOrder.{filter-in_order}
+use Rattle.shtree.proofs.Placed.{none_before, placed_nowhere}
 use Rattle.shwindow.specs.Lines.{IsRow, extent}
 use Rattle.shwindow.specs.declared.line.HeldLine.{HeldLine}
 use Rattle.shwindow.proofs.Rows.{row_ended, row_extent, row_head, row_rest}
@@ -20,35 +20,11 @@ use Rattle.shheld.proofs.Nodes.{kind_nodes, line_nodes, line_places, lines_nodes
 use Rattle.shheld.proofs.Rows.{row_outcome}
 use Rattle.shheld.proofs.TopLines.{top_lines}
 
--- ---- nodes where a text begins
-
--- at the base 0 nothing moves: no name, no node and no row of nodes
-name_here : (name : Option Span) → option_map (placed_span 0) name ≡ name
-name_here None = refl
-name_here (Some s) =
-    let one : 0 + s.start ≡ s.start = omega arith in
-    let two : 0 + s.«end» ≡ s.«end» = omega arith in
-    rw (one, two) refl
-
-here : (n : NodeLine) → placed 0 n ≡ n
-here n =
-    let one : 0 + n.start ≡ n.start = omega arith in
-    let two : 0 + n.«end» ≡ n.«end» = omega arith in
-    rw (one, two, name_here n.name) refl
-
-pub all_here : (ns : Row NodeLine) → map (placed 0) ns ≡ ns
-all_here [] = refl
-all_here (n ∷ ns) = rw (here n, all_here ns) refl
-
 -- ---- no node holds a byte before its line, or after it
 
 -- what ends at n or before that holds no byte from n on
 past : (at s e n : ℕ) → e ≤ n → n ≤ at → (nat_le s at && nat_lt at e) ≡ false
 past at s e n low high = grind (arith, nat_tests)
-
--- and what begins at a base or after that holds no byte before it
-not_yet : (base at s e : ℕ) → at < base → (nat_le (base + s) at && nat_lt at (base + e)) ≡ false
-not_yet base at s e low = grind (arith, nat_tests)
 
 -- no node that ends at n or before that holds a byte from n on
 pub none_past : (at n : ℕ) (ns : Row NodeLine) → All (IsWithin n) ns → n ≤ at → filter (holds at) ns ≡ []
@@ -57,17 +33,12 @@ none_past at n (m ∷ ms) within high =
     rw (past at m.start m.«end» n (All-head (IsWithin n) m ms within).«end» high)
     (none_past at n ms (All-tail (IsWithin n) m ms within) high)
 
--- no node of a line holds a byte before the base where the line begins
-none_yet : (base at : ℕ) (ns : Row NodeLine) → at < base → filter (holds at) (map (placed base) ns) ≡ []
-none_yet base at [] low = refl
-none_yet base at (n ∷ ns) low = rw (not_yet base at n.start n.«end» low) (none_yet base at ns low)
-
--- nor does a node of the lines from the base on
+-- nor does a node of the lines from a base on hold a byte before it
 none_after : (base at : ℕ) (ls : Row (HeldLine AKind)) → at < base → filter (holds at) (lines_nodes base ls) ≡ []
 none_after base at [] low = refl
 none_after base at (l ∷ ls) low =
     filter-append (holds at) (line_nodes base l) (lines_nodes (base + l.len) ls)
-    ∙ ap (λ ns. ns ++ filter (holds at) (lines_nodes (base + l.len) ls)) (none_yet base at (kind_nodes l.kind) low)
+    ∙ ap (λ ns. ns ++ filter (holds at) (lines_nodes (base + l.len) ls)) (none_before base at (kind_nodes l.kind) low)
     ∙ none_after (base + l.len) at ls (omega arith)
 
 -- the nodes that hold a byte are those of the line in which it stands
@@ -110,7 +81,7 @@ script_asked : (edition : Edition) (B : List ℕ) (row : Row (HeldLine AKind)) �
 script_asked edition B row is at =
     filter-in_order (holds at) (map (placed 0) (entries_nodes (script_of row).entries))
     ∙ ap (λ ns. in_order (filter (holds at) ns))
-    (all_here (entries_nodes (script_of row).entries) ∙ row_nodes edition B row is)
+    (placed_nowhere (entries_nodes (script_of row).entries) ∙ row_nodes edition B row is)
 
 -- those of the line that holds the byte
 pub row_nodes_at : (edition : Edition) (B : List ℕ) (before : Row (HeldLine AKind)) (l : HeldLine AKind)

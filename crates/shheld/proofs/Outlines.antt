@@ -1,5 +1,5 @@
 -- The outline of a script is those of its lines, one after the other.
-use Rattle.std.proofs.Common.{◌≡◌, ℕ, ◌+◌, ◌<◌, ◌≤◌, Bool, true, false, cond, List, List as Row, [], ◌∷◌, ◌++◌, drop, map, refl, sym, ap, subst, ◌∙◌, arith, append-nil}
+use Rattle.std.proofs.Common.{◌≡◌, ℕ, ◌+◌, ◌<◌, ◌≤◌, Bool, true, false, cond, List, List as Row, [], ◌∷◌, ◌++◌, drop, map, refl, sym, ap, ◌∙◌, arith, append-nil}
 use Rattle.std.specs.Prelude.{All}
 use Rattle.std.specs.List.{filter}
 use Rattle.std.proofs.lemmas.Bool.Decides.{nat_tests}
@@ -10,14 +10,13 @@ use Rattle.shgrammar.specs.declared.edition.Edition.{Edition}
 use Rattle.shgrammar.specs.Lines.{AKind, blank_line, entries_line, end_line, faulty_line}
 use Rattle.shgrammar.specs.Scripts.{AScript, Outcome}
 use Rattle.shtree.proofs.InOrder.{before}
-use Rattle.shtree.proofs.Placed.{all_asked}
+use Rattle.shtree.proofs.Placed.{all_in_order, placed_nowhere}
 use Rattle.shwindow.specs.Lines.{IsRow, last_line, more_lines}
 use Rattle.shwindow.specs.declared.line.HeldLine.{HeldLine}
 use Rattle.shheld.specs.TopLines.{IsTopLine, as_read, script_of}
 use Rattle.shheld.specs.Walk.{line_outline, outlines}
 use Rattle.shheld.proofs.BeforeNewline.{nodes_before_end}
 use Rattle.shheld.proofs.Nodes.{kind_nodes, line_nodes, lines_nodes, row_nodes}
-use Rattle.shheld.proofs.NodesAt.{all_here}
 use Rattle.shheld.proofs.Rows.{row_outcome}
 
 -- ---- the order of nodes that begin before others
@@ -59,15 +58,6 @@ inserted_front : (m : NodeLine) (xs ys : Row NodeLine) → All (NotBefore m) ys 
 inserted_front m [] ys so = inserted_first m ys so
 inserted_front m (x ∷ xs) ys so = front_case (before x m) m x xs ys (inserted m (xs ++ ys)) (inserted_front m xs ys so)
 
--- where all nodes are asked for, none is left out
-all_kept : (ns : Row NodeLine) → filter (λ n. true) ns ≡ ns
-all_kept [] = refl
-all_kept (n ∷ ns) = ap (λ r. n ∷ r) (all_kept ns)
-
--- what holds of each node holds of each of them in order
-all_ordered : (P : NodeLine → Type 0) (ns : Row NodeLine) → All P ns → All P (in_order ns)
-all_ordered P ns so = subst (λ ms. All P (in_order ms)) (all_kept ns) (all_asked P (λ n. true) ns so)
-
 -- nodes that begin before an offset and those from there on are put in order apart from each other
 pub in_order_append : (p : ℕ) (ms ns : Row NodeLine) → All (Before p) ms → All (From p) ns →
     in_order (ms ++ ns) ≡ in_order ms ++ in_order ns
@@ -76,7 +66,7 @@ in_order_append p (m ∷ ms) ns low high =
     let begins = All-head (Before p) m ms low in
     ap (inserted m) (in_order_append p ms ns (All-tail (Before p) m ms low) high)
     ∙ inserted_front m (in_order ms) (in_order ns)
-    (all_ordered (NotBefore m) ns
+    (all_in_order (NotBefore m) ns
     (All-weaker (From p) (NotBefore m) (λ n from. not_before m n p begins from) ns high))
 
 -- ---- the nodes of lines in order
@@ -128,7 +118,7 @@ pub row_outline : (edition : Edition) (B : List ℕ) (row : Row (HeldLine AKind)
     outline 0 (script_of row).entries ≡ outlines 0 row
 row_outline edition B row is =
     ap (λ ns. filter in_outline (in_order ns))
-    (all_here (entries_nodes (script_of row).entries) ∙ row_nodes edition B row is)
+    (placed_nowhere (entries_nodes (script_of row).entries) ∙ row_nodes edition B row is)
     ∙ rows_outline edition B row is 0
 
 -- as an answer for the bytes

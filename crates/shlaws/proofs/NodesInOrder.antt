@@ -8,6 +8,7 @@ use Rattle.std.proofs.lemmas.List.Elements.{All-cons}
 use Rattle.std.proofs.lemmas.List.Sorted.{All-permutation, IsPermutation-cons, IsPermutation-middle, IsPermutation-refl, IsPermutation-trans}
 use Rattle.shast.specs.declared.node.NodeLine.{NodeLine}
 use Rattle.shast.specs.Nodes.{by_place, in_order, inserted}
+use Rattle.shast.proofs.Picked.{two_tests, without}
 use Rattle.shlaws.specs.Order.{AreInOrder, HaveTheSameAtEachPlace, MayPrecede, stands_from}
 
 -- ---- two places
@@ -129,15 +130,6 @@ place_is s e n is =
 at_its_place : (n : NodeLine) → stands_from n.start n.«end» n ≡ true
 at_its_place n = rw (eq-eqb n.start n.start refl, eq-eqb n.«end» n.«end» refl) refl
 
--- of two nodes of which at most one is found, which is looked at first does not matter
-two_tests : (p q : Bool) (m n : NodeLine) (ns : Row NodeLine) → (p ≡ true → q ≡ true → ⊥)
-    → cond p (m ∷ cond q (n ∷ ns) ns) (cond q (n ∷ ns) ns) ≡ cond q (n ∷ cond p (m ∷ ns) ns)
-    (cond p (m ∷ ns) ns)
-two_tests true true m n ns apart = absurd (apart refl refl)
-two_tests true false m n ns apart = refl
-two_tests false true m n ns apart = refl
-two_tests false false m n ns apart = refl
-
 -- at each place a row with a node inserted is as with that node in front
 same_by : (s e : ℕ) (n m : NodeLine) (ms : Row NodeLine) (b : Bool) → is_lt (by_place m n) ≡ b
     → filter (stands_from s e) (inserted n ms) ≡ filter (stands_from s e) (n ∷ ms)
@@ -199,11 +191,6 @@ place_found : (m n : NodeLine) (ms ns : Row NodeLine) → AreInOrder (n ∷ ns)
 place_found m n ms ns sorted same =
     not_after m n ns (filter (stands_from m.start m.«end») ms) (stands_from m.start m.«end» n) refl sorted
     (sym (same m.start m.«end») ∙ first_here m ms)
-
--- rows are equal that are so with or without a node in front of both
-without : (b : Bool) (m : NodeLine) (ms ns : Row NodeLine) → cond b (m ∷ ms) ms ≡ cond b (m ∷ ns) ns → ms ≡ ns
-without true m ms ns is = cc
-without false m ms ns is = is
 
 -- rows in order that have the same at each place are equal
 pub one_order : (ms ns : Row NodeLine) → AreInOrder ms → AreInOrder ns → HaveTheSameAtEachPlace ms ns

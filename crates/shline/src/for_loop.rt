@@ -21,7 +21,7 @@ use shsource::Source;
 use std::alloc::{AllocError, Global};
 
 /// A list after comments, which are its first entries then.
-#[tactic(auto, using(shgrammar::proofs::Remarks::remarks_row, shgrammar::proofs::Remarks::list_seen))]
+#[tactic(auto, using(shgrammar::proofs::Remarks::remarks_row, shast::proofs::Seen::list_seen))]
 fn after_remarks(alloc: Global, comments: &[Comment], list: List) -> Result<List, AllocError>
     ensures value { IfOk result
         (λ all. view_list all ≡ after_remarks (map view_comment comments.now) (view_list list)) }

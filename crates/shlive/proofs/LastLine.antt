@@ -5,7 +5,6 @@ use Rattle.shgrammar.specs.declared.fault.Fault.{Fault}
 use Rattle.shgrammar.specs.Lines.{AKind, FaultWithin, blank_line, end_line, entries_line, faulty_line}
 use Rattle.shgrammar.specs.Moved.{moved_fault}
 use Rattle.shgrammar.specs.Scripts.{AScript, FirstFault, Outcome}
-use Rattle.shgrammar.proofs.Scripts.{script_only}
 use Rattle.shast.specs.Shape.{shape_of}
 use Rattle.shprint.specs.declared.layout.Layout.{Layout}
 use Rattle.shprint.specs.Printed.{printed}
@@ -18,6 +17,7 @@ use Rattle.shheld.specs.Walk.{fault_at}
 use Rattle.shheld.proofs.Rows.{last_at, row_fault, row_outcome}
 use Rattle.shlive.specs.HeldLines.{IsHeldLine, fault_in}
 use Rattle.shlive.proofs.TopLines.{last_within, row_top}
+use Rattle.shlive.proofs.OneAnswer.{one_fault}
 
 -- the fault of a line is moved to where that begins; where it has none there is none
 fault_there : (k : AKind) (base : ℕ) (f : Fault) → fault_in k ≡ Some f → fault_at base k ≡ Some (moved_fault base f)
@@ -77,12 +77,6 @@ module _ (edition : Edition) (B : List ℕ) (row : Row (HeldLine AKind)) (is : I
       (row_fault edition B before l (row_top edition B (before ++ l ∷ []) last_row))
 
 -- ---- the script of the lines
-
--- a script has one first fault, or none
-pub one_fault : (edition : Edition) (B : List ℕ) (f g : Option Fault) → FirstFault edition B f → FirstFault edition B g
-    → f ≡ g
-one_fault edition B f g one two =
-    ap (λ (s : AScript). s.fault) (script_only edition B _ one.1 ∙ sym (script_only edition B _ two.1))
 
 -- an option that is not some is none, and none is not some
 pub none_is : (f : Option Fault) → is_some f ≡ false → f ≡ None

@@ -1,12 +1,10 @@
 -- The entries of a line that is read alone, where it stands in its script: their shape is that over the bytes
 -- from the line on, and no empty line stands before the first of them.
-use Rattle.std.proofs.Common.{◌≡◌, ℕ, zero, suc, ◌+◌, ◌-◌, Bool, true, false, Ok, List, List as Row, [], ◌∷◌, map, take, drop, refl, sym, ap, subst, ◌∙◌, arith}
-use Rattle.std.proofs.Math.Seq.{drop-drop}
-use Rattle.shast.specs.declared.tree.Span.{Span}
+use Rattle.std.proofs.Common.{◌≡◌, ℕ, Bool, true, false, Ok, List, List as Row, [], ◌∷◌, map, drop, refl, sym, ap, subst}
 use Rattle.shast.specs.Everywhere.{SpansWithin}
-use Rattle.shast.specs.Moved.{blanked_row, body_by, moved, moved_entry, placed_body}
+use Rattle.shast.specs.Moved.{blanked_row, moved, moved_entry, placed_body}
 use Rattle.shast.specs.Nodes.{IsSpanWithin, placed_span}
-use Rattle.shast.specs.Shape.{shape_of, text_at}
+use Rattle.shast.specs.Shape.{shape_of}
 use Rattle.shast.specs.Tree.{AnEntry, Entries, entries_of, entry, more_entries, no_entry}
 use Rattle.shgrammar.specs.declared.edition.Edition.{Edition}
 use Rattle.shgrammar.specs.declared.keep.Keep.TheVariants.{Whole}
@@ -17,6 +15,7 @@ use Rattle.shgrammar.specs.Moved.{Same}
 use Rattle.shgrammar.specs.Scripts.{line_told, the_line}
 use Rattle.shgrammar.specs.Sights.{State, given, standing}
 use Rattle.shgrammar.proofs.EachSpan.{throughout_so}
+use Rattle.shgrammar.proofs.LineInPiece.{body_moved, text_moved}
 use Rattle.shgrammar.proofs.MovedLine.{line_moved}
 use Rattle.shgrammar.proofs.OneOutcome.{computed_is_only}
 use Rattle.shgrammar.proofs.ShapeMoved.{SameText, shape_same}
@@ -24,28 +23,14 @@ use Rattle.shgrammar.proofs.ShapeMoved.{SameText, shape_same}
 -- ---- the shape of a list at a base
 
 module _ (base : ℕ) (B : List ℕ) where
-  -- a span that stands at the base has the text that it has in the bytes from there on
-  text_placed : (s : Span) → text_at B (placed_span base s) ≡ text_at (drop base B) s
-  text_placed s =
-      let size : base + s.«end» - (base + s.start) ≡ s.«end» - s.start = omega arith in
-      ap (λ (k : ℕ). take k (drop (base + s.start) B)) size
-      ∙ ap (take (s.«end» - s.start)) (sym (drop-drop s.start base B))
-
-  -- a body that ends at 0 is empty wherever it stands
-  body_placed : (s : Span) (e : ℕ) → s.«end» ≡ e → text_at B (body_by base s e) ≡ text_at (drop base B) s
-  body_placed s zero ends =
-      let none : s.«end» - s.start ≡ 0 = omega (arith, ends) in
-      ap (λ (k : ℕ). take k (drop s.start B)) none ∙ sym (ap (λ (k : ℕ). take k (drop s.start (drop base B))) none)
-  body_placed s (suc n) ends = text_placed s
-
-  -- so a list that is moved to the base has the shape that it has over those bytes
+  -- a list that is moved to the base has the shape that it has over the bytes from there on
   pub shape_placed : (limit : ℕ) (xs : Entries) → SpansWithin limit xs →
       shape_of B (moved base xs) ≡ shape_of (drop base B) xs
   shape_placed limit xs within =
       shape_same B (drop base B) (placed_span base) (placed_body base) (λ items. Unit {0}) xs
       (throughout_so (IsSpanWithin limit) (SameText B (drop base B) (placed_span base) (placed_body base))
       (λ items. Unit {0}) (λ items. Unit {0})
-      (λ s low. (text_placed s, body_placed s s.«end» refl)) (λ items so. so) xs within)
+      (λ s low. (text_moved base B s, body_moved base B s s.«end» refl)) (λ items so. so) xs within)
 
 -- ---- the first entry
 

@@ -1,15 +1,13 @@
 -- What a part prints, by the cases that the code tells apart.
-use Rattle.std.proofs.Common.{◌≡◌, ◌∙◌, ℕ, ◌<◌, ◌&&◌, Bool, true, false, List, List as Row, [], ◌∷◌, ◌++◌, Some, None, length, take, map, codes, if◌then◌else◌, rules, refl, sym, ap, append_assoc, arith, subst}
+use Rattle.std.proofs.Common.{◌≡◌, ◌∙◌, ℕ, ◌<◌, ◌&&◌, Bool, true, false, List, List as Row, [], ◌∷◌, ◌++◌, Some, None, length, take, map, codes, if◌then◌else◌, refl, sym, ap, append_assoc, arith, subst}
 use Rattle.std.proofs.Math.Seq.{take-append_seam, take-length}
 use Rattle.shast.specs.declared.tree.Comment.{Comment}
 use Rattle.shast.specs.declared.tree.Entry.{Entry}
 use Rattle.shast.specs.declared.tree.Function.{Function}
-use Rattle.shast.specs.declared.tree.List as the_list
-use Rattle.shast.specs.declared.tree.Command.TheViews.{out-Function, out-List}
-use Rattle.shast.specs.declared.tree.Command.TheFolds.{fold_out-List}
+use Rattle.shast.specs.declared.tree.Command.TheViews.{out-Function}
 use Rattle.shast.specs.Shape.{Text, Shape, shape_of, shape_of_command, shape_of_comments, shape_of_compound, text_at}
 use Rattle.shast.specs.Tree.{ACompoundOf, AWordOf, AnEntryOf, EntriesOf, command, entries_of, entry, more_entries, remark, word}
-use Rattle.shast.specs.View.{view_comment, view_compound, view_entry, view_function, view_list}
+use Rattle.shast.specs.View.{view_comment, view_compound, view_entry, view_function}
 use Rattle.shast.proofs.Seen.{function_seen}
 use Rattle.shprint.specs.declared.layout.Layout.{Layout}
 use Rattle.shprint.specs.declared.page.Page.{Page}
@@ -17,10 +15,6 @@ use Rattle.shprint.specs.Marks.{Marks, text, line_end, deeper, one}
 use Rattle.shprint.specs.Printed.{case_margin, is_brace, is_one_line, operand_margin, print_body, print_command, print_comments, print_compound, print_entries, print_function_gap, print_here, print_only}
 use Rattle.shprint.specs.Written.{Prints, Sheet, sheet, written}
 use Rattle.shprint.proofs.Writing.{written_append, written_cons}
-
--- a list is seen by its entries
-pub list_seen : (l : the_list.List) → view_list l ≡ entries_of (map view_entry (out-List l).entries.items)
-list_seen l = search (rules, fold_out-List)
 
 -- ---- parts printed one after the other
 

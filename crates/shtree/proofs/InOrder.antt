@@ -13,6 +13,7 @@ use denote.Param.Members.{Mut}
 use denote.Ref.{Bor}
 use Rattle.shast.specs.declared.node.NodeLine.{NodeLine}
 use Rattle.shast.specs.Nodes.{by_place, in_order, inserted}
+use Rattle.shast.proofs.Picked.{two_tests, without}
 
 -- ---- a node that has to stand before another
 
@@ -140,14 +141,6 @@ up_filter p (n ∷ ns) u =
 
 -- ---- tied nodes keep their order
 
--- where one of two nodes at most is picked, it is the same which of them is asked first
-two_tests : (p q : Bool) (m n : NodeLine) (ns : Row NodeLine) → (p ≡ true → q ≡ true → ⊥)
-    → cond p (m ∷ cond q (n ∷ ns) ns) (cond q (n ∷ ns) ns) ≡ cond q (n ∷ cond p (m ∷ ns) ns) (cond p (m ∷ ns) ns)
-two_tests true true m n ns h = absurd (h refl refl)
-two_tests true false m n ns h = refl
-two_tests false true m n ns h = refl
-two_tests false false m n ns h = refl
-
 -- put among nodes, a node comes first of those of them that are tied with x, if it is
 tied_case : (x n m : NodeLine) (ms : Row NodeLine) (b : Bool) → before m n ≡ b →
     filter (tied x) (inserted n ms) ≡ filter (tied x) (n ∷ ms)
@@ -178,11 +171,6 @@ found_above p n m (x ∷ xs) rest a e =
       | true ↦ λ (k : x ∷ filter p xs ≡ m ∷ rest). let same : m ≡ x = cc in rw same a.0
       | false ↦ λ (k : filter p xs ≡ m ∷ rest). found_above p n m xs rest a.1 k
     ] e
-
--- rows that are equal with the same node before both, or before none, are equal
-without : (b : Bool) (n : NodeLine) (ms ns : Row NodeLine) → cond b (n ∷ ms) ms ≡ cond b (n ∷ ns) ns → ms ≡ ns
-without true n ms ns e = cc
-without false n ms ns e = e
 
 -- nodes that are not tied one way are not tied the other way
 either_way : (p q : Bool) → (not p && not q) ≡ false → (not q && not p) ≡ false

@@ -4,11 +4,12 @@ use Rattle.std.specs.Prelude.{All, ◌&&◌, nat_le, nat_lt, Option, None, Some,
 use Rattle.std.specs.List.{filter}
 use Rattle.std.specs.Ordering.{nat_cmp}
 use Rattle.std.proofs.lemmas.Bool.Decides.{nat_tests}
-use Rattle.std.proofs.lemmas.List.Elements.{All-cons, All-filter, All-head, All-tail}
+use Rattle.std.proofs.lemmas.List.Elements.{All-cons, All-head, All-tail}
 use Rattle.shast.specs.declared.node.NodeLine.{NodeLine}
 use Rattle.shast.specs.declared.tree.Span.{Span}
 use Rattle.shast.specs.Tree.{Entries}
 use Rattle.shast.specs.Nodes.{by_place, entries_nodes, holds, in_order, in_outline, inserted, nodes_at, outline, placed, placed_span}
+use Rattle.shast.proofs.MovedOver.{span_still}
 use Rattle.shtree.proofs.InOrder.{before, filter-in_order}
 
 -- at a base offsets compare as they do without it, and so do nodes by their places
@@ -76,15 +77,15 @@ not_before : (b at s e : ℕ) → at < b → (nat_le (b + s) at && nat_lt at (b 
 not_before b at s e h = grind (arith, nat_tests)
 
 -- no node at a base holds an offset before it
-all_passed : (b at : ℕ) (ns : Row NodeLine) → at < b → filter (holds at) (map (placed b) ns) ≡ []
-all_passed b at [] h = refl
-all_passed b at (n ∷ ns) h = rw (not_before b at n.start n.«end» h) (all_passed b at ns h)
+pub none_before : (b at : ℕ) (ns : Row NodeLine) → at < b → filter (holds at) (map (placed b) ns) ≡ []
+none_before b at [] h = refl
+none_before b at (n ∷ ns) h = rw (not_before b at n.start n.«end» h) (none_before b at ns h)
 
 -- so the list has no node there
 pub nodes_at_none : (base at : ℕ) (es : Entries) → at < base → nodes_at base at es ≡ []
 nodes_at_none base at es h =
     filter-in_order (holds at) (map (placed base) (entries_nodes es))
-    ∙ ap in_order (all_passed base at (entries_nodes es) h)
+    ∙ ap in_order (none_before base at (entries_nodes es) h)
 
 -- ---- what holds of each node holds in any order
 
@@ -100,10 +101,6 @@ module _ (P : NodeLine → Type 0) where
   pub all_in_order : (ns : Row NodeLine) → All P ns → All P (in_order ns)
   all_in_order [] a = a
   all_in_order (n ∷ ns) a = all_inserted n (in_order ns) (All-head P n ns a) (all_in_order ns (All-tail P n ns a))
-
-  -- and so it does of those that pass a test
-  pub all_asked : (p : NodeLine → Bool) (ns : Row NodeLine) → All P ns → All P (in_order (filter p ns))
-  all_asked p ns a = all_in_order (filter p ns) (All-filter p P ns a)
 
 -- ---- nodes that are placed one by one
 
@@ -138,12 +135,9 @@ placed_all b [] = refl
 placed_all b (n ∷ ns) = ap (λ r. placed b n ∷ r) (placed_all b ns)
 
 -- at the base 0 they stand where they do without one
-unplaced_span : (s : Span) → placed_span 0 s ≡ s
-unplaced_span s = rw (zero-add s.start, zero-add s.«end») refl
-
 unplaced_name : (name : Option Span) → option_map (placed_span 0) name ≡ name
 unplaced_name None = refl
-unplaced_name (Some s) = ap (λ t. Some t) (unplaced_span s)
+unplaced_name (Some s) = ap (λ t. Some t) (span_still s)
 
 pub placed_nowhere : (ns : Row NodeLine) → map (placed 0) ns ≡ ns
 placed_nowhere [] = refl

@@ -3,8 +3,9 @@ use Rattle.std.proofs.lemmas.List.{map-append, take_all}
 use Rattle.shast.specs.declared.tree.Command.TheViews.{out-List}
 use Rattle.shast.specs.View.{view_comment, view_entry}
 use Rattle.shast.specs.Tree.{entries_of}
+use Rattle.shast.proofs.Seen.{list_seen}
 use Rattle.shgrammar.specs.Compounds.{after_remarks}
-use Rattle.shgrammar.proofs.Remarks.{as_remark, list_seen, remarks_row}
+use Rattle.shgrammar.proofs.Remarks.{as_remark, remarks_row}
 use Rattle.shline.proofs.for_loop.after_remarks.Goals as goal
 
 pub returns-clause-value : goal.returns-clause-value

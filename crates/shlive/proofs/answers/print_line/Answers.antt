@@ -2,11 +2,11 @@ use Rattle.std.proofs.Common.{Bool, ◌&&◌, ◌∙◌, ap, arith, drop, length
 use Rattle.std.specs.Prelude.{option_map}
 use Rattle.shast.specs.Shape.{shape_of}
 use Rattle.shast.specs.View.{view_list}
+use Rattle.shast.proofs.Seen.{list_seen}
 use Rattle.shheld.specs.TopLines.{IsTopLine}
 use Rattle.shheld.specs.Walk.{has_none}
 use Rattle.shprint.specs.Printed.{print_blank, print_entries}
 use Rattle.shprint.specs.Written.{Prints}
-use Rattle.shprint.proofs.Parts.{list_seen}
 use Rattle.shtext.specs.Buffer.{buffer_bytes}
 use Rattle.shlive.proofs.Printing.{line_printed, none_printed, nothing_waits}
 use Rattle.shlive.proofs.Walking.{entries_are, none_has}

@@ -1,11 +1,11 @@
 use Rattle.std.proofs.Common.{◌≡◌, [], ap, arith, subst, sym}
 use Rattle.shgrammar.specs.Scripts.{view_script}
 use Rattle.shast.specs.Shape.{shape_of}
+use Rattle.shast.proofs.Seen.{list_seen}
 use Rattle.shprint.specs.Printed.{print_script, printed}
 use Rattle.shprint.specs.Marks.{held_after}
 use Rattle.shprint.specs.Written.{sheet, sheet_of}
 use Rattle.shprint.specs.ReadBack.{ReadsBack}
-use Rattle.shprint.proofs.Parts.{list_seen}
 use Rattle.shprint.proofs.ReadBack.{reads_back}
 use Rattle.shprint.proofs.Writing.{written_first}
 use Rattle.shprint.proofs.printer.print.Goals as goal

@@ -4,11 +4,11 @@ use Rattle.std.proofs.lemmas.Bool.Decides.{nat_tests}
 use Rattle.shast.specs.Shape.{shape_of, shape_of_branch, shape_of_branches}
 use Rattle.shast.specs.Tree.{branches_of}
 use Rattle.shast.specs.View.{view_branch, view_case_item, view_entry, view_list}
-use Rattle.shast.proofs.Seen.{and_or_part_seen, and_or_seen, branch_seen, case_item_seen, case_seen, compound_seen, entry_seen, for_seen, for_words_seen, if_else_seen, if_seen, pipeline_part_seen, pipeline_seen}
+use Rattle.shast.proofs.Seen.{and_or_part_seen, and_or_seen, branch_seen, case_item_seen, case_seen, compound_seen, entry_seen, for_seen, for_words_seen, if_else_seen, if_seen, list_seen, pipeline_part_seen, pipeline_seen}
 use Rattle.shprint.specs.Marks.{deeper, lines_between, one, text}
 use Rattle.shprint.specs.Printed.{print_branch, print_branches, print_entries}
 use Rattle.shprint.specs.Written.{sheet}
-use Rattle.shprint.proofs.Parts.{body_some, case_cut, function_printed, list_seen, only_none, operand_cut, written_case, written_esac, written_parts}
+use Rattle.shprint.proofs.Parts.{body_some, case_cut, function_printed, only_none, operand_cut, written_case, written_esac, written_parts}
 use Rattle.shprint.proofs.Rows.{branch_marks, case_marks, entry_marks, from_more, parts_end, parts_more, pipes_end, pipes_more}
 use Rattle.shprint.proofs.Writing.{on_ok_then, written_append, written_cons, written_none}
 use Rattle.shprint.proofs.printer.Printer.+print.Goals as goal
