@@ -103,11 +103,14 @@ printed_more edition y read bytes old new is held passed same =
           (subst (λ (X : List ℕ). IsPrinted edition y X old.printing) (sym front) is.is));
     }
 
+-- the bytes that were passed, and more that are held
+front_at : (read : List ℕ) (part : PartialScript) → Held read part → (n : ℕ) →
+    take (part.passed + n) read ≡ take part.passed read ++ take n part.text.items
+front_at read part is n =
+    take-add part.passed n read ∙ ap (λ (xs : List ℕ). take part.passed read ++ take n xs) (sym is.text)
+
 -- lines were passed
 module _ (read : List ℕ) (old : PartialScript) (n : ℕ) (is : Held read old) (ends : EndsLine old n) where
-  front : take (old.passed + n) read ≡ take old.passed read ++ take n old.text.items
-  front = take-add old.passed n read ∙ ap (λ (xs : List ℕ). take old.passed read ++ take n xs) (sym is.text)
-
   high : old.passed + n ≤ length read
   high = omega (arith, is.low, ends.within, length-drop old.passed read, ap length is.text)
 
@@ -132,7 +135,8 @@ module _ (read : List ℕ) (old : PartialScript) (n : ℕ) (is : Held read old) 
     text = text ∙ ap (drop n) is.text ∙ drop-drop n old.passed read ∙ sym (ap (λ (p : ℕ). drop p read) passed);
     newlines = newlines ∙ ap (λ (m : ℕ). m + count_by is_newline (take n old.text.items)) is.newlines
         ∙ sym (sum_by-append _ (take old.passed read) (take n old.text.items))
-        ∙ sym (ap (count_by is_newline) front) ∙ sym (ap (λ (p : ℕ). count_by is_newline (take p read)) passed);
+        ∙ sym (ap (count_by is_newline) (front_at read old is n))
+        ∙ sym (ap (λ (p : ℕ). count_by is_newline (take p read)) passed);
     fresh = ap (λ (p : ℕ). since_newline (take p read)) passed ∙ fresh;
   }
 
@@ -184,21 +188,19 @@ first_is edition read part is f first =
     subst (λ (xs : List ℕ). FirstFault edition xs (option_map (moved_fault part.passed) f)) whole (is.after [] f here)
 
 module _ (read : List ℕ) (part : PartialScript) (is : Held read part) where
-  front_at : (at : ℕ) → take (part.passed + at) read ≡ take part.passed read ++ take at part.text.items
-  front_at at = take-add part.passed at read ∙ ap (λ (xs : List ℕ). take part.passed read ++ take at xs) (sym is.text)
-
   pub line_is : (at : ℕ) → part.newlines + line_of part.text.items at ≡ line_of read (part.passed + at)
   line_is at =
       let count : count_by is_newline (take (part.passed + at) read)
       ≡ count_by is_newline (take part.passed read) + count_by is_newline (take at part.text.items) =
-      ap (count_by is_newline) (front_at at) ∙ sum_by-append _ (take part.passed read) (take at part.text.items) in
+      ap (count_by is_newline) (front_at read part is at)
+      ∙ sum_by-append _ (take part.passed read) (take at part.text.items) in
       omega (arith, count, is.newlines)
 
   pub column_is : (at : ℕ) → column_of part.text.items at ≡ column_of read (part.passed + at)
   unfolding since_newline
   column_is at =
       ap (λ (n : ℕ). 1 + n)
-      (sym (ap since_newline (front_at at)
+      (sym (ap since_newline (front_at read part is at)
       ∙ fold-append (λ n b. Rattle.std.proofs.Common.cond (is_newline b) 0 (n + 1)) 0 (take part.passed read)
       (take at part.text.items)
       ∙ ap (λ (n : ℕ). Rattle.std.specs.List.fold (λ n b. Rattle.std.proofs.Common.cond (is_newline b) 0 (n + 1)) n

@@ -92,6 +92,10 @@ same_front_of A B p q n r same lt = sym (get_drop q B r) ∙ same_front n (drop 
 abbrev pub from_to : ℕ → ℕ → ℕ → ℕ
 from_to p q r = q + (r - p)
 
+-- for p itself that is q
+pub begin_there : (p q : ℕ) → from_to p q p ≡ q
+begin_there p q = omega arith
+
 -- where they have the same n bytes from there on, the second keeps those of the first
 pub kept : (edition : Edition) (T U : List ℕ) (p q n : ℕ) → take n (drop q U) ≡ take n (drop p T) →
     Kept edition T U p (p + n) (from_to p q)
@@ -122,9 +126,6 @@ module _ (room : ℕ) (g h : Given) (p q n : ℕ) (same : take n (drop q h.text)
   -- the n bytes from p on stand in it from q on
   K : Kept g.edition g.text h.text p (p + n) (from_to p q)
   K = kept g.edition g.text h.text p q n same
-
-  begin_there : from_to p q p ≡ q
-  begin_there = omega arith
 
   end_there : from_to p q (p + n) ≡ q + n
   end_there = omega arith
@@ -178,7 +179,7 @@ module _ (room : ℕ) (g h : Given) (p q n : ℕ) (same : take n (drop q h.text)
   texts_same e is =
       ap (λ r. text_at B (span g.offset p r)) is ∙ sym (raw_at B g stands_in p (p + n)) ∙ raw_same
       ∙ raw_at C h stands_there q (q + n)
-      ∙ ap (λ r. text_at C (span h.offset r (q + n))) (sym begin_there)
+      ∙ ap (λ r. text_at C (span h.offset r (q + n))) (sym (begin_there p q))
       ∙ ap (λ r. text_at C (span h.offset (from_to p q p) r)) (sym end_there ∙ ap (from_to p q) (sym is))
 
   -- such substitutions, and spans of the same text; words of the same shape
@@ -211,7 +212,8 @@ module _ (room : ℕ) (g h : Given) (p q n : ℕ) (same : take n (drop q h.text)
       let found = subst (Holds (there_is SameShape (a_word inner))) is word_by refl in (
         found.0,
         (
-          subst (λ r. does (a_word (level room)) Whole k (standing r) ≡ Ok (found.0, standing (q + n))) begin_there
+          subst (λ r. does (a_word (level room)) Whole k (standing r) ≡ Ok (found.0, standing (q + n)))
+              (begin_there p q)
               (subst (λ r. does (a_word (level room)) Whole k (standing (from_to p q p)) ≡ Ok (found.0, standing r))
               end_there found.1.0),
           found.1.1,

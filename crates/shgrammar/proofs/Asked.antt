@@ -50,6 +50,10 @@ module _ {edition : Edition} {T U : List ℕ} {a M : ℕ} {to : ℕ → ℕ} {li
   pub on : (p k : ℕ) → a ≤ p → to (p + k) ≡ to p + k
   on p k low = E.kept.on p k low
 
+  -- so two places are as far from each other there
+  pub apart : (p q : ℕ) → a ≤ p → p ≤ q → to q ≡ to p + (q - p)
+  apart p q low le = let is : p + (q - p) ≡ q = omega (arith, le) in ap to (sym is) ∙ on p (q - p) low
+
   -- where no continuation stands, a place before M is good if the search ends there, or if the next is good
   good_halt : (q : ℕ) → a ≤ q → q < M → continues T q ≡ false → raw_in goes_on T q ≡ false → G q
   good_halt q low lt none off = halts low lt none off

@@ -18,7 +18,7 @@ use Rattle.shgrammar.proofs.Stretches.{get_drop}
 use Rattle.shgrammar.proofs.Places.{raw_past_stops}
 use Rattle.shgrammar.proofs.SameBytes.{byte_other, no_backslash}
 use Rattle.shgrammar.proofs.Ahead.{ListEnds}
-use Rattle.shgrammar.proofs.Asked.{Good, high, on, good_over, same_raw_to}
+use Rattle.shgrammar.proofs.Asked.{Good, high, on, good_over, same_raw_to, apart}
 use Rattle.shgrammar.proofs.Delimiters.{bodies_low}
 use Rattle.shgrammar.proofs.BodiesAlone.{closed, same_bodies}
 use Rattle.shgrammar.proofs.Shifted.{shifted, span_from, waiting_from, state_from, moved, twice_spans, twice_waits}
@@ -124,10 +124,6 @@ module _ {edition : Edition} {T U : List ℕ} {a M : ℕ} {to : ℕ → ℕ} {li
   long_there : to M < length U
   long_there = slice_get_within U (to M) limit (E.kept.same M E.under (omega arith) ∙ E.byte)
 
-  -- two places are as far from each other there
-  far : (p q : ℕ) → a ≤ p → p ≤ q → to q ≡ to p + (q - p)
-  far p q from le = let is : p + (q - p) ≡ q = omega (arith, le) in ap to (sym is) ∙ on E p (q - p) from
-
   -- what begins before bodies that end at a good place begins at one
   pub good_before : (o : ℕ) (ws : Row Waiting) (bodies : Row Span) (p : ℕ) (x : Row Span × ℕ) → a ≤ p →
       bodies_from (given edition T o) ws bodies p ≡ Ok x → Good T a M x.1 → Good T a M p
@@ -167,15 +163,15 @@ module _ {edition : Edition} {T U : List ℕ} {a M : ℕ} {to : ℕ → ℕ} {li
         let onward = bodies_low (given edition T o) ws bodies p x read in
         let n = x.1 - p in
         let L = take n (drop p T) in
-        let end = far p x.1 from onward in
-        let limit_there = far p M from in
+        let end = apart E p x.1 from onward in
+        let limit_there = apart E p M from in
         let many : to x.1 - to p ≡ n = omega (arith, end) in
         let same : take n (drop (to p) U) ≡ L = ap (λ m. take m (drop (to p) U)) (sym many)
         ∙ same_raw_to E p x.1 from (omega (arith, from, onward)) high_x in
         let size : length L ≡ n = length-take-le n (drop p T) (omega (arith, long, high_x, onward, length-drop p T)) in
         let inside : to p ≤ length U =
         ⊎_elim (λ lt. omega (arith, limit_there (omega (arith, lt)), long_there))
-        (λ ge. omega (arith, far M p E.under ge, long_there, onward, high_x)) (cases_lt p M) in
+        (λ ge. omega (arith, apart E M p E.under ge, long_there, onward, high_x)) (cases_lt p M) in
         same_bodies edition T U (drop n (drop p T)) (drop n (drop (to p) U)) o u ws x bodies L p (to p)
         (omega (arith, long, high_x, onward)) inside (sym (off p from)) (sym (take-append-drop n (drop p T)))
         (sym (take-append-drop n (drop (to p) U)) ∙ ap (λ X. X ++ drop n (drop (to p) U)) same) so read
@@ -265,10 +261,10 @@ module _ {edition : Edition} {T U : List ℕ} {a M : ℕ} {to : ℕ → ℕ} {li
     bodies_moved ws bodies p x from read high_x so =
         let one = moved edition T o (to a) (o + a) (to a + a) a (omega arith)
         (λ q low. omega (arith, low)) ws bodies p x from read in
-        let two = bodies_there (to a) a (λ q low. omega (arith, far a q (omega arith) low))
+        let two = bodies_there (to a) a (λ q low. omega (arith, apart E a q (omega arith) low))
         (map (waiting_from (o + a) (to a + a)) ws) (map (span_from (o + a) (to a + a)) bodies) p
         (map (span_from (o + a) (to a + a)) x.0, x.1) from one high_x so in
-        let low_to : to a ≤ to p = omega (arith, far a p (omega arith) from) in
+        let low_to : to a ≤ to p = omega (arith, apart E a p (omega arith) from) in
         let three = moved edition U a u (a + to a) (u + to a) (to a) (omega arith) (λ q low. omega (arith, low))
         (map (waiting_from (o + a) (to a + a)) ws) (map (span_from (o + a) (to a + a)) bodies) (to p)
         (map (span_from (o + a) (to a + a)) x.0, to x.1) low_to two in

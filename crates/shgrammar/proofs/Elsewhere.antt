@@ -34,7 +34,7 @@ use Rattle.shgrammar.proofs.PiecesInside.{From, word_from}
 use Rattle.shgrammar.proofs.WordsElsewhere.{everywhere}
 use Rattle.shgrammar.proofs.PlainBytes.{plain_stays, ordinary_by}
 use Rattle.shgrammar.proofs.OneOutcome.{computed_is_only}
-use Rattle.shgrammar.proofs.Anywhere.{WordOf, from_to, kept, padded, padded_is, same_word}
+use Rattle.shgrammar.proofs.Anywhere.{WordOf, begin_there, from_to, kept, padded, padded_is, same_word}
 use Rattle.shast.specs.Shape.{Shape, shape_of_word}
 use Rattle.shast.specs.Tree.{SubstsOf, word as shape_word}
 use Rattle.shgrammar.proofs.CommentsElsewhere.{byte_after, stretch_length}
@@ -567,12 +567,10 @@ module _ (room : ℕ) (position : Position) (g : Given) (p n : ℕ) (word : Read
         ∙ sym (item_token position g.text p here.byte here.first here.no_number)
         ∙ ap (token_of position g.text p) (sym here.is)
 
-    -- p goes to q, and where a NAME stands at p one stands there
-    begin : from_to p q p ≡ q
-    begin = omega arith
-
+    -- where a NAME stands at p one stands there
     name_there : is_name_at g.text p ≡ true → is_name_at h.text q ≡ true
-    name_there name = subst (λ r. is_name_at h.text r ≡ true) begin (same_name K W g.offset room goes ∙ name)
+    name_there name = subst (λ r. is_name_at h.text r ≡ true) (begin_there p q)
+        (same_name K W g.offset room goes ∙ name)
 
     -- over the bytes B it has this shape
     module _ (B : List ℕ) (stands_in_B : g.text ≡ drop g.offset B) (ss : Shape SubstsOf)
@@ -589,9 +587,10 @@ module _ (room : ℕ) (position : Position) (g : Given) (p n : ℕ) (word : Read
       -- and all else holds that is said of an item
       read_at : ReadAt room position (token_at position g.text p) w ss (given g.edition h.text h.offset) q
       read_at = record {
-        place = subst (λ r. past_continuations h.text r ≡ r) begin (inside.there ∙ ap (from_to p q) place);
-        no_blank = subst (λ r. stands_in is_blank h.text r ≡ false) begin (here_stands_in K inside is_blank ∙ no_blank);
-        token_is = subst (λ r. token_at position h.text r ≡ token_at position g.text p) begin same_token;
+        place = subst (λ r. past_continuations h.text r ≡ r) (begin_there p q) (inside.there ∙ ap (from_to p q) place);
+        no_blank = subst (λ r. stands_in is_blank h.text r ≡ false) (begin_there p q)
+            (here_stands_in K inside is_blank ∙ no_blank);
+        token_is = subst (λ r. token_at position h.text r ≡ token_at position g.text p) (begin_there p q) same_token;
         word = λ C stands_in_C. subst (λ m. WordOf room (given g.edition h.text h.offset) q m C (shape_word w ss))
             (sym size) (word_there C stands_in_C);
       }

@@ -17,7 +17,7 @@ use Rattle.shgrammar.proofs.Turns.{turns_on, turns_rest, turns_done, turns_fault
 use Rattle.shgrammar.proofs.Holds.{Holds, Tells, Turned, tells_so, tells_then, tells_when, tells_token, tells_loop, tells_ending, tells_change, tells_with_bytes, tells_level, change_low, AtOrAfter, no_form_goes_back, move_low, tells_inside}
 use Rattle.shgrammar.proofs.Alike.{SameStep}
 use Rattle.shgrammar.proofs.Ahead.{ListEnds}
-use Rattle.shgrammar.proofs.Asked.{Good, high, moves, on, same_raw}
+use Rattle.shgrammar.proofs.Asked.{Good, apart, high, moves, on, same_raw}
 use Rattle.shgrammar.proofs.Inside.{same_leads}
 use Rattle.shgrammar.proofs.Places.{next_newline_low}
 use Rattle.shgrammar.proofs.Delimiters.{between, bodies_low}
@@ -47,10 +47,6 @@ module _ {edition : Edition} {T U : List ℕ} {a M : ℕ} {to : ℕ → ℕ} {li
   same_texts p q low from le = sym (raw_at B g stands p q) ∙ sym (same_raw E p q low from le)
       ∙ raw_at B2 h stands_there (to p) (to q)
 
-  -- two places are as far from each other there
-  apart : (p q : ℕ) → a ≤ p → p ≤ q → to q ≡ to p + (q - p)
-  apart p q from le = let is : p + (q - p) ≡ q = omega (arith, le) in ap to (sym is) ∙ on E p (q - p) from
-
   -- the texts of the bodies are the same
   abbrev pub SameBodies : Row Span → Type 0
   SameBodies bs = map (text_at B) bs ≡ map (text_at B2) (map (move_span E o o2) bs)
@@ -64,8 +60,8 @@ module _ {edition : Edition} {T U : List ℕ} {a M : ℕ} {to : ℕ → ℕ} {li
   -- the span of two places, in the other text
   span_there : (p q : ℕ) → a ≤ p → p ≤ q → move_span E o o2 (span o p q) ≡ span o2 (to p) (to q)
   span_there p q from le =
-      let one : to p ≡ to a + (p - a) = apart a p (omega arith) from in
-      let two : to q ≡ to a + (q - a) = apart a q (omega arith) (omega (arith, from, le)) in
+      let one : to p ≡ to a + (p - a) = apart E a p (omega arith) from in
+      let two : to q ≡ to a + (q - a) = apart E a q (omega arith) (omega (arith, from, le)) in
       let first : shifted (o + a) (o2 + to a) (o + p) ≡ o2 + to p = omega (arith, one, from) in
       let last : shifted (o + a) (o2 + to a) (o + q) ≡ o2 + to q = omega (arith, two, from, le) in
       ap (λ (x : ℕ). from_to x (shifted (o + a) (o2 + to a) (o + q))) first ∙ ap (λ (x : ℕ). from_to (o2 + to p) x) last

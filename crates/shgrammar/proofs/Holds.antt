@@ -1,7 +1,7 @@
 -- What holds of whatever a form gives: the laws of forms, and that no form goes back.
-use Rattle.std.proofs.Common.{◌≡◌, ℕ, zero, suc, ◌+◌, ◌-◌, ◌≤◌, ◌<◌, Bool, true, false, cond, Result, Ok, Err, List, List as Row, [], ◌∷◌, ◌++◌, length, refl, subst, arith}
+use Rattle.std.proofs.Common.{◌≡◌, ℕ, zero, suc, ◌-◌, ◌≤◌, ◌<◌, Bool, true, false, cond, Result, Ok, Err, List, List as Row, [], ◌∷◌, ◌++◌, length, refl, subst, arith}
 use Rattle.std.proofs.lemmas.Bool.{ltb-true, cond_both}
-use Rattle.shgrammar.specs.Characters.{backslash, number_sign}
+use Rattle.shgrammar.specs.Characters.{number_sign}
 use Rattle.shgrammar.specs.declared.keep.Keep.TheVariants.{Whole}
 use Rattle.shgrammar.specs.declared.keep.Keep.{Keep}
 use Rattle.shgrammar.specs.declared.fault.FaultKind.{FaultKind}
@@ -11,7 +11,7 @@ use Rattle.shast.specs.declared.tree.Span.{Span}
 use Rattle.shgrammar.specs.Standing.{raw_stands}
 use Rattle.shgrammar.specs.Bytes.{past_byte}
 use Rattle.shgrammar.specs.Comments.{span, past_comment}
-use Rattle.shgrammar.specs.Pieces.{past_taken, past_closer}
+use Rattle.shgrammar.specs.Pieces.{past_closer}
 use Rattle.shgrammar.specs.Sights.{Given, State, Sight, seen, Move, one_byte, continuations, one_taken, the_closer, the_parameter, a_quote_on, blanks, a_comment_on, the_reserved, the_digits, to, escaped_on}
 use Rattle.shgrammar.specs.HereDocuments.{Change, waits, bodies_here, changed, bodies_from, state_by, own_level, outer_level}
 use Rattle.shgrammar.specs.declared.fault.Fault.{Fault}
@@ -19,7 +19,7 @@ use Rattle.shgrammar.specs.Form.{Spelled, raw, nothing_read, change, with_bytes,
 use Rattle.shgrammar.specs.Commands.{pick, unexpected}
 use Rattle.shgrammar.specs.Words.{Inner}
 use Rattle.shgrammar.proofs.Stretches.{place_low}
-use Rattle.shgrammar.proofs.Places.{after_low, blanks_low, next_newline_low, next_of_low, parameter_low, reserved_low, digits_low, next_escaped_low}
+use Rattle.shgrammar.proofs.Places.{after_low, blanks_low, next_newline_low, next_of_low, parameter_low, reserved_low, digits_low, next_escaped_low, taken_low}
 use Rattle.shgrammar.proofs.Delimiters.{bodies_low}
 use Rattle.shgrammar.proofs.Turns.{turns_on, turns_rest, turns_done, turns_fault}
 use Rattle.shgrammar.specs.declared.token.Next.{Next}
@@ -270,17 +270,13 @@ module _ {g : Given} where
 
 -- ---- no form goes back
 
--- past what closes a construct, past a byte that is taken, and past a comment
+-- past what closes a construct, and past a comment
 closer_low : (mode : Mode) (T : List ℕ) (p : ℕ) → p ≤ past_closer T mode p
 closer_low Plain T p = omega arith
 closer_low Double T p = omega (arith, after_low T p)
 closer_low Brace T p = omega (arith, after_low T p)
 closer_low DoubleBrace T p = omega (arith, after_low T p)
 closer_low Arith T p = omega (arith, after_low T p, after_low T (past_byte T p))
-
-taken_low : (T : List ℕ) (p : ℕ) → p ≤ past_taken T p
-unfolding past_taken
-taken_low T p = cond_both (raw_stands T p backslash) _ _ (λ n. p ≤ p + n) (λ e. omega arith) (λ e. omega arith)
 
 comment_low : (T : List ℕ) (p : ℕ) → p ≤ past_comment T p
 unfolding past_comment
@@ -290,7 +286,7 @@ comment_low T p = cond_both (raw_stands T p number_sign) _ _ (λ n. p ≤ n) (λ
 pub move_low : (m : Move) (T : List ℕ) (p : ℕ) → p ≤ to m T p
 move_low one_byte T p = omega (arith, after_low T p)
 move_low continuations T p = place_low T p
-move_low one_taken T p = taken_low T p
+move_low one_taken T p = omega (arith, taken_low T p)
 move_low (the_closer mode) T p = closer_low mode T p
 move_low the_parameter T p = parameter_low T p
 move_low a_quote_on T p = next_of_low 39 T p

@@ -17,7 +17,7 @@ use Rattle.shgrammar.specs.Sights.{Given, given, State}
 use Rattle.shgrammar.specs.Form.{Read, Form, Step, again, done, step_if, loop, many, leads_on, turns, does}
 use Rattle.shgrammar.specs.Words.{single, escaped_turn, backquoted_text, dollar_single}
 use Rattle.shgrammar.proofs.Stretches.{place_low, past_more, past_none, stands_in_low}
-use Rattle.shgrammar.proofs.Places.{after_low, next_of_low, next_escaped_low}
+use Rattle.shgrammar.proofs.Places.{after_low, next_of_low, next_escaped_low, taken_low}
 use Rattle.shgrammar.proofs.Shifted.{state_from}
 use Rattle.shgrammar.proofs.Turns.{turns_on, turns_rest, turns_done, turns_fault}
 use Rattle.shgrammar.proofs.Holds.{Holds, AtOrAfter, no_form_goes_back, holds_so}
@@ -27,18 +27,10 @@ use Rattle.shgrammar.proofs.Ahead.{past_byte_is}
 use Rattle.shgrammar.proofs.NoFurther.{less_same}
 use Rattle.shgrammar.specs.declared.edition.Edition.{Edition}
 
--- one byte is taken, or a backslash and the next one
-taken_one : (T : List ℕ) (q : ℕ) → raw_stands T q backslash ≡ false → past_taken T q ≡ q + 1
-unfolding past_taken
-taken_one T q e = rw e refl
-
+-- a backslash is taken with the byte after it
 pub taken_two : (T : List ℕ) (q : ℕ) → raw_stands T q backslash ≡ true → past_taken T q ≡ q + 2
 unfolding past_taken
 taken_two T q e = rw e refl
-
-taken_low : (T : List ℕ) (q : ℕ) → q < past_taken T q
-taken_low T q = ⊎_elim (λ e. omega (arith, taken_two T q e)) (λ e. omega (arith, taken_one T q e))
-    (cases_Bool (raw_stands T q backslash))
 
 module _ {edition : Edition} {T U : List ℕ} {a L : ℕ} {to : ℕ → ℕ} (K : Kept edition T U a L to) where
   -- a byte before the limit is read at p

@@ -29,7 +29,8 @@ use Rattle.shgrammar.specs.Compounds.{a_linebreak}
 use Rattle.shast.specs.Everywhere.{IsSome}
 use Rattle.shgrammar.proofs.Ahead.{past_byte_is}
 use Rattle.shgrammar.proofs.Places.{after_low}
-use Rattle.shgrammar.proofs.UpToLimit.{UpTo, Stepped, adds, after, bare_token, first, follows, gives, grows, moves, picks, picks_by, pushes, repeats, sees, step_so, stepped, stops, tokens, unless, with_its_bytes}
+use Rattle.shgrammar.proofs.Turns.{Stepped}
+use Rattle.shgrammar.proofs.UpToLimit.{UpTo, adds, after, bare_token, first, follows, gives, grows, moves, picks, picks_by, pushes, repeats, sees, step_so, stepped, stops, tokens, unless, with_its_bytes}
 use Rattle.shgrammar.proofs.EachSpan.{AndOrIn, AreIn, CommandIn, EntriesIn, EntryIn, HereIn, ItemIn, PartIn, PipeIn, PipelineIn, SomeIn, SubstIn, WordIn, entries_in, items_in, parts_in, pipes_in, some_pushed, substs_in}
 use Rattle.shgrammar.proofs.Within.{comment_ends}
 

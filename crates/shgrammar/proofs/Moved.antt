@@ -23,7 +23,7 @@ use Rattle.shast.specs.Moved.{placed_body}
 use Rattle.shast.proofs.MovedOver.{body_read}
 use Rattle.shgrammar.specs.Moved.{moved_fault, moved_waiting, moved_state}
 use Rattle.shgrammar.specs.Commands.{pick}
-use Rattle.shgrammar.proofs.Turns.{turns_on, turns_rest, turns_done, turns_fault}
+use Rattle.shgrammar.proofs.Turns.{turns_on, turns_rest, turns_done, turns_fault, Stepped}
 use Rattle.shgrammar.proofs.Places.{next_newline_low}
 use Rattle.shgrammar.proofs.Delimiters.{between}
 use Rattle.shgrammar.specs.declared.edition.Edition.{Edition}
@@ -77,10 +77,6 @@ of_first P x = P x.0
 abbrev pub step : {A : Type 0} → (A → A) → Step A → Step A
 step c (again a) = again (c a)
 step c (done a) = done (c a)
-
-abbrev pub of_step : {A : Type 0} → (A → Type 0) → Step A → Type 0
-of_step P (again a) = P a
-of_step P (done a) = P a
 
 -- the second gives c of what the first gives, in its state moved; or it stops with its fault moved
 abbrev pub Like : {X : Type 0} → ℕ → (X → X) → (X → Type 0) → Read X → Read X → Type 0
@@ -334,7 +330,7 @@ moves_ending {z = z} {c = c} {P = P} {kind = kind} {at = at} {r = r} {q = q} one
 -- ---- turns
 
 module _ {z : Place} {A : Type 0} (c : A → A) (S R : A → Type 0) (turn turn2 : A → Form (Step A))
-    (starts : (a : A) → S a → Moves z (step c) (of_step R) (turn a) (turn2 (c a))) (goes_on : (a : A) → R a → S a) where
+    (starts : (a : A) → S a → Moves z (step c) (Stepped R) (turn a) (turn2 (c a))) (goes_on : (a : A) → R a → S a) where
   -- what is given and what a turn reads, by itself and elsewhere
   abbrev g : Given
   g = by_itself z
@@ -350,7 +346,7 @@ module _ {z : Place} {A : Type 0} (c : A → A) (S R : A → Type 0) (turn turn2
 
   -- one turn, and those after it
   turn_like : (a : A) (s : State) (x y : Read (Step A)) → one a s ≡ x → two (c a) (moved_state z.base s) ≡ y →
-      Like z.base (step c) (of_step R) x y
+      Like z.base (step c) (Stepped R) x y
       → ((b : A) (t : State) → length z.text - t.at < length z.text - s.at → R b →
       Like z.base c R (turns g one b t) (turns h two (c b) (moved_state z.base t)))
       → Like z.base c R (turns g one a s) (turns h two (c a) (moved_state z.base s))

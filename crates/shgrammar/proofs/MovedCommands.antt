@@ -17,7 +17,8 @@ use Rattle.shgrammar.specs.HereDocuments.{ADelimiter}
 use Rattle.shgrammar.specs.Form.{Spelled, give, many, Step, again, done, step_if}
 use Rattle.shgrammar.specs.Words.{Inner}
 use Rattle.shgrammar.specs.Commands.{is_empty, begins_redirect, begins_simple, after_word, redirect_operator_of, ItemsSoFar, items_so_far, breaks, as_item, an_item, a_number, is_strip, an_operator, operator_by, a_target, document, document_by, a_document, one_redirect, after_redirect, item_by, item_turn, a_simple, a_newline, a_semicolon, none_waits, nothing_waits, JoinSoFar, join_so_far, a_join_of, with_comment, join_turn, a_join, redirect_turn, with_redirect_list, compound_by, opener_of, named_function, a_word_command, a_command, a_bang, PipesSoFar, pipes_so_far, one_command, pipe_turn, a_pipeline, AndOrSoFar, and_or_so_far, one_pipeline, joined_by, and_or_turn, and_or_operator_of, an_and_or, ASeparator, separator_by, separator_of, a_separator}
-use Rattle.shgrammar.proofs.Moved.{Place, Any, same, each, first, of_first, step, of_step, Moves, moves_give, moves_move, moves_stop, moves_so, moves_then, moves_see, moves_here, moves_see_waiting, moves_on, moves_pushed, moves_push, moves_pick_by, moves_pick, moves_token, moves_with_bytes, moves_many, moves_waits, moves_newline}
+use Rattle.shgrammar.proofs.Turns.{Stepped}
+use Rattle.shgrammar.proofs.Moved.{Place, Any, same, each, first, of_first, step, Moves, moves_give, moves_move, moves_stop, moves_so, moves_then, moves_see, moves_here, moves_see_waiting, moves_on, moves_pushed, moves_push, moves_pick_by, moves_pick, moves_token, moves_with_bytes, moves_many, moves_waits, moves_newline}
 use Rattle.shgrammar.proofs.MovedTrees.{is_empty_map, pushed_some, span_to, join_to, here_to, word_to, item_to, command_to, pipe_to, pipeline_to, part_to, and_or_to, items_row, pipes_row, parts_row, redirects_to, word_span_to, CommandEnds, simple_ends, redirects_end, PipeEnds, PipelineEnds, pipeline_ends, PartEnds, AndOrEnds, and_or_ends}
 use Rattle.shgrammar.proofs.MovedWords.{Fits, moves_next, moves_mark, moves_comment, moves_word, moves_unexpected}
 
@@ -28,14 +29,14 @@ is_some_map c (Some x) = refl
 
 -- a step that goes on by a test moves, where the test is the same there
 pub moves_if : {z : Place} {A : Type 0} {c : A → A} {P : A → Type 0} (b d : Bool) → d ≡ b → (x y : A) → y ≡ c x → P x →
-    Moves z (step c) (of_step P) (give (step_if b x)) (give (step_if d y))
+    Moves z (step c) (Stepped P) (give (step_if b x)) (give (step_if d y))
 moves_if true true alike x y is so = moves_give (ap (λ v. again v) is) so
 moves_if true false alike x y is so = absurd cc
 moves_if false true alike x y is so = absurd cc
 moves_if false false alike x y is so = moves_give (ap (λ v. done v) is) so
 
 -- where nothing is asked of a step, whatever is known of it is enough
-pub of_any : {A : Type 0} (P : A → Type 0) (x : Step A) → of_step P x → of_step Any x
+pub of_any : {A : Type 0} (P : A → Type 0) (x : Step A) → Stepped P x → Stepped Any x
 of_any P (again a) so = tt
 of_any P (done a) so = tt
 
@@ -122,7 +123,7 @@ module _ (z : Place) where
       (is_some_map (span_to k) c)
 
   moves_join_turn : (j : JoinSoFar) →
-      Moves z (step join_so_far_to) (of_step Any) (join_turn j) (join_turn (join_so_far_to j))
+      Moves z (step join_so_far_to) (Stepped Any) (join_turn j) (join_turn (join_so_far_to j))
   unfolding join_turn
   moves_join_turn j =
       moves_then (moves_comment z j.next)
@@ -188,7 +189,7 @@ module _ (z : Place) where
         (λ n so. moves_pick _ (moves_with_bytes (moves_word z inner fits)) (moves_unexpected z inner fits n))
 
     moves_redirect : (broken there : Bool) → there ≡ broken → (position : Position) (is : Row AnItem) (n : Next)
-        → Moves z (step items_to) (of_step SomeItems) (one_redirect inner broken position is n)
+        → Moves z (step items_to) (Stepped SomeItems) (one_redirect inner broken position is n)
         (one_redirect inner there position (map (item_to k deep) is) n)
     unfolding one_redirect
     moves_redirect broken there same_broken position is n =
@@ -204,7 +205,7 @@ module _ (z : Place) where
 
     -- one more item is moved, and so is a simple command
     pub moves_item : (i : ItemsSoFar) (position : Position) →
-        Moves z (step items_to) (of_step SomeItems) (an_item inner i position) (an_item inner (items_to i) position)
+        Moves z (step items_to) (Stepped SomeItems) (an_item inner i position) (an_item inner (items_to i) position)
     unfolding an_item
     moves_item i position =
         moves_then (moves_word z inner fits)
@@ -213,7 +214,7 @@ module _ (z : Place) where
         (moves_then (moves_next z position) (λ n all. moves_give refl (pushed_some i.items _))))
 
     moves_item_by : (i : ItemsSoFar) → Begun i → (o : Option Position) → after_word i.next.token ≡ o →
-        Moves z (step items_to) (of_step SomeItems) (item_by inner i o) (item_by inner (items_to i) o)
+        Moves z (step items_to) (Stepped SomeItems) (item_by inner i o) (item_by inner (items_to i) o)
     moves_item_by i begun (Some position) is = moves_item i position
     moves_item_by i begun None is =
         moves_pick_by _ (λ e. moves_redirect (breaks i) (breaks (items_to i)) (breaks_to i)
@@ -222,7 +223,7 @@ module _ (z : Place) where
         (begins_redirect i.next.token) begun is e))
 
     moves_item_turn : (i : ItemsSoFar) → Begun i →
-        Moves z (step items_to) (of_step SomeItems) (item_turn inner i) (item_turn inner (items_to i))
+        Moves z (step items_to) (Stepped SomeItems) (item_turn inner i) (item_turn inner (items_to i))
     unfolding item_turn
     moves_item_turn i begun = moves_item_by i begun (after_word i.next.token) refl
 
@@ -241,7 +242,7 @@ module _ (z : Place) where
     -- one more redirection is moved, and so are all of them with their command, and a compound command by
     -- what opens it
     moves_redirect_turn : (i : ItemsSoFar) →
-        Moves z (step items_to) (of_step Any) (redirect_turn inner i) (redirect_turn inner (items_to i))
+        Moves z (step items_to) (Stepped Any) (redirect_turn inner i) (redirect_turn inner (items_to i))
     unfolding redirect_turn
     moves_redirect_turn i = moves_pick _
         (moves_so (of_any SomeItems) (moves_redirect i.next.broken i.next.broken refl Command i.items i.next))
@@ -307,7 +308,7 @@ module _ (z : Place) where
 
     -- one more command is moved, or none, and so is a whole pipeline
     moves_one_command : (p : PipesSoFar) → PipesEnd p →
-        Moves z (step pipes_so_far_to) (of_step PipesEnd) (one_command inner p) (one_command inner (pipes_so_far_to p))
+        Moves z (step pipes_so_far_to) (Stepped PipesEnd) (one_command inner p) (one_command inner (pipes_so_far_to p))
     unfolding one_command
     moves_one_command p all =
         moves_then (moves_mark z) (λ x so. moves_then (moves_join p.next.broken)
@@ -316,7 +317,7 @@ module _ (z : Place) where
         (moves_give refl (All-push (PipeEnds k deep) p.parts (record { join = j.0; command = c.0 }) all ends)))))
 
     moves_pipe_turn : (p : PipesSoFar) → PipesEnd p →
-        Moves z (step pipes_so_far_to) (of_step PipesEnd) (pipe_turn inner p) (pipe_turn inner (pipes_so_far_to p))
+        Moves z (step pipes_so_far_to) (Stepped PipesEnd) (pipe_turn inner p) (pipe_turn inner (pipes_so_far_to p))
     unfolding pipe_turn
     moves_pipe_turn p all = moves_pick _ (moves_one_command p all) (moves_give refl all)
 
@@ -343,7 +344,7 @@ module _ (z : Place) where
 
     -- one more pipeline is moved, or none, and so is a whole and-or list
     moves_one_pipeline : (a : AndOrSoFar) (o : AndOrOperator) → AndOrEnd a →
-        Moves z (step and_or_so_far_to) (of_step AndOrEnd) (one_pipeline inner a o)
+        Moves z (step and_or_so_far_to) (Stepped AndOrEnd) (one_pipeline inner a o)
         (one_pipeline inner (and_or_so_far_to a) o)
     unfolding one_pipeline
     moves_one_pipeline a o all =
@@ -354,13 +355,13 @@ module _ (z : Place) where
         (record { operator = o; join = j.0; pipeline = p.0 }) all ends)))))
 
     moves_joined_by : (a : AndOrSoFar) (o : Option AndOrOperator) → AndOrEnd a →
-        Moves z (step and_or_so_far_to) (of_step AndOrEnd) (joined_by inner a o)
+        Moves z (step and_or_so_far_to) (Stepped AndOrEnd) (joined_by inner a o)
         (joined_by inner (and_or_so_far_to a) o)
     moves_joined_by a (Some o) all = moves_one_pipeline a o all
     moves_joined_by a None all = moves_give refl all
 
     moves_and_or_turn : (a : AndOrSoFar) → AndOrEnd a →
-        Moves z (step and_or_so_far_to) (of_step AndOrEnd) (and_or_turn inner a)
+        Moves z (step and_or_so_far_to) (Stepped AndOrEnd) (and_or_turn inner a)
         (and_or_turn inner (and_or_so_far_to a))
     unfolding and_or_turn
     moves_and_or_turn a all = moves_joined_by a (and_or_operator_of a.next.token) all

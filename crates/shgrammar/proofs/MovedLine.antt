@@ -20,7 +20,8 @@ use Rattle.shgrammar.specs.Lines.{end_of_line, an_open_line, a_line}
 use Rattle.shgrammar.specs.Scripts.{line_told, the_line}
 use Rattle.shast.specs.Moved.{placed_entry, blanked_entry, blanked_row, carried_content}
 use Rattle.shgrammar.specs.Moved.{SameBy, LineMoves}
-use Rattle.shgrammar.proofs.Moved.{Place, Any, same, first, step, of_step, Like, Moves, kept, kept_grows, moves_give, moves_then, moves_pick, moves_level, moves_many, moves_newline}
+use Rattle.shgrammar.proofs.Turns.{Stepped}
+use Rattle.shgrammar.proofs.Moved.{Place, Any, same, first, step, Like, Moves, kept, kept_grows, moves_give, moves_then, moves_pick, moves_level, moves_many, moves_newline}
 use Rattle.shgrammar.proofs.MovedBodies.{row_moved}
 use Rattle.shgrammar.proofs.MovedTrees.{pushed_some, span_to, body_to, offset_to, and_or_to, entry_to}
 use Rattle.shgrammar.proofs.MovedWords.{Fits, moves_next, moves_comment, moves_unexpected}
@@ -158,7 +159,7 @@ module _ (z : Place) (inner : Inner) (fits : Fits z inner) where
 
     -- one more entry, or none
     one_entry_as : (l : ListSoFar) → OneLine l →
-        Moves z (step list_as) (of_step OneLine) (one_entry inner l) (one_entry inner (list_as l))
+        Moves z (step list_as) (Stepped OneLine) (one_entry inner l) (one_entry inner (list_as l))
     unfolding one_entry
     one_entry_as l begins =
         moves_then (entry_as (is_blank_next l.list) (pale && not l.list.begun) l.next) (λ e is. push_on
@@ -169,7 +170,7 @@ module _ (z : Place) (inner : Inner) (fits : Fits z inner) where
         (more_begun l.list.entries e.entry)))
 
     entry_turn_as : (l : ListSoFar) → OneLine l →
-        Moves z (step list_as) (of_step OneLine) (entry_turn inner l) (entry_turn inner (list_as l))
+        Moves z (step list_as) (Stepped OneLine) (entry_turn inner l) (entry_turn inner (list_as l))
     unfolding entry_turn
     entry_turn_as l begins = moves_pick _ (one_entry_as l begins) (moves_give refl begins)
 

@@ -22,7 +22,8 @@ use Rattle.shgrammar.specs.Lists.{Listed, ListSoFar, list_so_far, none_listed, i
 use Rattle.shgrammar.specs.Compounds.{is_open_paren, is_close_paren, reserved_or_paren, closing, Closed, closed, a_branch, BranchesSoFar, branches_so_far, elif_turn, an_else, an_if, a_loop, a_group, a_for_name, a_linebreak, a_sequential_sep, Headed, headed, word_turn, for_words, a_for_head, a_for, a_form, a_compound, a_function, a_case_word, PatternsSoFar, patterns_so_far, a_pattern, one_pattern, pattern_turn, a_pattern_list, an_open_bracket, a_body, body_end, ItemEnd, item_end, an_ender, an_item_end, CasesSoFar, cases_so_far, one_case, case_turn, a_case_head, a_case}
 use Rattle.shgrammar.specs.Substitutions.{substitution_list, one_substitution}
 use Rattle.shast.specs.Moved.{carried_patterns}
-use Rattle.shgrammar.proofs.Moved.{Place, Any, same, first, of_first, step, of_step, Moves, moves_give, moves_stop, moves_so, moves_then, moves_see, moves_here, moves_on, moves_pushed, moves_push, moves_pick, moves_level, moves_ending, moves_many, moves_token, moves_move}
+use Rattle.shgrammar.proofs.Turns.{Stepped}
+use Rattle.shgrammar.proofs.Moved.{Place, Any, same, first, of_first, step, Moves, moves_give, moves_stop, moves_so, moves_then, moves_see, moves_here, moves_on, moves_pushed, moves_push, moves_pick, moves_level, moves_ending, moves_many, moves_token, moves_move}
 use Rattle.shgrammar.proofs.MovedBodies.{filled_moved}
 use Rattle.shgrammar.proofs.MovedTrees.{is_empty_map, span_to, body_to, offset_to, word_to, subst_to, command_to, and_or_to, entry_to, list_to, branch_to, else_to, for_words_to, case_to, form_to, items_row, entries_row, branches_row, cases_row, patterns_row, remarks_to, under_name_to, CommandEnds, compound_ends, under_name_ends, EntryEnds, entries_end}
 use Rattle.shgrammar.proofs.MovedWords.{Fits, moves_next, moves_mark, moves_comment, moves_word, moves_unexpected}
@@ -129,7 +130,7 @@ module _ (z : Place) where
         (λ s so. moves_then (moves_comment z s.1) (λ c all. moves_give (entered_is a.0 s.0 blank c.0 c.1) ends)))
 
     moves_one_entry : (l : ListSoFar) → ListEnds l →
-        Moves z (step list_so_far_to) (of_step ListEnds) (one_entry inner l) (one_entry inner (list_so_far_to l))
+        Moves z (step list_so_far_to) (Stepped ListEnds) (one_entry inner l) (one_entry inner (list_so_far_to l))
     unfolding one_entry
     moves_one_entry l all =
         moves_then (moves_entry (is_blank_next l.list) l.next) (λ e ends. moves_pushed (entry_to k deep) refl refl
@@ -138,7 +139,7 @@ module _ (z : Place) where
         (All-push (EntryEnds k deep) l.list.entries e.entry all ends)))
 
     moves_entry_turn : (l : ListSoFar) → ListEnds l →
-        Moves z (step list_so_far_to) (of_step ListEnds) (entry_turn inner l) (entry_turn inner (list_so_far_to l))
+        Moves z (step list_so_far_to) (Stepped ListEnds) (entry_turn inner l) (entry_turn inner (list_so_far_to l))
     unfolding entry_turn
     moves_entry_turn l all = moves_pick _ (moves_one_entry l all) (moves_give refl all)
 
@@ -168,7 +169,7 @@ module _ (z : Place) where
 
     -- one more line is moved, and so are all lines, and a list that holds a command
     moves_list_turn : (l : ListSoFar) → ListEnds l →
-        Moves z (step list_so_far_to) (of_step ListEnds) (list_turn inner l) (list_turn inner (list_so_far_to l))
+        Moves z (step list_so_far_to) (Stepped ListEnds) (list_turn inner l) (list_turn inner (list_so_far_to l))
     unfolding list_turn
     moves_list_turn l all = moves_then (moves_on_line l all)
         (λ m all2. moves_then (moves_line_end z m.next)
@@ -213,7 +214,7 @@ module _ (z : Place) where
 
     -- one more branch is moved, or none, and so is an `else`, or none
     moves_elif : (b : BranchesSoFar) →
-        Moves z (step branches_so_far_to) (of_step Any) (elif_turn inner b) (elif_turn inner (branches_so_far_to b))
+        Moves z (step branches_so_far_to) (Stepped Any) (elif_turn inner b) (elif_turn inner (branches_so_far_to b))
     unfolding elif_turn
     moves_elif b = moves_pick _ (moves_then (moves_reserved_or_paren _ false _)
         (λ e so. moves_then (moves_branch e.1)
@@ -267,7 +268,7 @@ module _ (z : Place) where
 
     -- one more word is moved, or none, and so are all words, what stands before `do`, and the whole `for`
     moves_word_turn : (i : ItemsSoFar) →
-        Moves z (step (items_to z)) (of_step Any) (word_turn inner i) (word_turn inner (items_to z i))
+        Moves z (step (items_to z)) (Stepped Any) (word_turn inner i) (word_turn inner (items_to z i))
     unfolding word_turn
     moves_word_turn i = moves_pick _ (moves_so (of_any (SomeItems z)) (moves_item z inner fits i Suffix))
         (moves_give refl tt)
@@ -320,7 +321,7 @@ module _ (z : Place) where
         (λ w so. moves_pushed (word_to k deep) refl refl (moves_then (moves_next z _) (λ n all. moves_give refl tt)))
 
     moves_one_pattern : (ws : Row AWord) →
-        Moves z (step patterns_so_far_to) (of_step Any) (one_pattern inner ws)
+        Moves z (step patterns_so_far_to) (Stepped Any) (one_pattern inner ws)
         (one_pattern inner (map (word_to k deep) ws))
     unfolding one_pattern
     moves_one_pattern ws =
@@ -329,7 +330,7 @@ module _ (z : Place) where
         (moves_unexpected z inner fits n)))
 
     moves_pattern_turn : (p : PatternsSoFar) →
-        Moves z (step patterns_so_far_to) (of_step Any) (pattern_turn inner p)
+        Moves z (step patterns_so_far_to) (Stepped Any) (pattern_turn inner p)
         (pattern_turn inner (patterns_so_far_to p))
     unfolding pattern_turn
     moves_pattern_turn p = moves_pick _ (moves_one_pattern p.patterns) (moves_give refl tt)
@@ -388,7 +389,7 @@ module _ (z : Place) where
 
     -- one more item is moved, or none
     moves_one_case : (c : CasesSoFar) →
-        Moves z (step cases_so_far_to) (of_step Any) (one_case inner c) (one_case inner (cases_so_far_to c))
+        Moves z (step cases_so_far_to) (Stepped Any) (one_case inner c) (one_case inner (cases_so_far_to c))
     unfolding one_case
     moves_one_case c =
         moves_here (λ p. moves_then (moves_bracket c.next)
@@ -407,7 +408,7 @@ module _ (z : Place) where
         (moves_give refl tt)))))))
 
     moves_case_turn : (c : CasesSoFar) →
-        Moves z (step cases_so_far_to) (of_step Any) (case_turn inner c) (case_turn inner (cases_so_far_to c))
+        Moves z (step cases_so_far_to) (Stepped Any) (case_turn inner c) (case_turn inner (cases_so_far_to c))
     unfolding case_turn
     moves_case_turn c = moves_pick _ (moves_give refl tt) (moves_one_case c)
 

@@ -1,12 +1,12 @@
 -- Trees that are moved: their rows, and where their parts end.
-use Rattle.std.proofs.Common.{◌≡◌, ℕ, ◌+◌, Bool, true, false, List as Row, [], ◌∷◌, ◌++◌, map, Option, Some, None, option_map, refl, sym, ap, ◌∙◌}
+use Rattle.std.proofs.Common.{◌≡◌, ℕ, ◌+◌, Bool, true, false, List as Row, [], ◌∷◌, ◌++◌, map, Option, Some, None, option_map, refl, sym, ap, ◌∙◌, is_some}
 use Rattle.std.specs.Prelude.{All, unwrap_or}
 use Rattle.std.proofs.lemmas.List.Elements.{All-head, All-tail}
 use Rattle.shast.specs.declared.tree.Span.{Span}
 use Rattle.shast.specs.Tree.{AJoin, AHere, Entries, more_entries, entries_of, AnEntry, entry, AContent, command, remark, AnAndOr, and_or, AnAndOrPart, AndOrParts, more_and_or, and_or_parts_of, APipeline, pipeline, APipelinePart, PipelineParts, more_pipes, pipeline_parts_of, ACommand, simple, compound, function, ACompound, formed, with_redirects, AForm, ABranch, more_branches, branches_of, Otherwise, ForWords, ACaseItem, more_cases, cases_of, more_patterns, patterns_of, Items, no_item, more_items, items_of, AnItem, item, assign, argument, redirect, AWord, word, more_substs, substs_of, ASubst}
 use Rattle.shast.specs.Nodes.{placed_span, word_span, item_span, last_item, command_span, compound_span, last_command, pipeline_span, last_pipeline, and_or_span, commands_end}
 use Rattle.shast.specs.Moved.{placed_body, kept_substs, carried, carried_join, carried_here, carried_entry, carried_and_or, carried_and_or_parts, carried_and_or_part, carried_pipeline, carried_pipes, carried_pipe, carried_command, carried_compound, carried_form, carried_branch, carried_branches, carried_else, carried_for_words, carried_cases, carried_case, carried_patterns, carried_items, carried_item, carried_word, carried_substs, carried_subst}
-use Rattle.shgrammar.specs.Commands.{is_empty}
+use Rattle.shgrammar.specs.Commands.{ASeparator, is_empty, past_separator}
 use Rattle.shgrammar.specs.Compounds.{under_name, after_remarks}
 
 -- ---- rows and what may be there
@@ -19,6 +19,11 @@ is_empty_map c (x ∷ xs) = refl
 pub pushed_some : {A : Type 0} (xs : Row A) (x : A) → is_empty (xs ++ x ∷ []) ≡ false
 pushed_some [] x = refl
 pushed_some (y ∷ xs) x = refl
+
+-- where an offset after a separator is told, there is a separator
+pub parted_some : (o : Option ASeparator) → is_some (past_separator o) ≡ true → is_some o ≡ true
+parted_some (Some s) so = refl
+parted_some None so = absurd cc
 
 -- what is kept of a row
 abbrev pub kept_row : {A : Type 0} → Bool → Row A → Row A

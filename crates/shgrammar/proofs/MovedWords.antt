@@ -17,7 +17,8 @@ use Rattle.shgrammar.specs.Form.{Telling, move, token, step_if}
 use Rattle.shgrammar.specs.Words.{single, escaped_turn, backquoted_text, Inner, WordSoFar, word_so_far, opened, piece_row, a_piece, contents, a_word, dollar_single}
 use Rattle.shgrammar.specs.Tokens.{is_end}
 use Rattle.shgrammar.specs.Commands.{next_token, comment_by, a_comment, wrong_with, what_is_wrong, unexpected}
-use Rattle.shgrammar.proofs.Moved.{Place, Any, same, each, first, of_first, step, of_step, Moves, moves_give, moves_move, moves_stop, moves_then, moves_see, moves_here, moves_byte, moves_see_comment, moves_see_waiting, moves_on, moves_pick, moves_when, moves_token, moves_many}
+use Rattle.shgrammar.proofs.Turns.{Stepped}
+use Rattle.shgrammar.proofs.Moved.{Place, Any, same, each, first, of_first, step, Moves, moves_give, moves_move, moves_stop, moves_then, moves_see, moves_here, moves_byte, moves_see_comment, moves_see_waiting, moves_on, moves_pick, moves_when, moves_token, moves_many}
 use Rattle.shgrammar.proofs.MovedTrees.{span_to, offset_to, word_to, command_to, substs_row, CommandEnds, kept_none, substs_to}
 
 module _ (z : Place) where
@@ -42,14 +43,14 @@ module _ (z : Place) where
 
   -- text in which a backslash takes one byte: in backquotes, and in dollar-single quotes
   moves_escaped_turn : (how : Escaping) (b : ℕ) (u : Unit {0}) →
-      Moves z (step same) (of_step Any) (escaped_turn how b u) (escaped_turn how (k + b) u)
+      Moves z (step same) (Stepped Any) (escaped_turn how b u) (escaped_turn how (k + b) u)
   unfolding escaped_turn
   moves_escaped_turn how b u =
       moves_on (moves_when (λ s. refl) moves_stop
       (moves_when (λ s. refl) moves_stop
       (moves_see (λ s. refl) (λ last. moves_on (moves_give (same_if same (not last) tt) (any_if (not last)))))))
     where
-      any_if : (b : Bool) → of_step (Any {X = Unit {0}}) (step_if b tt)
+      any_if : (b : Bool) → Stepped (Any {X = Unit {0}}) (step_if b tt)
       any_if true = tt
       any_if false = tt
 
@@ -111,11 +112,11 @@ module _ (z : Place) where
   module _ (inner : Inner) (fits : Fits inner) where
     -- a construct in a word, and a piece by its kind
     moves_opened : (mode : Mode) (b : ℕ) (h : WordSoFar) →
-        Moves z (step held_to) (of_step Any) (opened inner mode b h) (opened inner mode (k + b) (held_to h))
+        Moves z (step held_to) (Stepped Any) (opened inner mode b h) (opened inner mode (k + b) (held_to h))
     moves_opened mode b h = moves_then (fits.construct mode b h.substs) (λ ss so. moves_give refl tt)
 
     moves_piece_by : (mode : Mode) (b : ℕ) (h : WordSoFar) (piece : Piece) →
-        Moves z (step held_to) (of_step Any) (piece_row inner mode b h piece)
+        Moves z (step held_to) (Stepped Any) (piece_row inner mode b h piece)
         (piece_row inner mode (k + b) (held_to h) piece)
     moves_piece_by mode b h pieces.Closer = moves_on (moves_give refl tt)
     moves_piece_by mode b h pieces.Missing = moves_stop
@@ -137,7 +138,7 @@ module _ (z : Place) where
     moves_piece_by mode b h pieces.Ordinary = moves_on (moves_give refl tt)
 
     moves_piece : (mode : Mode) (b : ℕ) (h : WordSoFar) →
-        Moves z (step held_to) (of_step Any) (a_piece inner mode b h) (a_piece inner mode (k + b) (held_to h))
+        Moves z (step held_to) (Stepped Any) (a_piece inner mode b h) (a_piece inner mode (k + b) (held_to h))
     unfolding a_piece
     moves_piece mode b h = moves_see (λ s. refl) (λ piece. moves_piece_by mode b h piece)
 

@@ -41,9 +41,12 @@ use Rattle.shgrammar.specs.declared.edition.Edition.{Edition}
 
 -- ---- the word that a NAME is
 
--- a byte of a NAME is ordinary, and a letter is such a byte
+-- a byte of a NAME is ordinary, so that it is no backslash, and a letter is such a byte
 name_plain : (b : ℕ) → is_name b ≡ true → is_plain Plain b ≡ true
 name_plain b e = grind (arith, nat_tests)
+
+pub name_clear : (b : ℕ) → is_name b ≡ true → (b == backslash) ≡ false
+name_clear b e = grind (arith, nat_tests)
 
 letter_name : (b : ℕ) → is_letter b ≡ true → is_name b ≡ true
 letter_name b e = rw e refl
@@ -218,9 +221,6 @@ module _ (room : ℕ) (g : Given) (p n : ℕ) (read : ReadsWord room g p n) (sti
     from_begin = record { low = omega arith; up = end_is }
 
     -- no byte of a NAME is a backslash, so that each is the same there, and after it the NAME goes on
-    no_backslash : (b : ℕ) → is_name b ≡ true → (b == backslash) ≡ false
-    no_backslash b e = grind (arith, nat_tests)
-
     inside_of : {r : ℕ} → Goes r → stands_in is_name T r ≡ true → Here T U p L to r
     unfolding raw_stands
     inside_of {r = r} go e =
@@ -230,7 +230,7 @@ module _ (room : ℕ) (g : Given) (p n : ℕ) (read : ReadsWord room g p n) (sti
         let up = go.up in
         here K r go.low (omega (arith, more, lt, up, past_byte_is T r))
         (λ f. absurd (both_ways (is_byte (slice_get T (past_continuations T r)) backslash)
-        (ap (λ x. is_byte x backslash) b.1 ∙ no_backslash b.0 b.2) f))
+        (ap (λ x. is_byte x backslash) b.1 ∙ name_clear b.0 b.2) f))
 
     next_goes : {r : ℕ} → Goes r → stands_in is_name T r ≡ true → Goes (past_byte T r)
     next_goes {r = r} go e = record {

@@ -17,7 +17,7 @@ use Rattle.shgrammar.proofs.OneOutcome.{computed_is_only}
 use Rattle.shgrammar.proofs.Holds.{Holds, AtOrAfter, no_form_goes_back}
 use Rattle.shgrammar.proofs.Ahead.{ListEnds, same_name, same_place, same_next}
 use Rattle.shgrammar.proofs.BodiesThere.{change_there}
-use Rattle.shgrammar.proofs.Asked.{Good, NoBracket, newline_near, high, on, moves, same_end_here, same_raw_stands, same_last_backslash, same_comment, same_piece, same_mode, same_raw}
+use Rattle.shgrammar.proofs.Asked.{Good, NoBracket, newline_near, high, moves, same_end_here, same_raw_stands, same_last_backslash, same_comment, same_piece, same_mode, same_raw, apart}
 use Rattle.shgrammar.specs.declared.edition.Edition.{Edition}
 use Rattle.shgrammar.specs.Tokens.{next_in}
 use Rattle.shgrammar.specs.Pieces.{piece_in}
@@ -103,18 +103,11 @@ module _ {edition : Edition} {T U : List ℕ} {a M : ℕ} {to : ℕ → ℕ} (E 
   long_there : to M < length U
   long_there = slice_get_within U (to M) 10 (E.kept.same M E.under (omega arith) ∙ E.byte)
 
-  -- two places lie as far apart in both
-  far : (p : ℕ) → a ≤ p → p ≤ M → to M ≡ to p + (M - p)
-  far p from le = let is : p + (M - p) ≡ M = omega (arith, le) in ap to (sym is) ∙ on E p (M - p) from
-
-  apart : (p q : ℕ) → a ≤ p → p ≤ q → to q ≡ to p + (q - p)
-  apart p q from le = let is : p + (q - p) ≡ q = omega (arith, le) in ap to (sym is) ∙ on E p (q - p) from
-
   -- a turn leads on there just where it does here
   same_leads : (s t : State) → a ≤ s.at → s.at ≤ t.at → t.at ≤ M → leads_on h (there s) (there t) ≡ leads_on g s t
   same_leads s t from onward le =
-      let one = apart s.at t.at from onward in
-      let two = far t.at (omega (arith, from, onward)) le in
+      let one = apart E s.at t.at from onward in
+      let two = apart E t.at M (omega (arith, from, onward)) le in
       less_same (length T - t.at) (length T - s.at) (length U - to t.at) (length U - to s.at)
       (λ lt. omega (arith, lt, one, two, long, long_there, onward, le))
       (λ lt. omega (arith, lt, one, two, long, long_there, onward, le))

@@ -4,13 +4,13 @@ use Rattle.std.proofs.lemmas.Bool.{cond_both, both_ways, cases_lt, false_from_ne
 use Rattle.std.proofs.lemmas.Bool.Decides.{nat_tests}
 use Rattle.std.proofs.lemmas.List.{length-drop, drop-drop}
 use Rattle.std.proofs.lemmas.Option.{slice_get_within, slice_get-get_or}
-use Rattle.shgrammar.specs.Characters.{apostrophe, newline_char}
+use Rattle.shgrammar.specs.Characters.{apostrophe, backslash, newline_char}
 use Rattle.shgrammar.specs.Classes.{is_blank, is_digit, is_name, is_letter, is_special}
 use Rattle.shgrammar.specs.Standing.{is_byte, is_none, raw_stands, raw_in, at_end, raw_past, next_of, passes, count_front, next_newline}
 use Rattle.shgrammar.specs.Bytes.{stands, ends_word, stands_in, past, past_below, past_blanks, count_joined, past_continuations, byte_at, past_byte}
 use Rattle.shgrammar.specs.declared.mode.Escaping.{Escaping}
 use Rattle.shgrammar.specs.declared.mode.Escaping.TheVariants as escapings
-use Rattle.shgrammar.specs.Pieces.{closes_by, next_escaped, past_parameter}
+use Rattle.shgrammar.specs.Pieces.{closes_by, next_escaped, past_parameter, past_taken}
 use Rattle.shgrammar.specs.Tokens.{past_digits, past_reserved}
 use Rattle.shgrammar.proofs.Stretches.{get_drop, place_low, stands_in_low}
 
@@ -101,6 +101,9 @@ pub after_high : (T : List ℕ) (p : ℕ) → past_continuations T p < length T 
 unfolding past_byte
 after_high T p lt = omega arith
 
+pub after_some : (T : List ℕ) (p b : ℕ) → byte_at T p ≡ Some b → past_byte T p ≤ length T
+after_some T p b is = after_high T p (slice_get_within T (past_continuations T p) b is)
+
 -- the byte that was read is the last one
 pub after_back : (T : List ℕ) (p : ℕ) → past_byte T p - 1 ≡ past_continuations T p
 unfolding past_byte
@@ -181,6 +184,11 @@ next_newline_high T p within = next_of_high 10 T p within
 -- the next backquote or backslash
 pub next_escaped_low : (how : Escaping) (T : List ℕ) (p : ℕ) → p ≤ next_escaped how T p
 next_escaped_low how T p = raw_past_low (λ c. not (c == closes_by how || c == 92)) T p
+
+-- a byte is taken, or a backslash and the one after it
+pub taken_low : (T : List ℕ) (p : ℕ) → p < past_taken T p
+unfolding past_taken
+taken_low T p = cond_both (raw_stands T p backslash) _ _ (λ n. p < p + n) (λ e. omega arith) (λ e. omega arith)
 
 -- ---- stretches of what is read
 

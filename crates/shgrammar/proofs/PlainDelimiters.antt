@@ -14,6 +14,7 @@ use Rattle.shgrammar.specs.Bytes.{ends}
 use Rattle.shgrammar.specs.Classes.{is_blank, is_operator}
 use Rattle.shgrammar.specs.HereDocuments.{Quoting, not_quoted, in_single, in_double, after_quote, delimiter_of, is_live, is_quote, is_quoted, left_before, unquoted}
 use Rattle.shgrammar.specs.Unquoting.{a_delimiter, is_escaped, is_wrapped, left_of, unwrapped}
+use Rattle.shgrammar.proofs.PlainBytes.{plain_stays}
 use Rattle.shgrammar.proofs.Unquoted.{unquoted_byte, unquoted_escape, bare_one}
 
 -- ---- an ordinary byte
@@ -44,10 +45,7 @@ module _ (b : ℕ) (plain : is_plain Plain b ≡ true) where
       × (not (is_special_in Plain b) ≡ true)
   not_special = none_of_four (b == 92) (b == grave_accent) (b == dollar_sign) (is_special_in Plain b) plain
 
-  -- no word ends at it, and it is none of the bytes that quote or expand
-  no_end : ends (Some b) ≡ false
-  no_end = (none_of_three (ends (Some b)) (b == apostrophe) (b == quotation_mark) not_special.3).0
-
+  -- it is none of the bytes that quote or expand
   no_backslash : (b == 92) ≡ false
   no_backslash = not_special.0
 
@@ -82,7 +80,7 @@ nothing : (left : Option (List ℕ)) → left ≡ left_of [] left
 nothing None = refl
 nothing (Some bs) = refl
 
-left_more : (b : ℕ) (xs : List ℕ) (left : Option (List ℕ)) → left_before b (left_of xs left) ≡ left_of (b ∷ xs) left
+pub left_more : (b : ℕ) (xs : List ℕ) (left : Option (List ℕ)) → left_before b (left_of xs left) ≡ left_of (b ∷ xs) left
 left_more b xs None = refl
 left_more b xs (Some bs) = refl
 
@@ -157,7 +155,7 @@ quoted_bare b bs is =
 
 -- an ordinary byte is no newline
 no_newline : (c : ℕ) → is_plain Plain c ≡ true → (c == newline_char) ≡ false
-no_newline c plain = (none_of_three (is_blank c) (c == newline_char) (is_operator c) (ap not (no_end c plain))).1
+no_newline c plain = (none_of_three (is_blank c) (c == newline_char) (is_operator c) (ap not (plain_stays c plain))).1
 
 -- of ordinary bytes after a backslash they are left, and the word is quoted
 escaped_left : (c : ℕ) (cs : List ℕ) → list_all (is_plain Plain) (c ∷ cs) ≡ true →

@@ -10,23 +10,22 @@ use Rattle.shgrammar.specs.Classes.{is_name}
 use Rattle.shgrammar.specs.Bytes.{ends}
 use Rattle.shgrammar.specs.Plain.{alone, begins_a_word, is_plain}
 
--- whether two tests say the same
-same : Bool → Bool → Bool
+-- whether two tests say the same; where they do they are equal
+unfoldable pub same : Bool → Bool → Bool
 same true b = b
 same false true = false
 same false false = true
+
+pub same_is : (a b : Bool) → same a b ≡ true → a ≡ b
+unfolding same
+same_is true b e = sym e
+same_is false true e = absurd cc
+same_is false false e = refl
 
 -- from the byte n on, a byte has none of the marks of the set where it passes the test, and only there
 agrees : ℕ → (ℕ → Bool) → List ℕ → ℕ → Bool
 agrees set test [] n = true
 agrees set test (x ∷ xs) n = same (bit_and x set == 0) (test n) && agrees set test xs (n + 1)
-
--- where they do they are equal
-same_is : (a b : Bool) → same a b ≡ true → a ≡ b
-unfolding same
-same_is true b e = sym e
-same_is false true e = absurd cc
-same_is false false e = refl
 
 -- so it is with each byte that the table has
 agrees_at : (set : ℕ) (test : ℕ → Bool) (xs : List ℕ) (n k : ℕ) → agrees set test xs n ≡ true → k < length xs →

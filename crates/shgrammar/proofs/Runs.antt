@@ -1,6 +1,7 @@
 -- A stretch of a source, and the text from a place on that it is part of.
-use Rattle.std.proofs.Common.{◌≡◌, ℕ, ◌+◌, ◌-◌, ◌<◌, ◌≤◌, ◌==◌, Bool, true, false, Some, slice_get, slice_index, get_or, List, length, drop, refl, sym, ap, ◌∙◌, arith, length-drop}
-use Rattle.std.proofs.lemmas.List.{get_or-drop}
+use Rattle.std.proofs.Common.{◌≡◌, ℕ, ◌+◌, ◌-◌, ◌<◌, ◌≤◌, ◌==◌, Bool, true, false, Some, slice_get, slice_index, get_or, List, length, drop, refl, sym, ap, ◌∙◌, arith, length-drop, take}
+use Rattle.std.proofs.lemmas.List.{get_or-drop, places, take-take}
+use Rattle.std.proofs.lemmas.Grind.{same_number_lists}
 use Rattle.std.proofs.lemmas.Option.{slice_get-get_or}
 use Rattle.shsource.specs.Text.{IsRun}
 use Rattle.shgrammar.specs.Characters.{backslash}
@@ -8,6 +9,21 @@ use Rattle.shgrammar.specs.Standing.{raw_in, raw_stands}
 use Rattle.shgrammar.specs.Bytes.{ends, ends_word, past_continuations}
 use Rattle.shgrammar.specs.Tokens.{is_word_at}
 use Rattle.shgrammar.proofs.Stretches.{get_drop, raw_stays, letter_more, letter_other, word_whole}
+
+-- ---- a stretch, and what is left of the source from where it begins
+
+module _ (B : List ℕ) (at : ℕ) (run : List ℕ) (is : IsRun B at run) where
+  -- it is no longer than that
+  run_within : length run ≤ length (drop at B)
+  run_within = grind (arith, is.short, is.none, length-drop)
+
+  -- that begins with it, and with each front of it
+  pub run_front : take (length run) (drop at B) ≡ run
+  run_front = same_number_lists _ _ (grind (arith, run_within, places))
+      (λ k lt. grind (arith, run_within, is.same, places))
+
+  pub run_part : (n : ℕ) → n ≤ length run → take n (drop at B) ≡ take n run
+  run_part n le = sym (take-take n (length run) (drop at B) le) ∙ ap (take n) run_front
 
 -- ---- the stretch that begins where the text does
 

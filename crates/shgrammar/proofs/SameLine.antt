@@ -1,7 +1,6 @@
 -- A line that a newline ended looks no further than that newline.
 use Rattle.std.proofs.Common.{◌≡◌, ℕ, zero, suc, ◌+◌, ◌-◌, ◌≤◌, ◌<◌, Bool, true, false, ◌&&◌, Result, Ok, Err, ⊎_elim, List, List as Row, [], ◌∷◌, ◌++◌, take, drop, Option, Some, None, slice_get, refl, sym, ap, subst, ◌∙◌, arith}
 use Rattle.std.proofs.lemmas.Bool.{and_parts, cases_lt}
-use Rattle.std.proofs.lemmas.Bool.Decides.{nat_tests}
 use Rattle.shgrammar.specs.Characters.{newline_char}
 use Rattle.shgrammar.specs.declared.keep.Keep.TheVariants.{Whole}
 use Rattle.shgrammar.specs.declared.fault.Fault.{Fault}
@@ -25,6 +24,7 @@ use Rattle.shgrammar.specs.Lists.{ListSoFar, list_so_far, none_listed, on_line}
 use Rattle.shgrammar.proofs.OneOutcome.{computed_is_only}
 use Rattle.shgrammar.proofs.Holds.{Holds, Tells, change_low}
 use Rattle.shgrammar.proofs.Lined.{line_ended_low}
+use Rattle.shgrammar.proofs.Stretches.{byte_is}
 use Rattle.shgrammar.proofs.SameBytes.{at_limit, byte_other, goes_on, halts, no_backslash}
 use Rattle.shgrammar.proofs.Ahead.{ListEnds, newline_ends, past_byte_is, same_after}
 use Rattle.shgrammar.proofs.BodiesThere.{read_to_limit}
@@ -211,13 +211,9 @@ module _ {edition : Edition} {T U : List ℕ} {a M : ℕ} {to : ℕ → ℕ} (E 
 -- ---- one line and two texts
 
 -- a newline that stands at a place is the byte there
-byte_is : (x : Option ℕ) → is_byte x newline_char ≡ true → x ≡ Some 10
-byte_is None e = absurd cc
-byte_is (Some b) e = let is : b ≡ 10 = grind (arith, nat_tests) in ap Some is
-
 pub newline_at : (T : List ℕ) (p : ℕ) → raw_stands T p newline_char ≡ true → slice_get T p ≡ Some 10
 unfolding raw_stands
-newline_at T p e = byte_is (slice_get T p) e
+newline_at T p e = byte_is (slice_get T p) newline_char e
 
 -- two texts with the same bytes up to a newline at M, and with that
 pub same_texts : (edition : Edition) (T U : List ℕ) (M : ℕ) → ((r : ℕ) → r < M + 1 → slice_get U r ≡ slice_get T r) →

@@ -3,7 +3,9 @@ use Rattle.std.proofs.Common.{◌≡◌, ℕ, ◌==◌, Bool, true, false, List,
 use mathlib.Core.Bool.{Bool-set}
 use native.Mathlib.Bridge.{le_prop}
 use native.Mathlib.Nat.{ℕ_set}
-use Rattle.std.proofs.lemmas.Bool.{eqb-true, or_from, cond_both}
+use Rattle.std.proofs.lemmas.Bool.{eqb-true, or_from, cond_both, both_ways}
+use Rattle.shgrammar.specs.declared.token.Closing.{Closing}
+use Rattle.shgrammar.specs.declared.token.Closing.TheVariants as closings
 use Rattle.shgrammar.specs.declared.token.Position.{Position}
 use Rattle.shgrammar.specs.declared.token.Position.TheVariants.{Command, Prefix, Suffix}
 use Rattle.shgrammar.specs.declared.token.Reserved.{Reserved}
@@ -17,11 +19,23 @@ use Rattle.shgrammar.specs.Characters.{ampersand, vertical_line, semicolon, left
 use Rattle.shast.specs.declared.tree.AndOrOperator.{AndOrOperator}
 use Rattle.shast.specs.declared.tree.RedirectOperator.{RedirectOperator}
 use Rattle.shgrammar.specs.Commands.{and_or_operator_of, begins_word, ends_item, falls_through, is_long, is_strip, redirect_operator_of, takes_here}
-use Rattle.shgrammar.specs.Compounds.{begins_pattern}
+use Rattle.shgrammar.specs.Compounds.{begins_pattern, is_closing}
 use Rattle.shgrammar.specs.declared.edition.Edition.{Edition}
 use Rattle.shgrammar.specs.Tokens.{first_word, greater_at, is_comment, is_end, is_later, is_number, less_at, token_in, token_at, token_of, word_by, word_of}
 use Rattle.shgrammar.specs.Shows.{IsRead, Shows}
 use Rattle.shgrammar.proofs.Places.{blanks_stop, place_same, some_low, stands_low}
+
+-- ---- the end of the text, and other tokens
+
+-- what passes a test that the end does not pass is not the end
+pub no_end : (test : Token → Bool) → test tokens.End ≡ false → (t : Token) → test t ≡ true → is_end t ≡ false
+no_end test none tokens.End so = absurd (both_ways (test tokens.End) none so)
+no_end test none _ so = refl
+
+-- the end closes nothing
+pub end_closes : (c : Closing) → is_closing c tokens.End ≡ false
+end_closes closings.Brace = refl
+end_closes _ = refl
 
 -- ---- what the bytes are, by the token
 

@@ -1,12 +1,20 @@
 -- Continuations, stretches of bytes of one kind, words spelled out, and texts from a place on.
-use Rattle.std.proofs.Common.{◌≡◌, ℕ, zero, suc, ◌+◌, ◌-◌, ◌<◌, ◌≤◌, ◌==◌, Bool, true, false, ◌&&◌, cond, Option, Some, None, slice_get, get_or, List, [], ◌∷◌, length, drop, refl, ap, ◌∙◌, arith, zero-add, add-one, drop-cons}
+use Rattle.std.proofs.Common.{◌≡◌, ℕ, zero, suc, ◌+◌, ◌-◌, ◌<◌, ◌≤◌, ◌==◌, Bool, true, false, ◌&&◌, cond, Option, Some, None, slice_get, get_or, List, [], ◌∷◌, length, drop, refl, ap, ◌∙◌, arith, zero-add, add-one, drop-cons, take}
 use Rattle.std.proofs.Math.Seq.{drop-length}
-use Rattle.std.proofs.lemmas.Option.{slice_get_within, slice_get_past}
+use Rattle.std.proofs.lemmas.Option.{slice_get_within, slice_get_past, get_or_from_slice_get}
+use Rattle.std.proofs.lemmas.Bool.{eqb-true}
+use Rattle.std.proofs.lemmas.List.{drop_more}
 use Rattle.shgrammar.specs.Characters.{newline_char}
 use Rattle.shgrammar.specs.Standing.{raw_stands, raw_in, passes, is_byte, count_front, raw_past, before_blanks, continues}
 use Rattle.shgrammar.specs.Bytes.{stands, stands_in, past, past_below, ends_word, count_joined, past_continuations, byte_at, past_byte}
 use Rattle.shgrammar.specs.Classes.{is_blank}
+use Rattle.shgrammar.specs.Form.{raw}
 use Rattle.shgrammar.specs.Tokens.{is_word_at}
+
+-- a byte that is c by its test is c
+pub byte_is : (x : Option ℕ) (c : ℕ) → is_byte x c ≡ true → x ≡ Some c
+byte_is None c e = absurd cc
+byte_is (Some b) c e = ap (λ (n : ℕ). Some n) (eqb-true b c e)
 
 -- ---- a text from a place on
 
@@ -17,6 +25,20 @@ get_drop (suc n) [] i = refl
 get_drop (suc n) (b ∷ B) i =
     let next : suc n + i ≡ suc (n + i) = omega arith in
     rw next (get_drop n B i)
+
+-- it is the byte at the place, and the text from the next place on
+pub drop_here : (T : List ℕ) (p b : ℕ) → slice_get T p ≡ Some b → drop p T ≡ b ∷ drop (p + 1) T
+drop_here T p b is =
+    drop_more T p 0 (slice_get_within T p b is) ∙ ap (λ c. c ∷ drop (p + 1) T) (get_or_from_slice_get T p b 0 is)
+
+-- up to a place it is the byte there and those after it, and up to where it begins no byte
+pub raw_first : (T : List ℕ) (p q b : ℕ) → slice_get T p ≡ Some b → p < q → raw T p q ≡ b ∷ raw T (p + 1) q
+raw_first T p q b is lt =
+    let many : q - p ≡ suc (q - (p + 1)) = omega (arith, lt) in
+    ap (take (q - p)) (drop_here T p b is) ∙ ap (λ n. take n (b ∷ drop (p + 1) T)) many
+
+pub raw_nothing : (T : List ℕ) (p : ℕ) → raw T p p ≡ []
+raw_nothing T p = let none : p - p ≡ 0 = omega arith in ap (λ n. take n (drop p T)) none
 
 -- ---- stretches of the text as it stands
 

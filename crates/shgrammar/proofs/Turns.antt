@@ -9,6 +9,11 @@ use Rattle.shgrammar.specs.Commands.{begins_pipeline}
 use Rattle.shgrammar.specs.Lists.{ListSoFar, entry_turn}
 use Rattle.shgrammar.specs.Form.{Form, Read, Step, again, done, ◌▸◌, leads_on, next, turns_below, turns, does, many}
 
+-- P holds of what a turn gives, whether it goes on or is the last
+abbrev pub Stepped : {A : Type 0} → (A → Type 0) → Step A → Type 0
+Stepped P (again a) = P a
+Stepped P (done a) = P a
+
 -- a choice is the same where its first side is, if the test leads there
 on_true : {X : Type 0} (c : Bool) (x y z : X) → (c ≡ true → x ≡ y) → cond c x z ≡ cond c y z
 on_true true x y z same = same refl

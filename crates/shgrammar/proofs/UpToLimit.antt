@@ -11,16 +11,12 @@ use Rattle.shgrammar.specs.HereDocuments.{own_level}
 use Rattle.shgrammar.specs.Form.{Form, Telling, a_level, both, does, ends_as, give, many, move, moved_on, push, see, stop, token, with_bytes, Step, again, done, step_if, in_substitution}
 use Rattle.shgrammar.specs.Commands.{pick}
 use Rattle.shgrammar.proofs.Holds.{Tells, Turned, no_form_goes_back, tells_ending, tells_level, tells_so, tells_then, tells_token, tells_until, tells_with_bytes, tells_inside, holds_and}
+use Rattle.shgrammar.proofs.Turns.{Stepped}
 use Rattle.shgrammar.proofs.BodiesHeld.{HoldsWithin, held, unless_above}
 
 -- P holds of what r reads from s on, with its tree, unless that ends above the limit
 pub record UpTo (g : Given) (limit : ℕ) {X : Type 0} (r : Form X) (P : X → Type 0) (s : State) : Type 0 where
   pub told : Tells Whole g r (λ x t. g.offset + t.at ≤ limit → P x) s
-
--- P holds of what a turn gives, whether it goes on or is the last
-abbrev pub Stepped : {A : Type 0} → (A → Type 0) → Step A → Type 0
-Stepped P (again a) = P a
-Stepped P (done a) = P a
 
 -- where P holds of a value, it does of a step with that, which goes on or ends by a test
 pub stepped : {A : Type 0} (P : A → Type 0) (b : Bool) (a : A) → P a → Stepped P (step_if b a)

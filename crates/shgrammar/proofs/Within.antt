@@ -45,7 +45,8 @@ use Rattle.shgrammar.proofs.OneOutcome.{computed_is_only}
 use Rattle.shgrammar.proofs.Ahead.{past_byte_is}
 use Rattle.shgrammar.proofs.Places.{after_low, next_newline_low}
 use Rattle.shgrammar.proofs.Holds.{Holds, Tells, Turned, tells_with_bytes, tells_level, tells_give, tells_then, tells_token, tells_many, tells_so, tells_ending, tells_seen, tells_moved, no_form_goes_back, tells_inside, holds_and}
-use Rattle.shgrammar.proofs.UpToLimit.{Stepped, stepped}
+use Rattle.shgrammar.proofs.Turns.{Stepped}
+use Rattle.shgrammar.proofs.UpToLimit.{stepped}
 use Rattle.shgrammar.specs.declared.keep.Keep.TheVariants.{Whole}
 use Rattle.shgrammar.specs.declared.edition.Edition.{Edition}
 

@@ -1,6 +1,6 @@
 -- No row of the grammar leads past the end of its text.
 use Rattle.std.proofs.Common.{◌≡◌, ℕ, zero, suc, ◌≤◌, Bool, true, false, ◌||◌, List, List as Row, [], Result, Ok, Err, Option, Some, None, is_some, length, refl, ap, subst}
-use Rattle.std.proofs.lemmas.Bool.{and_parts, both_ways, cond_both}
+use Rattle.std.proofs.lemmas.Bool.{and_parts, cond_both}
 use Rattle.shast.specs.Nodes.{word_span}
 use Rattle.shast.specs.Tree.{ACommand, AnItem, AWord}
 use Rattle.shast.specs.declared.tree.AndOrOperator.{AndOrOperator}
@@ -33,23 +33,13 @@ use Rattle.shgrammar.specs.Lists.{ListSoFar, list_so_far, none_listed, one_entry
 use Rattle.shgrammar.specs.Shows.{IsRead, Shows}
 use Rattle.shgrammar.specs.Sights.{Given, Move, State, Waiting, a_comment_on, is_a_name, one_byte, seen, the_digits, to}
 use Rattle.shgrammar.specs.Standing.{raw_stands}
-use Rattle.shgrammar.specs.Tokens.{is_end, past_digits, past_reserved}
+use Rattle.shgrammar.specs.Tokens.{past_digits, past_reserved}
 use Rattle.shgrammar.specs.Words.{Inner, a_word}
 use Rattle.shgrammar.proofs.Delimiters.{bodies_go}
 use Rattle.shgrammar.proofs.Holds.{Tells, Turned, after, gives, picked_by, pushed_on, sees, stops, tells_change, tells_many, tells_then, tells_token, tells_with_bytes}
 use Rattle.shgrammar.proofs.Places.{after_high, blanks_high, next_newline_high, past_high}
-use Rattle.shgrammar.proofs.Shown.{shown_in}
+use Rattle.shgrammar.proofs.Shown.{end_closes, no_end, shown_in}
 use Rattle.shgrammar.proofs.WordsWithin.{contents_end, stays_in}
-
--- a token that passes a test which the end does not pass is not the end
-other : (test : Token → Bool) → test tokens.End ≡ false → (t : Token) → test t ≡ true → is_end t ≡ false
-other test none tokens.End e = absurd (both_ways (test tokens.End) none e)
-other test none _ e = refl
-
--- the end of the text closes nothing
-closes_none : (c : Closing) → is_closing c tokens.End ≡ false
-closes_none closings.Brace = refl
-closes_none _ = refl
 
 module _ (g : Given) where
   -- the text that is read
@@ -99,7 +89,7 @@ module _ (g : Given) where
   -- a byte is read where the token is not the end
   read : (n : Next) (s : State) → Handed n s → (test : Token → Bool) → test tokens.End ≡ false
       → test n.token ≡ true → IsRead T s.at
-  read n s so test none e = so.shows.read (other test none n.token e)
+  read n s so test none e = so.shows.read (no_end test none n.token e)
 
   -- where the token is not the end, the place after its first byte is in the text
   pub read_on : (n : Next) (s : State) → Handed n s → (test : Token → Bool) → test tokens.End ≡ false
@@ -531,7 +521,7 @@ module _ (g : Given) where
 
     -- where the token closes, a byte is read
     closes : (c : Closing) (n : Next) (s : State) → Handed n s → is_closing c n.token ≡ true → IsRead T s.at
-    closes c n s so e = read n s so (is_closing c) (closes_none c) e
+    closes c n s so e = read n s so (is_closing c) (end_closes c) e
 
     -- after what has to close here, a token is handed on in the text; where the token here is another, the
     -- row stops

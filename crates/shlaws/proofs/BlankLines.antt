@@ -6,12 +6,8 @@ use Rattle.shast.specs.Tree.{AnEntry}
 use Rattle.shgrammar.specs.Commands.{is_empty}
 use Rattle.shgrammar.specs.Lists.{Listed, is_blank_next, next_line, none_listed, with_command, with_remark}
 use Rattle.shgrammar.specs.Scripts.{LinesSoFar, is_blank_line, nothing_yet, with_line}
+use Rattle.shgrammar.proofs.MovedTrees.{pushed_some}
 use Rattle.shlaws.specs.Blank.{past_empty_lines, past_newlines}
-
--- a row with an element more is not empty
-pub not_empty : {A : Type 0} (es : Row A) (e : A) → is_empty (es ++ e ∷ []) ≡ false
-not_empty [] e = refl
-not_empty (x ∷ xs) e = refl
 
 -- ---- lists
 
@@ -41,11 +37,11 @@ before_all (suc n) =
 -- after a command, and after a comment, the next entry is blank just where 2 newline tokens or more follow
 pub after_command : (l : Listed) (es : Row AnEntry) (e : AnEntry) (parted : Option ℕ) (n : ℕ)
     → (is_blank_next (past_newlines n (with_command l (es ++ e ∷ []) parted)) ≡ true) ↔ (2 ≤ n)
-after_command l es e parted n = after_entry (with_command l (es ++ e ∷ []) parted) n refl (not_empty es e)
+after_command l es e parted n = after_entry (with_command l (es ++ e ∷ []) parted) n refl (pushed_some es e)
 
 pub after_remark : (l : Listed) (es : Row AnEntry) (e : AnEntry) (n : ℕ)
     → (is_blank_next (past_newlines n (with_remark l (es ++ e ∷ []))) ≡ true) ↔ (2 ≤ n)
-after_remark l es e n = after_entry (with_remark l (es ++ e ∷ [])) n refl (not_empty es e)
+after_remark l es e n = after_entry (with_remark l (es ++ e ∷ [])) n refl (pushed_some es e)
 
 -- ---- scripts
 
@@ -67,12 +63,12 @@ some_then (x ∷ xs) more some = refl
 pub after_line : (so : LinesSoFar) (es : Row AnEntry) (e : AnEntry) (n : ℕ)
     → (is_blank_line (past_empty_lines n (with_line so (es ++ e ∷ []))) ≡ true) ↔ (2 ≤ n + 1)
 after_line so es e zero =
-    let no : is_blank_line (with_line so (es ++ e ∷ [])) ≡ false = rw (not_empty es e) refl in
+    let no : is_blank_line (with_line so (es ++ e ∷ [])) ≡ false = rw (pushed_some es e) refl in
     (λ is. absurd (let both : true ≡ false = sym is ∙ no in cc), λ le. absurd (omega arith))
 after_line so es e (suc n) =
     let l : LinesSoFar = with_line so (es ++ e ∷ []) in
     let some : is_empty (past_empty_lines (suc n) l).entries ≡ false =
-    same_so_far (suc n) l ∙ some_then so.entries (es ++ e ∷ []) (not_empty es e) in
+    same_so_far (suc n) l ∙ some_then so.entries (es ++ e ∷ []) (pushed_some es e) in
     (λ is. omega arith, λ le. ap not some)
 
 -- no lines without entries make the first entry of a script blank

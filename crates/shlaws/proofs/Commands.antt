@@ -1,6 +1,5 @@
 -- Commands, and what joins them to an entry of a list: each turn over them leads on.
 use Rattle.std.proofs.Common.{◌≡◌, ℕ, ◌<◌, Bool, true, false, List, List as Row, [], Option, Some, None, is_some, refl, ap, arith}
-use Rattle.std.proofs.lemmas.Bool.{both_ways}
 use Rattle.shgrammar.specs.declared.token.Next.{Next}
 use Rattle.shgrammar.specs.declared.token.Opener.{Opener}
 use Rattle.shgrammar.specs.declared.token.Position.{Position}
@@ -18,23 +17,13 @@ use Rattle.shgrammar.specs.HereDocuments.{ADelimiter, first_waiting}
 use Rattle.shgrammar.specs.Form.{Form, Spelled, Telling, both, give, leads_on, move, moved_on, token, ◌>>=◌}
 use Rattle.shgrammar.specs.Shows.{IsRead}
 use Rattle.shgrammar.specs.Sights.{Given, State, one_byte}
-use Rattle.shgrammar.specs.Tokens.{is_end}
 use Rattle.shgrammar.specs.Words.{Inner}
-use Rattle.shgrammar.specs.Commands.{ASeparator, ItemsSoFar, AndOrSoFar, JoinSoFar, PipesSoFar, a_bang, a_command, a_comment, a_document, a_join, a_newline, a_number, a_pipeline, a_semicolon, a_separator, a_simple, a_target, a_word_command, an_and_or, an_entry, an_item, an_operator, and_or_operator_of, begins_redirect, begins_simple, begins_word, after_redirect, after_word, breaks, comment_by, compound_by, document_by, is_bang, is_long, is_newline_token, is_number_token, is_paren, is_pipe, is_semicolon, is_strip, is_word, item_by, item_turn, and_or_turn, join_turn, joined_by, and_or_so_far, next_token, none_waits, nothing_waits, one_command, one_pipeline, one_redirect, opener_of, operator_by, past_separator, pipe_turn, pipes_so_far, redirect_operator_of, redirect_turn, with_redirect_list, separator_by, separator_of, items_so_far, takes_here, unexpected, what_is_wrong, with_comment}
+use Rattle.shgrammar.specs.Commands.{ItemsSoFar, AndOrSoFar, JoinSoFar, PipesSoFar, a_bang, a_command, a_comment, a_document, a_join, a_newline, a_number, a_pipeline, a_semicolon, a_separator, a_simple, a_target, a_word_command, an_and_or, an_entry, an_item, an_operator, and_or_operator_of, begins_redirect, begins_simple, begins_word, after_redirect, after_word, breaks, comment_by, compound_by, document_by, is_bang, is_long, is_newline_token, is_number_token, is_paren, is_pipe, is_semicolon, is_strip, is_word, item_by, item_turn, and_or_turn, join_turn, joined_by, and_or_so_far, next_token, none_waits, nothing_waits, one_command, one_pipeline, one_redirect, opener_of, operator_by, pipe_turn, pipes_so_far, redirect_operator_of, redirect_turn, with_redirect_list, separator_by, separator_of, items_so_far, takes_here, unexpected, what_is_wrong, with_comment}
+use Rattle.shgrammar.proofs.MovedTrees.{parted_some}
 use Rattle.shgrammar.proofs.Places.{after_low}
-use Rattle.shgrammar.proofs.Shown.{shown_in}
+use Rattle.shgrammar.proofs.Shown.{no_end, shown_in}
 use Rattle.shlaws.proofs.Forms.{Goes, Steps, ahead, beyond, changing, first, follows, gives, leads_byte, leads_far, leads_from, led, led_on, moves, moves_to, picks, picks_by, pushes, repeats, sees, step_by, stops, tokens as one_token, with_the_bytes}
 use Rattle.shlaws.proofs.Words.{All, Begins, Fine, word_on}
-
--- what passes a test that the end does not pass is not the end
-pub no_end : (test : Token → Bool) → test tokens.End ≡ false → (t : Token) → test t ≡ true → is_end t ≡ false
-no_end test none tokens.End so = absurd (both_ways (test tokens.End) none so)
-no_end test none _ so = refl
-
--- where an offset after a separator is told, there is a separator
-parted_some : (o : Option ASeparator) → is_some (past_separator o) ≡ true → is_some o ≡ true
-parted_some (Some x) so = refl
-parted_some None so = absurd cc
 
 module _ (g : Given) where
   -- the text that is given

@@ -23,6 +23,7 @@ use Rattle.shgrammar.specs.Lists.{ListSoFar, a_list, a_remark, entry_turn, list_
 use Rattle.shgrammar.specs.Compounds.{BranchesSoFar, CasesSoFar, Closed, Headed, ItemEnd, PatternsSoFar, a_body, a_branch, a_case, a_case_head, a_case_word, a_compound, a_for, a_for_head, a_for_name, a_form, a_function, a_group, a_linebreak, a_loop, a_pattern, a_pattern_list, a_sequential_sep, an_else, an_ender, an_if, an_item_end, an_open_bracket, begins_pattern, branches_so_far, case_turn, cases_so_far, closing, elif_turn, for_words, is_close_paren, is_closing, is_open_paren, one_case, one_pattern, past_opener, pattern_turn, reserved_or_paren, word_turn}
 use Rattle.shgrammar.specs.Substitutions.{a_substitution, one_substitution, substitution_list}
 use Rattle.shgrammar.proofs.Places.{after_low, past_low}
+use Rattle.shgrammar.proofs.Shown.{end_closes}
 use Rattle.shgrammar.specs.Classes.{is_name}
 use Rattle.shlaws.proofs.Forms.{Goes, Steps, ahead, ending, first, follows, gives, in_level, in_subst, leads_byte, leads_from, led, moves, moves_to, picks, picks_by, pushes, pushes_to, repeats, sees, step_by, stops, tokens as one_token}
 use Rattle.shlaws.proofs.Words.{All, Begins, Fine, word_on}
@@ -37,19 +38,6 @@ reserved_far T p = omega (arith, after_low T p, past_low is_name T (past_byte T 
 opener_far : (paren : Bool) (T : List ℕ) (p : ℕ) → p < to (past_opener paren) T p
 opener_far true T p = after_low T p
 opener_far false T p = reserved_far T p
-
--- the end of the text closes nothing
-end_closes : (c : Closing) → is_closing c tokens.End ≡ false
-end_closes closings.Brace = refl
-end_closes closings.Paren = refl
-end_closes closings.Then = refl
-end_closes closings.Elif = refl
-end_closes closings.Else = refl
-end_closes closings.Fi = refl
-end_closes closings.Do = refl
-end_closes closings.Done = refl
-end_closes closings.In = refl
-end_closes closings.Esac = refl
 
 -- the token of a word that is no assignment begins a word
 word_begins : (t : Token) → is_word t ≡ true → begins_word t ≡ true

@@ -15,9 +15,9 @@ use Rattle.shgrammar.specs.Words.{Inner}
 use Rattle.shgrammar.specs.declared.keep.Keep.TheVariants.{Whole}
 use Rattle.shgrammar.specs.declared.token.Next.{Next}
 use Rattle.shgrammar.proofs.Holds.{Holds, Tells, Turned, after, gives, picked, pushed_on, tells_many, tells_then}
+use Rattle.shgrammar.proofs.MovedTrees.{pushed_some}
 use Rattle.shgrammar.proofs.OneOutcome.{computed_is_only}
 use Rattle.shlaws.specs.Blank.{AreBlankAtFirst, HasMore}
-use Rattle.shlaws.proofs.BlankLines.{not_empty}
 
 -- ---- one entry more
 
@@ -52,7 +52,7 @@ one_more before l m e so flag all begun blank =
     let es = so.entries in
     let next : is_blank_next l ≡ (is_blank_next before && is_empty es) =
     rw (so.blank, so.begun) (flag_of before.blank before.begun (is_empty es)) in
-    let some : not (is_empty (es ++ e ∷ [])) ≡ true = ap not (not_empty es e) in
+    let some : not (is_empty (es ++ e ∷ [])) ≡ true = ap not (pushed_some es e) in
     record {
       entries = es ++ e ∷ [];
       all = all ∙ ap (λ r. r ++ e ∷ []) so.all ∙ append_assoc before.entries es (e ∷ []);

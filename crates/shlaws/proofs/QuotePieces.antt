@@ -14,7 +14,7 @@ use Rattle.shgrammar.specs.HereDocuments.{delimiter_in, has_dollar_single, in_do
 use Rattle.shgrammar.specs.Pieces.{next_quote, past_closer}
 use Rattle.shgrammar.specs.Standing.{at_end}
 use Rattle.shgrammar.specs.Tokens.{is_later}
-use Rattle.shgrammar.proofs.Places.{after_high, after_low, next_of_low, not_end_low}
+use Rattle.shgrammar.proofs.Places.{after_low, after_some, next_of_low, not_end_low}
 use Rattle.shgrammar.proofs.Stretches.{place_low}
 use Rattle.shlaws.specs.Quotes.{Leaves, double, ended, escape, escape_leaves, ordinary, pid, piece_by_edition, single}
 use Rattle.shlaws.proofs.PieceBytes.{Begins, another, begins, byte_there, closer_there, dollar, dollars, double_quote, escapes, is_unquoted, quote, quoting_in}
@@ -168,17 +168,14 @@ module _ (edition : Edition) (W : List ℕ) where
 
   -- ---- how far they go
 
-  -- the place after a byte that is read lies inside the text or at its end
-  within_byte : (p b : ℕ) → byte_at W p ≡ Some b → past_byte W p ≤ length W
-  within_byte p b is = after_high W p (slice_get_within W (past_continuations W p) b is)
-
-  -- so do the place after what closes pieces, which is not before it, and the one after `$$`
+  -- the place after what closes pieces, which is not before it, lies inside the text or at its end, and so
+  -- does the one after `$$`
   closer_far : (mode : Mode) (p : ℕ) → is_unquoted mode ≡ true
       → piece_by_edition edition W mode p ≡ pieces.Closer → p ≤ length W
       → (p ≤ past_closer W mode p) × (past_closer W mode p ≤ length W)
   closer_far Plain p read is within = (omega arith, within)
   closer_far Double p read is within =
-      (omega (arith, after_low W p), within_byte p quotation_mark (closer_there edition W p is))
+      (omega (arith, after_low W p), after_some W p quotation_mark (closer_there edition W p is))
   closer_far Brace p read is within = absurd cc
   closer_far DoubleBrace p read is within = absurd cc
   closer_far Arith p read is within = absurd cc
@@ -187,14 +184,14 @@ module _ (edition : Edition) (W : List ℕ) where
       → piece_by_edition edition W mode p ≡ pieces.Pid → past_byte W (past_byte W p) ≤ length W
   pid_within mode p read is =
       let there = byte_there edition W mode p pieces.Pid read is refl in
-      within_byte (past_byte W p) dollar_sign (pid_of _ _ there.0 _ mode there.2).1
+      after_some W (past_byte W p) dollar_sign (pid_of _ _ there.0 _ mode there.2).1
 
   -- and the one where pieces end, which is not before where they begin
   pub far : (mode : Mode) (p q : ℕ) (text : List ℕ) → is_unquoted mode ≡ true → Leaves edition W mode p q text
       → p ≤ length W → (p ≤ q) × (q ≤ length W)
   far mode p q text read (ended is) within = closer_far mode p read is within
   far mode p q text read (ordinary {left = left} b is byte rest) within =
-      let r = far mode (past_byte W p) q left read rest (within_byte p b byte) in
+      let r = far mode (past_byte W p) q left read rest (after_some W p b byte) in
       (omega (arith, r.0, after_low W p), r.1)
   far mode p q text read (pid {left = left} is rest) within =
       let r = far mode (past_byte W (past_byte W p)) q left read rest (pid_within mode p read is) in
@@ -209,7 +206,7 @@ module _ (edition : Edition) (W : List ℕ) where
       (omega (arith, r.0, after_low W p, next_of_low apostrophe W (past_byte W p)), r.1)
   far mode p q text read (double {m = m} {inside = inside} {left = left} is held rest) within =
       let there = double_there mode p read is in
-      let one = far Double (past_byte W p) m inside refl held (within_byte p quotation_mark there.0) in
+      let one = far Double (past_byte W p) m inside refl held (after_some W p quotation_mark there.0) in
       let two = far mode m q left read rest one.1 in
       (omega (arith, one.0, two.0, after_low W p), two.1)
 

@@ -29,7 +29,7 @@ use Rattle.shgrammar.specs.Words.{WordSoFar, a_piece, a_word, contents, word_so_
 use Rattle.shgrammar.proofs.Anywhere.{anywhere}
 use Rattle.shgrammar.proofs.Levels.{level_below, level_closed}
 use Rattle.shgrammar.proofs.OneOutcome.{computed_is_only}
-use Rattle.shgrammar.proofs.Places.{after_low, next_of_low, not_end_low, quote_clear}
+use Rattle.shgrammar.proofs.Places.{after_low, after_some, next_of_low, not_end_low, quote_clear}
 use Rattle.shgrammar.proofs.Stretches.{place_low}
 use Rattle.shgrammar.proofs.Turns.{many_again, many_done, turns_fault}
 use Rattle.shlaws.specs.Quotes.{Leaves, double, ended, escape, ordinary, pid, piece_by_edition, single as quoted}
@@ -188,11 +188,6 @@ module _ (edition : Edition) (W : List ℕ) (o : ℕ) where
     abbrev turned : WordSoFar → State → Read (Step WordSoFar)
     turned h1 u = Ok (again h1, u)
 
-    -- the place after a byte that is read lies inside the text or at its end
-    byte_within : (p c : ℕ) → byte_at W p ≡ Some c → past_byte W p ≤ length W
-    unfolding past_byte
-    byte_within p c is = let lt = slice_get_within W (past_continuations W p) c is in omega (arith, lt)
-
     -- up to where the reading ends stand pieces that leave something, where a closer is the piece here
     closes_here : Is pieces.Closer → Goes mode s.at t.at
     closes_here is =
@@ -211,7 +206,7 @@ module _ (edition : Edition) (W : List ℕ) (o : ℕ) where
         let there = byte_there edition W mode s.at pieces.Ordinary read is refl in
         let rest =
         goes_on h (place s (past_byte W s.at)) _ (row_is room mode b h s pieces.Ordinary read is)
-        (after_low W s.at) (byte_within s.at there.0 there.1)
+        (after_low W s.at) (after_some W s.at there.0 there.1)
         (byte_leads edition W mode s.at there.0 read is there.1) in
         (_, ordinary there.0 is there.1 rest.1)
 
@@ -327,7 +322,7 @@ module _ (edition : Edition) (W : List ℕ) (o : ℕ) where
         (row_is room mode b h s pieces.Double read is ∙ double_turn some ∙ ap held_by inner) whole)
     double_by is some (Ok (k, u)) inner =
         let there = double_there edition W mode s.at read is in
-        let near = byte_within s.at quotation_mark there.0 in
+        let near = after_some W s.at quotation_mark there.0 in
         let opens = opened_leads edition W mode s.at read is in
         let held =
         finds (room - 1) Double (o + past_continuations W s.at) (word_so_far 0 h.substs) k inside_at u refl

@@ -1,9 +1,8 @@
 -- What quote removal byte by byte makes of each piece, and whether it finds text in dollar-single quotes.
-use Rattle.std.proofs.Common.{◌≡◌, ℕ, suc, ◌+◌, ◌-◌, ◌<◌, ◌==◌, Bool, true, false, cond, not, List, [], ◌∷◌, ◌++◌, length, take, drop, get_or, slice_get, Option, Some, None, refl, sym, ap, ◌∙◌, arith, append_assoc, drop-drop}
+use Rattle.std.proofs.Common.{◌≡◌, ℕ, suc, ◌+◌, ◌-◌, ◌<◌, ◌==◌, Bool, true, false, cond, not, List, [], ◌∷◌, ◌++◌, length, take, drop, slice_get, Option, Some, None, refl, sym, ap, ◌∙◌, arith, append_assoc, drop-drop}
 use Rattle.std.specs.Prelude.{◌&&◌, ◌||◌}
 use Rattle.std.proofs.lemmas.Bool.{and_from, and_right, false_from_ne_true}
-use Rattle.std.proofs.lemmas.List.{drop_more, length-drop}
-use Rattle.std.proofs.lemmas.Option.{slice_get_within, slice_get-get_or}
+use Rattle.std.proofs.lemmas.List.{length-drop}
 use Rattle.shgrammar.specs.declared.mode.Mode.{Mode}
 use Rattle.shgrammar.specs.declared.mode.Mode.TheVariants.{Plain, Double, Brace, DoubleBrace, Arith}
 use Rattle.shgrammar.specs.Bytes.{byte_at, count_joined, past_byte, past_continuations, stands}
@@ -14,7 +13,8 @@ use Rattle.shgrammar.specs.Pieces.{next_quote}
 use Rattle.shgrammar.specs.Standing.{at_end, continues, count_front, is_byte, raw_past, raw_stands}
 use Rattle.shgrammar.specs.Unquoting.{left_of}
 use Rattle.shgrammar.proofs.Places.{not_end_low, place_same}
-use Rattle.shgrammar.proofs.Stretches.{joined_more, place_low}
+use Rattle.shgrammar.proofs.PlainDelimiters.{left_more}
+use Rattle.shgrammar.proofs.Stretches.{drop_here, joined_more, place_low}
 use Rattle.shgrammar.proofs.Unquoted.{rest_stands, unquoted_byte, unquoted_escape}
 use Rattle.shlaws.specs.Quotes.{escape_leaves}
 use Rattle.shlaws.proofs.PieceBytes.{is_unquoted, quoting_in}
@@ -108,14 +108,6 @@ module _ (q : Quoting) (second : Bool) (live : (c b : ℕ) → is_live q c b ≡
 
 -- ---- the byte that is read at a place
 
--- from k on stand the byte at k, and those after it
-pub drop_here : (W : List ℕ) (k b : ℕ) → slice_get W k ≡ Some b → drop k W ≡ b ∷ drop (k + 1) W
-drop_here W k b is =
-    let lt = slice_get_within W k b is in
-    let same : Some (get_or W k 0) ≡ Some b = sym (slice_get-get_or W k 0 lt) ∙ is in
-    let byte : get_or W k 0 ≡ b = cc in
-    drop_more W k 0 lt ∙ ap (λ c. c ∷ drop (k + 1) W) byte
-
 -- what continuations in front do not change is, from p on, that of the byte read there and of the rest
 read_on : {A : Type 0} (f : List ℕ → A) → ((xs : List ℕ) → f xs ≡ f (drop (count_joined xs) xs))
     → (W : List ℕ) (p b : ℕ) → byte_at W p ≡ Some b → f (drop p W) ≡ f (b ∷ drop (past_byte W p) W)
@@ -152,12 +144,6 @@ has_byte q second b (c ∷ bs) none = rw none refl
 abbrev no_quote : ℕ → Bool
 no_quote b = not (b == apostrophe)
 
--- a byte before a text that is left makes it one longer
-one_left : (b : ℕ) (text : List ℕ) (left : Option (List ℕ))
-    → left_before b (left_of text left) ≡ left_of (b ∷ text) left
-one_left b text None = refl
-one_left b text (Some bs) = refl
-
 -- in single quotes each byte is left by itself, a backslash too
 single_byte : (b : ℕ) (bs : List ℕ)
     → unquoted in_single false (b ∷ bs) ≡ byte_left in_single false b bs (λ r s. unquoted r s bs)
@@ -191,7 +177,7 @@ single_by b bs false e rest =
     let found : turn in_single false b bs ≡ has_dollar_single in_single false bs = rw e refl in
     rw (next, more) (
       single_byte b bs ∙ stays ∙ ap (left_before b) (rest refl).0
-          ∙ one_left b (take k bs) (unquoted not_quoted false (drop (k + 1) bs)),
+          ∙ left_more b (take k bs) (unquoted not_quoted false (drop (k + 1) bs)),
       has_byte in_single false b bs refl ∙ found ∙ (rest refl).1,
     )
 

@@ -1,5 +1,5 @@
 -- Words: each turn over their pieces leads on, and a word that does not end where it begins has moved.
-use Rattle.std.proofs.Common.{◌≡◌, ℕ, zero, suc, ◌+◌, ◌<◌, ◌==◌, Bool, true, false, not, List, List as Row, [], Option, Some, None, refl, arith, ◌&&◌, length, ◌≤◌}
+use Rattle.std.proofs.Common.{◌≡◌, ℕ, zero, suc, ◌<◌, ◌==◌, Bool, true, false, not, List, List as Row, [], Option, Some, None, refl, arith, ◌&&◌, length, ◌≤◌}
 use Rattle.std.proofs.lemmas.Bool.{cond_both, lt-ltb}
 use Rattle.std.proofs.lemmas.Option.{slice_get_within}
 use Rattle.shgrammar.specs.declared.mode.Escaping.{Escaping}
@@ -21,14 +21,9 @@ use Rattle.shgrammar.specs.Form.{Step, again, give, leads_on, ◌>>=◌}
 use Rattle.shgrammar.specs.Shows.{IsRead, Shows}
 use Rattle.shgrammar.specs.Sights.{Given, State}
 use Rattle.shgrammar.specs.Words.{Inner, WordSoFar, a_piece, a_word, backquoted_text, contents, dollar_single, escaped_turn, word_so_far, opened, piece_row, single}
-use Rattle.shgrammar.proofs.Places.{after_low, next_escaped_low, next_of_low, not_end_low, parameter_low, word_longer}
+use Rattle.shgrammar.proofs.Places.{after_low, next_escaped_low, next_of_low, not_end_low, parameter_low, taken_low, word_longer}
 use Rattle.shgrammar.proofs.Stretches.{place_low}
 use Rattle.shlaws.proofs.Forms.{Goes, Stepped, Steps, ahead, beyond, first, follows, gives, leads_byte, led_until, moves, moves_to, repeats, repeats_until, sees, step_by, stops, tokens, whens, whens_by}
-
--- what is taken at q ends after q: a byte, or a backslash and the one after it
-taken_low : (T : List ℕ) (q : ℕ) → q < past_taken T q
-unfolding past_taken
-taken_low T q = cond_both (raw_stands T q backslash) _ _ (λ n. q < q + n) (λ e. omega arith) (λ e. omega arith)
 
 module _ (g : Given) where
   -- the text that is given

@@ -1,11 +1,11 @@
 -- What the loops over the lines of a here-document, and over its word, come to.
-use Rattle.std.proofs.Common.{◌≡◌, ℕ, zero, suc, ◌+◌, ◌-◌, ◌==◌, ◌<◌, ◌≤◌, Bool, true, false, not, cond, List, [], ◌∷◌, ◌++◌, List as Row, length, take, drop, map, fold, Option, Some, None, Ok, Err, slice_get, get_or, bytes_eq, refl, sym, ap, ◌∙◌, arith, ⊎_elim}
+use Rattle.std.proofs.Common.{◌≡◌, ℕ, zero, suc, ◌+◌, ◌-◌, ◌==◌, ◌<◌, ◌≤◌, Bool, true, false, not, cond, List, [], ◌∷◌, ◌++◌, List as Row, length, take, drop, map, fold, Some, None, Ok, Err, slice_get, get_or, bytes_eq, refl, sym, ap, ◌∙◌, arith, ⊎_elim}
 use Rattle.std.specs.Prelude.{Result, ◌&&◌, nat_lt}
 use Rattle.std.proofs.lemmas.Bool.{and_right, cases_lt, lt-ltb}
 use Rattle.std.proofs.lemmas.Bool.Decides.{nat_tests}
-use Rattle.std.proofs.lemmas.Option.{slice_get_within, slice_get-get_or}
-use Rattle.std.proofs.lemmas.List.{drop-drop, drop_more, length-drop, places, take-take}
-use Rattle.std.proofs.lemmas.Grind.{fold-append, same_number_lists}
+use Rattle.std.proofs.lemmas.Option.{slice_get-get_or}
+use Rattle.std.proofs.lemmas.List.{drop-drop, drop_more, length-drop}
+use Rattle.std.proofs.lemmas.Grind.{fold-append}
 use Rattle.shsource.specs.Text.{IsRun}
 use Rattle.shgrammar.specs.declared.keep.Keep.{Keep}
 use Rattle.shast.specs.declared.tree.Span.{Span}
@@ -23,7 +23,9 @@ use Rattle.shline.specs.Limits.{Limits}
 use Rattle.shgrammar.specs.Sights.{Given, Waiting}
 use Rattle.shgrammar.specs.HereDocuments.{rest_of_line, stripped, past_line, delimiter_from, bodies_from, bodies_here, state_by}
 use Rattle.shgrammar.specs.Form.{change, does, nothing_read, raw}
-use Rattle.shgrammar.proofs.Stretches.{get_drop}
+use Rattle.shgrammar.proofs.Runs.{run_part}
+use Rattle.shgrammar.proofs.Stretches.{byte_is, get_drop, raw_first}
+pub use Rattle.shgrammar.proofs.Stretches.{raw_nothing}
 
 -- ---- bytes from one place up to another
 
@@ -40,26 +42,7 @@ raw_some T p q b le is =
     let at : p + (q - p) ≡ q = omega (arith, le) in
     ap (λ n. take n (drop p T)) many ∙ take_some (q - p) (drop p T) b (get_drop p T (q - p) ∙ ap (slice_get T) at ∙ is)
 
--- from a place up to itself no byte stands
-pub raw_nothing : (T : List ℕ) (p : ℕ) → raw T p p ≡ []
-raw_nothing T p = let none : p - p ≡ 0 = omega arith in ap (λ n. take n (drop p T)) none
-
--- ---- a word in one stretch
-
-module _ (B : List ℕ) (at : ℕ) (run : List ℕ) (is : IsRun B at run) where
-  -- a stretch is no longer than what is left of the source
-  run_within : length run ≤ length (drop at B)
-  run_within = grind (arith, is.short, is.none, length-drop)
-
-  -- what is left begins with it, and with each front of it
-  run_front : take (length run) (drop at B) ≡ run
-  run_front = same_number_lists _ _ (grind (arith, run_within, places))
-      (λ k lt. grind (arith, run_within, is.same, places))
-
-  run_part : (n : ℕ) → n ≤ length run → take n (drop at B) ≡ take n run
-  run_part n le = sym (take-take n (length run) (drop at B) le) ∙ ap (take n) run_front
-
--- it stands at the front of that
+-- a word that lies in one stretch stands at the front of that
 pub run_word : (B run : List ℕ) (base p q : ℕ) → IsRun B (base + p) run → q - p ≤ length run →
     raw (drop base B) p q ≡ take (q - p) run
 run_word B run base p q is le = ap (take (q - p)) (drop-drop p base B) ∙ run_part B (base + p) run is (q - p) le
@@ -162,11 +145,6 @@ flip_last line = fold-append (λ o b. b == 92 && not o) false line (92 ∷ [])
 other_last : (line : List ℕ) (b : ℕ) → (b == 92) ≡ false → odd (line ++ b ∷ []) ≡ false
 other_last line b other = fold-append (λ o c. c == 92 && not o) false line (b ∷ []) ∙ rw other refl
 
--- a byte that is c by its test is c
-byte_is : (x : Option ℕ) (c : ℕ) → is_byte x c ≡ true → x ≡ Some c
-byte_is None c e = absurd cc
-byte_is (Some b) c e = let is : b ≡ c = grind (arith, nat_tests, e) in ap (λ (n : ℕ). Some n) is
-
 -- it is the same which of two flags is turned
 flipped_not : (b x : Bool) → flipped (not b) x ≡ flipped b (not x)
 flipped_not true true = refl
@@ -240,16 +218,6 @@ odd_stops_on T b p q so all within stops before =
 
 -- ---- the bytes of a delimiter
 
--- up to q stand the byte at p, and those from p + 1 on
-raw_first : (T : List ℕ) (p q b : ℕ) → p < q → slice_get T p ≡ Some b → raw T p q ≡ b ∷ raw T (p + 1) q
-raw_first T p q b lt is =
-    let many : q - p ≡ suc (q - (p + 1)) = omega (arith, lt) in
-    let long : p < length T = slice_get_within T p b is in
-    let read : Some (get_or T p 0) ≡ Some b = sym (slice_get-get_or T p 0 long) ∙ is in
-    let same : get_or T p 0 ≡ b = cc in
-    ap (λ n. take n (drop p T)) many ∙ ap (take (suc (q - (p + 1)))) (drop_more T p 0 long)
-    ∙ ap (λ (c : ℕ). c ∷ raw T (p + 1) q) same
-
 -- bytes that begin with the same byte are equal just where the others are
 eq_both : (b : ℕ) (xs ys : List ℕ) → bytes_eq (b ∷ xs) (b ∷ ys) ≡ bytes_eq xs ys
 eq_both b xs ys = let same : (b == b) ≡ true = grind (arith, nat_tests) in rw same refl
@@ -265,7 +233,7 @@ bytes_more : (T : List ℕ) (p q i : ℕ) (bytes : List ℕ) → p + i < q → i
 unfolding raw_stands
 bytes_more T p q i bytes lt low is =
     let c = get_or bytes i 0 in
-    rw (raw_first T (p + i) q c lt (byte_is (slice_get T (p + i)) c is), drop_more bytes i 0 low)
+    rw (raw_first T (p + i) q c (byte_is (slice_get T (p + i)) c is) lt, drop_more bytes i 0 low)
     (eq_both c (raw T (p + i + 1) q) (drop (i + 1) bytes))
 
 -- where it is not, they are not equal
@@ -278,7 +246,7 @@ bytes_other T p q i bytes lt within low other =
     let is : slice_get T (p + i) ≡ Some (get_or T (p + i) 0) =
     slice_get-get_or T (p + i) 0 (omega (arith, lt, within)) in
     let no : (get_or T (p + i) 0 == c) ≡ false = sym (ap (λ x. is_byte x c) is) ∙ other in
-    rw (raw_first T (p + i) q (get_or T (p + i) 0) lt is, drop_more bytes i 0 low)
+    rw (raw_first T (p + i) q (get_or T (p + i) 0) is lt, drop_more bytes i 0 low)
     (eq_first (get_or T (p + i) 0) c (raw T (p + i + 1) q) (drop (i + 1) bytes) no)
 
 -- the same, where the place is told by its distance

@@ -1,5 +1,5 @@
 -- The tables of the sets agree with the definitions, byte by byte.
-use Rattle.std.proofs.Common.{◌≡◌, ℕ, zero, suc, ◌<◌, ◌≤◌, Bool, true, false, ◌&&◌, List, length, slice_index, get_or, Fits, w8, inl, inr, refl, sym, ap, ◌∙◌, arith}
+use Rattle.std.proofs.Common.{◌≡◌, ℕ, zero, suc, ◌<◌, ◌≤◌, Bool, true, ◌&&◌, List, length, slice_index, get_or, Fits, w8, inl, inr, refl, sym, ap, ◌∙◌, arith}
 use Rattle.std.proofs.lemmas.Bool.{and_parts, cases_lt}
 use Rattle.std.proofs.lemmas.List.Sums.{prefix_len-le-length, prefix_len_passes}
 use Rattle.std.specs.List.{prefix_len}
@@ -8,21 +8,10 @@ use Rattle.shline.specs.declared.sets.TheConstants.{BRACE, DOUBLE, DOUBLE_BRACE,
 use Rattle.shline.specs.Sought.{ArePlain}
 use Rattle.shgrammar.specs.Plain.{is_plain}
 use Rattle.shgrammar.specs.declared.mode.Mode.TheVariants.{Plain, Double, Brace, DoubleBrace}
+use Rattle.shgrammar.proofs.PlainTable.{same_is}
+unfoldable pub use Rattle.shgrammar.proofs.PlainTable.{same}
 
--- two flags are equal
-unfoldable pub same : Bool → Bool → Bool
-same true b = b
-same false true = false
-same false false = true
-
--- so they are where this holds
-same_is : (a b : Bool) → same a b ≡ true → a ≡ b
-unfolding same
-same_is true b e = sym e
-same_is false true e = absurd cc
-same_is false false e = refl
-
--- the two agree below n
+-- two tests agree below n
 unfoldable pub agree : (ℕ → Bool) → (ℕ → Bool) → ℕ → Bool
 agree f g zero = true
 agree f g (suc n) = same (f n) (g n) && agree f g n

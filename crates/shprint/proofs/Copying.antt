@@ -1,11 +1,12 @@
 -- Text that is copied from a source, stretch by stretch or byte by byte.
-use Rattle.std.proofs.Common.{◌≡◌, ℕ, zero, suc, ◌+◌, ◌-◌, ◌<◌, ◌≤◌, ◌==◌, ◌&&◌, false, Option, Some, None, slice_get, List, [], ◌∷◌, ◌++◌, length, drop, take, refl, sym, ap, ◌∙◌, arith, length-drop}
-use Rattle.std.proofs.lemmas.List.{drop-drop, places, take-take}
+use Rattle.std.proofs.Common.{◌≡◌, ℕ, zero, suc, ◌+◌, ◌-◌, ◌<◌, ◌≤◌, ◌==◌, ◌&&◌, false, Option, Some, None, slice_get, List, [], ◌∷◌, ◌++◌, length, drop, take, refl, sym, ap, ◌∙◌, arith}
+use Rattle.std.proofs.lemmas.List.{drop-drop}
 use Rattle.std.proofs.Math.Seq.{take-add}
 use Rattle.std.specs.Option.{option_eq}
-use Rattle.std.proofs.lemmas.Grind.{same_number_lists}
 use Rattle.std.proofs.lemmas.Bool.Decides.{nat_tests}
 use Rattle.shgrammar.specs.Characters.{backslash, hyphen, newline_char}
+use Rattle.shgrammar.proofs.Runs.{run_front}
+use Rattle.shgrammar.proofs.Stretches.{drop_here}
 use Rattle.shast.specs.Shape.{bare, text_at}
 use Rattle.shast.specs.declared.tree.Span.{Span}
 use Rattle.shast.specs.declared.tree.RedirectOperator.TheVariants as redirects
@@ -14,25 +15,13 @@ use Rattle.shprint.specs.Printed.{would_lengthen}
 
 -- ---- by stretches
 
-module _ (B : List ℕ) (at : ℕ) (run : List ℕ) (is : IsRun B at run) where
-  -- so much of the text is left
-  within : length run ≤ length (drop at B)
-  within = grind (arith, is.short, is.none, length-drop)
-
-  -- a stretch is the front of the text from where it begins
-  run_is : take (length run) (drop at B) ≡ run
-  run_is = same_number_lists _ _ (grind (arith, within, places)) (λ k lt. grind (arith, within, is.same, places))
-
-  -- it goes as far as is wanted
-  pub run_enough : (n : ℕ) → n ≤ length run → take n (drop at B) ≡ take n run
-  run_enough n le = sym (take-take n (length run) (drop at B) le) ∙ ap (take n) run_is
-
-  -- all of it is wanted, and more
-  pub run_more : (n : ℕ) → length run ≤ n → take n (drop at B) ≡ run ++ take (n - length run) (drop (at + length run) B)
-  run_more n le =
-      let parts : n ≡ length run + (n - length run) = omega (arith, le) in
-      ap (λ m. take m (drop at B)) parts ∙ take-add (length run) (n - length run) (drop at B)
-      ∙ rw (run_is, drop-drop (length run) at B) refl
+-- where more is wanted than a stretch has, all of it is copied, and then the rest
+pub run_more : (B : List ℕ) (at : ℕ) (run : List ℕ) → IsRun B at run → (n : ℕ) → length run ≤ n →
+    take n (drop at B) ≡ run ++ take (n - length run) (drop (at + length run) B)
+run_more B at run is n le =
+    let parts : n ≡ length run + (n - length run) = omega (arith, le) in
+    ap (λ m. take m (drop at B)) parts ∙ take-add (length run) (n - length run) (drop at B)
+    ∙ rw (run_front B at run is, drop-drop (length run) at B) refl
 
 -- ---- by the byte
 
@@ -40,15 +29,6 @@ module _ (B : List ℕ) (at : ℕ) (run : List ℕ) (is : IsRun B at run) where
 none_taken : (n : ℕ) → take {A = ℕ} n [] ≡ []
 none_taken zero = refl
 none_taken (suc n) = refl
-
--- from a place on stands its byte, and then the others
-pub drop_some : (B : List ℕ) (at b : ℕ) → slice_get B at ≡ Some b → drop at B ≡ b ∷ drop (at + 1) B
-drop_some [] zero b e = absurd cc
-drop_some [] (suc at) b e = absurd cc
-drop_some (c ∷ B) zero b e = cc
-drop_some (c ∷ B) (suc at) b e =
-    let next : suc at + 1 ≡ suc (at + 1) = omega arith in
-    rw next (drop_some B at b e)
 
 -- where no byte stands the text has ended
 pub drop_none : (B : List ℕ) (at : ℕ) → slice_get B at ≡ None → drop at B ≡ []
@@ -94,7 +74,7 @@ module _ (B : List ℕ) (at «end» b : ℕ) (here : slice_get B at ≡ Some b) 
   pub taken : take («end» - at) (drop at B) ≡ b ∷ take («end» - (at + 1)) (drop (at + 1) B)
   taken =
       let n : «end» - at ≡ suc («end» - (at + 1)) = omega (arith, before) in
-      rw (n, drop_some B at b here) refl
+      rw (n, drop_here B at b here) refl
 
   -- no continuation begins here
   pub bare_more : (b ≡ backslash → slice_get B (at + 1) ≡ Some newline_char → at + 1 < «end» → ⊥) →

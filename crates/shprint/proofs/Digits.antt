@@ -1,5 +1,5 @@
 -- The number before an operator that was read: digits, once its continuations are removed.
-use Rattle.std.proofs.Common.{◌≡◌, ℕ, zero, suc, ◌+◌, ◌-◌, ◌<◌, ◌≤◌, ◌==◌, Bool, true, false, List, [], ◌∷◌, length, drop, take, Option, Some, None, slice_get, refl, sym, ap, subst, ◌∙◌, arith, cond}
+use Rattle.std.proofs.Common.{◌≡◌, ℕ, zero, suc, ◌+◌, ◌-◌, ◌≤◌, ◌==◌, Bool, true, false, List, [], ◌∷◌, length, drop, Option, Some, None, slice_get, refl, sym, ap, subst, ◌∙◌, arith, cond}
 use Rattle.std.proofs.lemmas.Bool.{and_from, and_parts, cond_both}
 use Rattle.shgrammar.specs.declared.token.Position.{Position}
 use Rattle.shgrammar.specs.declared.token.Position.TheVariants.{Command, Prefix, Suffix}
@@ -17,12 +17,12 @@ use Rattle.shgrammar.specs.Form.{raw}
 use Rattle.shgrammar.specs.Commands.{is_number_token}
 use Rattle.shgrammar.specs.Sights.{Given}
 use Rattle.shgrammar.proofs.Spelling.{raw_at}
-use Rattle.shgrammar.proofs.Stretches.{joined_more, joined_none, past_more, past_none, place_low, stands_in_low}
+use Rattle.shgrammar.proofs.Stretches.{byte_is, joined_more, joined_none, past_more, past_none, place_low, raw_first, raw_nothing, stands_in_low}
 use Rattle.shgrammar.proofs.Places.{past_low}
 use Rattle.shast.specs.Shape.{Text, bare, bare_at}
-use Rattle.shprint.proofs.Copying.{bare_none, bare_pair, drop_some}
+use Rattle.shprint.proofs.Copying.{bare_none, bare_pair}
 use Rattle.shprint.proofs.Good.{GoodNumber, all_digits}
-use Rattle.shprint.proofs.Tokens.{digit_clear, that_byte}
+use Rattle.shprint.proofs.Tokens.{digit_clear}
 
 -- ---- what begins with a number's token
 
@@ -77,16 +77,6 @@ number_here position T p t same is = token_counts position T p (byte_at T p) (ap
 
 -- ---- the bare text of digits
 
--- one byte more of a text from a place on
-raw_front : (T : List ℕ) (p q c : ℕ) → slice_get T p ≡ Some c → p < q → raw T p q ≡ c ∷ raw T (p + 1) q
-raw_front T p q c at lt =
-    let many : q - p ≡ suc (q - (p + 1)) = omega (arith, lt) in
-    ap (take (q - p)) (drop_some T p c at) ∙ ap (λ n. take n (c ∷ drop (p + 1) T)) many
-
--- nothing stands between a place and itself
-raw_nothing : (T : List ℕ) (p : ℕ) → raw T p p ≡ []
-raw_nothing T p = let none : p - p ≡ 0 = omega arith in ap (λ n. take n (drop p T)) none
-
 -- a digit is in the bare text
 bare_digit : (c : ℕ) (bs : Text) → is_digit c ≡ true → bare (c ∷ bs) ≡ c ∷ bare bs
 unfolding bare
@@ -129,9 +119,9 @@ pair_front T p q pair le =
     let parts : (is_byte (slice_get T p) backslash ≡ true) × (is_byte (slice_get T (p + 1)) newline_char ≡ true) =
     and_parts _ _ pair in
     let next : p + 1 + 1 ≡ p + 2 = omega arith in
-    raw_front T p q backslash (that_byte (slice_get T p) backslash parts.0) (omega (arith, le))
+    raw_first T p q backslash (byte_is (slice_get T p) backslash parts.0) (omega (arith, le))
     ∙ ap (λ z. backslash ∷ z)
-    (raw_front T (p + 1) q newline_char (that_byte (slice_get T (p + 1)) newline_char parts.1) (omega (arith, le))
+    (raw_first T (p + 1) q newline_char (byte_is (slice_get T (p + 1)) newline_char parts.1) (omega (arith, le))
     ∙ ap (λ r. newline_char ∷ raw T r q) next)
 
 -- a digit and then digits
@@ -173,7 +163,7 @@ one_digit n T p further few digit no_pair =
     ∙ ap (λ q. past is_digit T (q + 1)) place in
     let q = past is_digit T (p + 1) in
     let same : bare (raw T p (past is_digit T p)) ≡ b.0 ∷ bare (raw T (p + 1) q) =
-    ap (λ r. bare (raw T p r)) on ∙ ap bare (raw_front T p q b.0 raw_is (omega (arith, past_low is_digit T (p + 1))))
+    ap (λ r. bare (raw T p r)) on ∙ ap bare (raw_first T p q b.0 raw_is (omega (arith, past_low is_digit T (p + 1))))
     ∙ bare_digit b.0 (raw T (p + 1) q) b.2 in
     by_case (stands_in is_digit T (p + 1))
     (λ more.

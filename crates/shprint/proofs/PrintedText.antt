@@ -28,6 +28,7 @@ use Rattle.shgrammar.proofs.Anywhere.{WordOf}
 use Rattle.shgrammar.proofs.WordsWaiting.{word_waiting}
 use Rattle.shast.specs.Normal.{is_normal_join}
 use Rattle.shgrammar.specs.Commands.{begins_pipeline, a_newline, a_comment, join_turn, join_so_far, a_join_of, a_join, begins_simple, opener_of, is_newline_token, is_bang, next_token, is_paren}
+use Rattle.shgrammar.proofs.Stretches.{byte_is}
 use Rattle.shgrammar.proofs.Places.{blanks_low}
 use Rattle.shgrammar.proofs.Elsewhere.{is_a_word}
 use Rattle.shgrammar.proofs.CommentsElsewhere.{CommentAnywhere}
@@ -40,7 +41,7 @@ use Rattle.shast.specs.Tree.{AJoinOf, AJoin, SubstsOf, word}
 use Rattle.shprint.specs.declared.layout.Layout.{Layout}
 use Rattle.shprint.specs.Marks.{text, line_end, document, Marks, laid_after, one, step, deeper}
 use Rattle.shprint.specs.Printed.{operand_margin, breaks_line, print_comments, print_further_comments}
-use Rattle.shprint.proofs.Tokens.{pipe_token, and_token, or_token, first, byte_here, newline_token, start_here, skip, Gap, Start, all_blank, blanks_gap, no_gap, next_after, word_stays, that_byte}
+use Rattle.shprint.proofs.Tokens.{pipe_token, and_token, or_token, first, byte_here, newline_token, start_here, skip, Gap, Start, all_blank, blanks_gap, no_gap, next_after, word_stays}
 use Rattle.shprint.proofs.Gives.{Gives, gives, ◌⟫◌, given_here, seen_here, moved_here, pushed_here, first_of, second_of, last_turn, one_turn}
 use Rattle.shprint.proofs.Held.{At, Followed, Held, StandsIn, emptied, g, held_bytes, lay, state, text_of_span, texts_of}
 use Rattle.shprint.proofs.Good.{GoodComments}
@@ -760,7 +761,7 @@ module _ {edition : Edition} {B T : List ℕ} {o : ℕ} (S : StandsIn edition B 
   no_sharp p place none = false_from_ne_true (is_byte (slice_get T p) number_sign)
       (λ e. both_ways (is_comment (token_in edition (token_of Command T p (byte_at T p)))) none
       (ap (λ b. is_comment (token_in edition (token_of Command T p b)))
-      (ap (slice_get T) place ∙ that_byte (slice_get T p) number_sign e)))
+      (ap (slice_get T) place ∙ byte_is (slice_get T p) number_sign e)))
 
   -- a command may stand after an operator
   pub begins_operand : (p : ℕ) → Begins p → Operand p

@@ -21,8 +21,9 @@ use Rattle.shgrammar.specs.Sights.{Given, the_delimiter}
 use Rattle.shgrammar.specs.HereDocuments.{ADelimiter, delimiter_in}
 use Rattle.shgrammar.specs.Form.{Spelled, Form, see, give, ◌>>=◌, with_bytes, Step, again, done, raw}
 use Rattle.shgrammar.specs.Words.{Inner, a_word}
-use Rattle.shgrammar.specs.Commands.{pick, is_pipe, begins_simple, begins_word, begins_redirect, opener_of, compound_by, and_or_operator_of, ItemsSoFar, items_so_far, after_word, is_number_token, redirect_operator_of, takes_here, a_number, an_operator, operator_by, a_target, one_redirect, after_redirect, redirect_turn, with_redirect_list, as_item, breaks, an_item, item_by, item_turn, a_simple, a_command, PipesSoFar, pipes_so_far, one_command, pipe_turn, a_pipeline, AndOrSoFar, and_or_so_far, one_pipeline, joined_by, and_or_turn, an_and_or, an_entry, is_word, is_paren, a_word_command, ASeparator, past_separator, a_document, document_by, open_document, is_long, is_strip}
+use Rattle.shgrammar.specs.Commands.{pick, is_pipe, begins_simple, begins_word, begins_redirect, opener_of, compound_by, and_or_operator_of, ItemsSoFar, items_so_far, after_word, is_number_token, redirect_operator_of, takes_here, a_number, an_operator, operator_by, a_target, one_redirect, after_redirect, redirect_turn, with_redirect_list, as_item, breaks, an_item, item_by, item_turn, a_simple, a_command, PipesSoFar, pipes_so_far, one_command, pipe_turn, a_pipeline, AndOrSoFar, and_or_so_far, one_pipeline, joined_by, and_or_turn, an_and_or, an_entry, is_word, is_paren, a_word_command, a_document, document_by, open_document, is_long, is_strip}
 use Rattle.shgrammar.specs.Levels.{level}
+use Rattle.shgrammar.proofs.MovedTrees.{parted_some}
 use Rattle.shgrammar.proofs.BodiesAnywhere.{DocumentAnywhere}
 use Rattle.shgrammar.proofs.Spelling.{raw_at}
 use Rattle.shgrammar.proofs.Elsewhere.{ItemAnywhere, is_a_word, item_is_word, item_anywhere}
@@ -661,10 +662,6 @@ module _ (B : List ℕ) (g : Given) (here : g.text ≡ drop g.offset B) where
           (opens_none g fill_and_or_part tt))
           (λ a E d all. add_gives g (and_or_open x.0 a.parts good all)))
 
-      still_parted : (s : Option ASeparator) → is_some (past_separator s) ≡ true → is_some s ≡ true
-      still_parted (Some s) e = refl
-      still_parted None e = absurd cc
-
       entry_open : {D E : Row Due} (a : AnAndOr) (background blank : Bool) (c : Option Span) →
           GoodOwnComment (option_map (shape_of_comment B) c) → OpenAndOr D a E
           → OpenEntry D (entry (command a) background blank c) E
@@ -681,4 +678,4 @@ module _ (B : List ℕ) (g : Given) (here : g.text ≡ drop g.offset B) where
           add_first g (reads_and_or n D p so)
           (λ a E e one. read_first g (reads_separator g a.1 e)
           (λ s f two. read_first g (reads_comment B g here (is_some s.0 ≡ true) s.1 f two) (λ c h three.
-          add_gives g (entry_open a.0 _ blank c.0 three.0 one, (λ on. three.1 (still_parted s.0 on))))))
+          add_gives g (entry_open a.0 _ blank c.0 three.0 one, (λ on. three.1 (parted_some s.0 on))))))

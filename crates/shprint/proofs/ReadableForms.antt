@@ -28,7 +28,7 @@ use Rattle.shgrammar.specs.Compounds.{is_closing, reserved_or_paren, closing, a_
 use Rattle.shgrammar.specs.Levels.{level}
 use Rattle.shgrammar.proofs.Places.{place_same, blanks_stop}
 use Rattle.shgrammar.proofs.OneOutcome.{computed_is_only}
-use Rattle.shgrammar.proofs.Holds.{Holds, Tells, Stepped, tells_after, tells_change, tells_give, tells_then, tells_token, tells_so, tells_until, tells_seen, tells_moved, tells_pushed, tells_with_bytes}
+use Rattle.shgrammar.proofs.Holds.{Holds, Tells, Stepped, tells_after, tells_change, tells_give, tells_then, tells_token, tells_so, tells_until, tells_seen, tells_moved, tells_pushed, tells_with_bytes, holds_and}
 use Rattle.shgrammar.proofs.Anywhere.{word_read, word_span as spanned}
 use Rattle.shgrammar.proofs.WordsWaiting.{blind_word, onto, place_of}
 use Rattle.shgrammar.proofs.Elsewhere.{is_a_word}
@@ -267,19 +267,13 @@ module _ (g : Given) where
         λ s docs. tells_so Whole g (one.adds s docs) (λ x t good. (good.0, good.1, so x good.0 t.at good.2));
   }
 
-  -- two things hold of what is read
-  hold_both : {X : Type 0} (P Q : X → State → Type 0) (y : Read X) → Holds P y → Holds Q y →
-      Holds (λ x t. P x t × Q x t) y
-  hold_both P Q (Ok (x, t)) one two = (one, two)
-  hold_both P Q (Err f) one two = tt
-
   -- what else is told of it
   pub and_told : {X : Type 0} {P : X → Row Due → ℕ → Type 0} {R : X → State → Type 0} {Q : X → Type 0} {D : Row Due}
       {r : Form X} {p : ℕ} → Adds D r P p → ((s : State) → Tells Whole g r R (place_of s p))
       → ((x : X) (t : State) → R x t → Q x) → Adds D r (λ x E e. P x E e × Q x) p
   and_told {P = P} {R = R} {r = r} {p = p} one other so = record {
     adds = λ s docs. tells_so Whole g {P = λ x t. Grown P x t × R x t}
-        (record { told = hold_both (Grown P) R (does r Whole g (place_of s p)) (one.adds s docs).told (other s).told })
+        (record { told = holds_and (Grown P) R (does r Whole g (place_of s p)) (one.adds s docs).told (other s).told })
         (λ x t both. (both.0.0, both.0.1, (both.0.2, so x t both.1)));
   }
 

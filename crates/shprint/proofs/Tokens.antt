@@ -16,9 +16,10 @@ use Rattle.shgrammar.specs.Standing.{is_byte, passes, raw_stands, raw_in, raw_pa
 use Rattle.shgrammar.specs.Bytes.{ends, past, past_continuations, byte_at, past_byte, stands, stands_in, past_blanks, is_broken_at}
 use Rattle.shgrammar.specs.Tokens.{Spelling, is_word_at, first_of_words, reserved_words, reserved_at, past_reserved, past_digits, begins_assignment, is_number, first_word, less_at, greater_at, token_of, token_at, token_in, is_later, next_at}
 use Rattle.shsource.specs.Text.{is_newline}
-use Rattle.shgrammar.proofs.Stretches.{get_drop, joined_none, joined_more, place_low, past_more, past_none, raw_more, raw_none}
+use Rattle.shgrammar.proofs.Stretches.{get_drop, joined_none, joined_more, place_low, past_more, past_none, raw_more, raw_none, byte_is}
 use Rattle.shgrammar.proofs.SameBytes.{no_backslash}
 use Rattle.shgrammar.proofs.Ahead.{past_byte_is, spelled_none, spelled_more, ender}
+use Rattle.shgrammar.proofs.NamesBefore.{name_clear}
 use Rattle.shgrammar.specs.Commands.{is_word, is_paren, begins_redirect, begins_simple, begins_word, after_word}
 use Rattle.shgrammar.specs.HereDocuments.{ADelimiter, delimiter_in, delimiter_of}
 use Rattle.shast.specs.declared.tree.RedirectOperator.{RedirectOperator}
@@ -369,9 +370,6 @@ abbrev pub all_names : List ℕ → Bool
 all_names [] = true
 all_names (c ∷ cs) = is_name c && all_names cs
 
-name_clear : (c : ℕ) → is_name c ≡ true → (c == backslash) ≡ false
-name_clear c e = grind (arith, nat_tests)
-
 -- what ends a word is in no name
 ends_no_name : (x : ℕ) → ends (Some x) ≡ true → is_name x ≡ false
 ends_no_name x e = grind (arith, nat_tests)
@@ -634,11 +632,6 @@ space_no_longer T q xs at =
       no_bar = is_here vertical_line r;
     }
 
--- a test for a byte tells it
-pub that_byte : (x : Option ℕ) (c : ℕ) → is_byte x c ≡ true → x ≡ Some c
-that_byte None c e = absurd cc
-that_byte (Some b) c e = let same : b ≡ c = grind (arith, nat_tests) in ap Some same
-
 -- no byte is read where a word begins with which the token would be no word
 no_such_byte : (T : List ℕ) (q x : ℕ) → token_at Suffix T q ≡ tokens.Word →
     is_word (token_of Suffix T q (Some x)) ≡ false → stands T q x ≡ false
@@ -646,7 +639,7 @@ unfolding stands token_at
 no_such_byte T q x word other =
     false_from_ne_true (is_byte (byte_at T q) x)
     (λ e. both_ways (is_word (token_of Suffix T q (byte_at T q)))
-    (ap (λ b. is_word (token_of Suffix T q b)) (that_byte (byte_at T q) x e) ∙ other) (ap is_word word))
+    (ap (λ b. is_word (token_of Suffix T q b)) (byte_is (byte_at T q) x e) ∙ other) (ap is_word word))
 
 -- a word begins with no byte of an operator
 pub word_no_longer : (T : List ℕ) (q : ℕ) → token_at Suffix T q ≡ tokens.Word → NoLonger T q

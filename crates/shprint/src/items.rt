@@ -154,7 +154,7 @@ impl<'a, S: Source> Printer<'a, S> {
 
     /// The text of the delimiter that the word at this span is, where it stands in the
     /// source. Most often it does.
-    #[tactic(auto, using(crate::proofs::Copying::run_enough))]
+    #[tactic(auto, using(shgrammar::proofs::Runs::run_part))]
     fn delimiter_here(&self, word: Span) -> Option<&[u8]>
         ensures { IfSome result
             (λ text. text.now ++ newline_char ∷ []

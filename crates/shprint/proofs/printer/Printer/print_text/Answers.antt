@@ -3,8 +3,8 @@ use Rattle.std.proofs.Math.Seq.{take-append-add}
 use Rattle.std.proofs.lemmas.List.{take-take}
 use Rattle.std.proofs.lemmas.Result.{IfOk-weaker}
 use Rattle.shast.specs.Shape.{text_at}
+use Rattle.shgrammar.proofs.Runs.{run_part}
 use Rattle.shprint.specs.Written.{sheet, sheet_of}
-use Rattle.shprint.proofs.Copying.{run_enough}
 use Rattle.shprint.proofs.Writing.{written_text}
 use Rattle.shprint.proofs.printer.Printer.print_text.Goals as goal
 
@@ -15,7 +15,7 @@ returns-in_ok-extend_from_slice-in-Some g c =
     let wanted = c.saturating_sub-wanted.result in
     let front = take-append-add c.args.page.now.text.items c.in-Some.row.now wanted in
     let row = take-take wanted 64 c.run.result.now (grind (arith, c.if-wanted-le-ROW.true)) in
-    let run = run_enough bytes c.args.span.start c.run.result.now c.run.ensures wanted
+    let run = run_part bytes c.args.span.start c.run.result.now c.run.ensures wanted
     (grind (arith, c.if-wanted-le-ROW.true, c.first_chunk.ensures)) in
     grind (arith, written_text, front, row, run)
 
