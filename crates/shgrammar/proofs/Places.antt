@@ -96,7 +96,7 @@ pub after_low : (T : List ℕ) (p : ℕ) → p < past_byte T p
 unfolding past_byte
 after_low T p = omega (arith, place_low T p)
 
--- where a byte is read, the place after it is within the text
+-- where a byte is read, the place after it is within the text: by the place of that byte, and by the byte
 pub after_high : (T : List ℕ) (p : ℕ) → past_continuations T p < length T → past_byte T p ≤ length T
 unfolding past_byte
 after_high T p lt = omega arith

@@ -10,7 +10,7 @@ use Rattle.shgrammar.specs.Classes.{is_name}
 use Rattle.shgrammar.specs.Bytes.{ends}
 use Rattle.shgrammar.specs.Plain.{alone, begins_a_word, is_plain}
 
--- whether two tests say the same; where they do they are equal
+-- whether two flags are the same; where that is so they are equal
 unfoldable pub same : Bool → Bool → Bool
 same true b = b
 same false true = false

@@ -31,12 +31,13 @@ pub drop_here : (T : List ℕ) (p b : ℕ) → slice_get T p ≡ Some b → drop
 drop_here T p b is =
     drop_more T p 0 (slice_get_within T p b is) ∙ ap (λ c. c ∷ drop (p + 1) T) (get_or_from_slice_get T p b 0 is)
 
--- up to a place it is the byte there and those after it, and up to where it begins no byte
+-- the bytes from a place up to a later one are the byte there and those after it
 pub raw_first : (T : List ℕ) (p q b : ℕ) → slice_get T p ≡ Some b → p < q → raw T p q ≡ b ∷ raw T (p + 1) q
 raw_first T p q b is lt =
     let many : q - p ≡ suc (q - (p + 1)) = omega (arith, lt) in
     ap (take (q - p)) (drop_here T p b is) ∙ ap (λ n. take n (b ∷ drop (p + 1) T)) many
 
+-- up to the place itself there is none
 pub raw_nothing : (T : List ℕ) (p : ℕ) → raw T p p ≡ []
 raw_nothing T p = let none : p - p ≡ 0 = omega arith in ap (λ n. take n (drop p T)) none
 

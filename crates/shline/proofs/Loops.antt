@@ -1,4 +1,4 @@
--- Loops whose turns are rows: a turn that goes on, and the last one; and loops that end where no turn begins.
+-- Loops over the turns of a row: a turn that goes on, the last one, and a token that no turn takes.
 use Rattle.std.proofs.Common.{◌≡◌, ◌≤◌, ◌∙◌, ℕ, Bool, true, false, Ok, length, refl, sym, arith}
 use Rattle.shline.specs.declared.cursor.Cursor.{Cursor}
 use Rattle.shline.specs.Clauses.{at_token, given_of, keep_of, Keeps, Leads, Rests, start_of, text_of, Turns}
@@ -54,7 +54,7 @@ module _ {S A : Type 0} {k : ℕ} {g : _} (start now new : Cursor S k g) (turn :
 
 -- ---- a token that no turn takes
 
--- it is no `|`, or no word
+-- a token that is no `|`, and one that is no word
 pub not_pipe : (token : Token) → (token ≡ tokens.Pipe → ⊥) → is_pipe token ≡ false
 not_pipe tokens.Pipe never = absurd (never refl)
 not_pipe _ never = refl

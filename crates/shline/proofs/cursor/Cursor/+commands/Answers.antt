@@ -168,7 +168,7 @@ redirect-document-requires g t c =
       ),
     )
 
--- ---- loops that end at a token that no turn takes
+-- ---- loops that read their turns themselves: each ends at a token that no turn takes
 
 -- no redirection follows
 pub redirects-returns : goal.redirects-returns
@@ -180,7 +180,7 @@ redirects-returns g t c =
     (items_so_far [] AsCommand c.args.self.now.next) (items_so_far (view_items c.turns.redirects) AsCommand self.next)
     c.turns.invariant (rw stops refl)
 
--- nor an item of a `case`
+-- no item of a `case` follows
 pub cases-returns : goal.cases-returns
 unfolding case_turn
 cases-returns g t c =
@@ -190,7 +190,7 @@ cases-returns g t c =
     (view_cases c.args.cases.now c.args.self.now.next) (view_cases c.turns.cases self.next)
     c.turns.invariant (rw stops refl)
 
--- nor an `elif`
+-- no `elif` follows
 pub elifs-returns : goal.elifs-returns
 unfolding elif_turn
 elifs-returns g t c =
@@ -200,7 +200,7 @@ elifs-returns g t c =
     (branches_so_far [] c.args.self.now.next) (branches_so_far (view_branches c.turns.branches) self.next)
     c.turns.invariant (rw stops refl)
 
--- nor a `|` with a command
+-- no `|` with a command follows
 pub pipes-returns : goal.pipes-returns
 unfolding pipe_turn
 pipes-returns g t c =
@@ -209,7 +209,7 @@ pipes-returns g t c =
     loop_over c.args.self.now self (pipe_turn (level c.args.room)) (pipes_so_far [] c.args.self.now.next)
     (pipes_so_far (view_pipeline_parts c.turns.parts) self.next) c.turns.invariant (rw stops refl)
 
--- nor one with a pattern
+-- no `|` with a pattern follows
 pub more_patterns-returns : goal.more_patterns-returns
 unfolding pattern_turn
 more_patterns-returns g t c =
@@ -219,7 +219,7 @@ more_patterns-returns g t c =
     (patterns_so_far (view_words c.args.patterns.now) c.args.self.now.next)
     (patterns_so_far (view_words c.turns.patterns) self.next) c.turns.invariant (rw stops refl)
 
--- nor `&&` or `||`
+-- no `&&` and no `||` follows
 pub joined_pipelines-returns : goal.joined_pipelines-returns
 unfolding and_or_turn
 joined_pipelines-returns g t c =
@@ -229,7 +229,7 @@ joined_pipelines-returns g t c =
     loop_over c.args.self.now self (and_or_turn (level c.args.room)) (and_or_so_far [] c.args.self.now.next)
     (and_or_so_far (view_and_or_parts c.turns.parts) self.next) c.turns.invariant (rw stops refl)
 
--- nor a word
+-- no word follows
 pub words-returns : goal.words-returns
 unfolding word_turn
 words-returns g t c =
@@ -238,7 +238,7 @@ words-returns g t c =
     loop_over c.args.self.now self (word_turn (level c.args.room)) (items_so_far [] Suffix c.args.self.now.next)
     (items_so_far (view_items c.turns.words) Suffix self.next) c.turns.invariant (rw stops refl)
 
--- ---- loops whose turns are rows
+-- ---- loops whose turn is a function, which says whether another may follow
 
 pub list_lines-turns-preserved : goal.list_lines-turns-preserved
 list_lines-turns-preserved g t c =
