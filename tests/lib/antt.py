@@ -23,6 +23,7 @@ class Import(NamedTuple):
     alias: str  # the name of the module here, where it is given another
     names: tuple
     handed_on: bool
+    line: int
 
 
 def paths_of(kinds=KINDS, crate="*"):
@@ -50,9 +51,11 @@ def module_of(path):
 
 def imports_of(code):
     """The imports of a file."""
-    for on, module, names, alias in IMPORT.findall(code):
+    for found in IMPORT.finditer(code):
+        on, module, names, alias = found.groups("")
         parts = [it.strip().partition(" as ") for it in names.split(",") if it.strip()]
-        yield Import(module, alias, tuple((old, new or old) for old, _, new in parts), bool(on))
+        line = code.count("\n", 0, found.start()) + 1
+        yield Import(module, alias, tuple((old, new or old) for old, _, new in parts), bool(on), line)
 
 
 def without_imports(code):
