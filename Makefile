@@ -14,7 +14,8 @@ TESTS = crates/shtreetests/out/shtreetests_tests crates/shtests/out/shtests_test
 	crates/shlivetests/out/shlivetests_tests crates/shform/out/shform_tests
 SCRIPTS = tests/run tests/examples tests/session tests/soak tests/lsp tests/terminal tests/refused-growths \
 	tests/leaks tests/stack tests/second-reader tests/launcher tests/install tests/completions \
-	tests/git-hook tests/pre-commit tests/columns tests/names tests/imports tests/uncited tests/twice
+	tests/git-hook tests/pre-commit tests/columns tests/names tests/imports tests/uncited tests/twice \
+	tests/planted
 
 # How many checks the gate runs side by side: one a processor, and one for 5 GB of free memory. Of itself rt
 # reserves more for a check than it takes, and leaves processors idle.
