@@ -17,8 +17,9 @@ SCRIPTS = tests/run tests/examples tests/session tests/soak tests/lsp tests/term
 	tests/git-hook tests/pre-commit tests/columns tests/names tests/imports tests/uncited tests/twice \
 	tests/planted
 
-# How many checks the gate runs side by side: one a processor, and one for 5 GB of free memory. Of itself rt
-# reserves more for a check than it takes, and leaves processors idle.
+# How many checks the gate runs side by side: one a processor, and one for 5 GB of free memory. The largest
+# took 6.1 GB, but four at a time 12.8 where that was looked at. Of itself rt reserves more for a check than
+# it takes, and leaves processors idle.
 LANES = $(shell awk -v most="$$(getconf _NPROCESSORS_ONLN)" '$$1 == "MemAvailable:" \
 	{ lanes = int($$2 / 5000000); print lanes < 1 ? 1 : (lanes < most ? lanes : most) }' /proc/meminfo)
 
