@@ -11,8 +11,8 @@ use Rattle.shtext.specs.Edit.{limit}
 use Rattle.shsource.specs.Meter.{raised}
 use Rattle.shtext.specs.declared.device.Input.{Input}
 use Rattle.shform.specs.ProgramEnds.{ProgramEnds, Devices}
-use Rattle.shform.specs.Report.{IsTold, GivenUpFor}
-use Rattle.shform.specs.declared.report.RunError.{RunError}
+use Rattle.shtool.specs.Report.{IsTold, GivenUpFor}
+use Rattle.shtool.specs.declared.report.RunError.{RunError}
 
 -- ---- the session
 

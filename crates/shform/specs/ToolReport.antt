@@ -1,22 +1,16 @@
 -- What is reported for the settings.
-use Rattle.std.specs.Prelude.{◌≡◌, ◌≢◌, ℕ, Bool, true, List, Option, None, Some, codes}
+use Rattle.std.specs.Prelude.{◌≡◌, ◌≢◌, ℕ, Bool, true, List, Option, None, Some}
 use Rattle.std.specs.Io.KnownBytes.{IsAtEnd}
-use denote.Ref.{Bor}
 use Rattle.shgrammar.specs.declared.edition.Edition.{Edition}
 use Rattle.shprint.specs.declared.layout.Layout.{Layout}
 use Rattle.shtext.specs.Device.{held_of, input_ended, input_failed, left_of, output_failed}
 use Rattle.shtext.specs.declared.device.Input.{Input}
 use Rattle.shform.specs.ProgramEnds.{ProgramEnds, Devices}
-use Rattle.shform.specs.Report.{IsPrintReport, IsReport}
+use Rattle.shtool.specs.Report.{IsPrintReport, IsReport, name_of}
 use Rattle.shform.specs.SessionReport.{IsSessionReport, how_of}
-use Rattle.shform.specs.declared.asked.Settings.{Settings}
-use Rattle.shform.specs.declared.asked.Tool.{Tool}
-use Rattle.shform.specs.declared.asked.Tool.TheVariants.{Check, Print, Session}
-
--- what the script is called: FILE, or -
-abbrev pub name_of : Option (Bor (List ℕ)) → List ℕ
-name_of None = codes "-"
-name_of (Some file) = file.now
+use Rattle.shtool.specs.declared.asked.Settings.{Settings}
+use Rattle.shtool.specs.declared.asked.Tool.{Tool}
+use Rattle.shtool.specs.declared.asked.Tool.TheVariants.{Check, Print, Session}
 
 -- ---- the script of a check and of a print
 

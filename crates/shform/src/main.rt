@@ -2,50 +2,31 @@
 //! `shform print [OPTIONS] [FILE]`, `shform session [OPTIONS] [FILE]`.
 //!
 //! Start with `run`, which takes the words, and with `run_tool` in `tools`, which runs what the settings
-//! ask for over readers and writers. `check_engine` and `print_engine` in `engine` read the script piece by
-//! piece into a `sink`, which is a `partial_script`, for a print with its text a `printed_part`; they have
-//! the first fault or the text from the reader and the printer, and tell the one by `report`, or write the
-//! other. `session_engine` reads FILE so, into a vector, and its session is that of `shlive`. `words` reads
-//! the command line: the `plain_words` of most runs by itself, all others by `clap`. The ends, which remember
-//! how their devices fared, are those of `shtext`, and before what is written stands a writer that is
-//! `gathering` it; what is opened, is opened here.
+//! ask for over readers and writers. The words are read, and a script is checked or printed, by the crate
+//! `shtool`; `session_engine` reads FILE as it does, into a vector, and its session is that of `shlive`. The
+//! ends, which remember how their devices fared, are those of `shtext`, and before what is written stands a
+//! `Gathering` of `shtool`; what is opened, is opened here.
 #![tactic(auto)]
 
 ghost use Rattle.std.specs.Prelude.{◌≡◌, ◌⊎◌, IfSome, false, is_some};
 ghost use Rattle.shlive.specs.Ahead.{IsOpen};
 ghost use Rattle.shtext.specs.Device.{output_failed};
 
-mod asked;
-mod drop_front;
-mod engine;
-mod gathering;
-mod partial_script;
-mod passing;
-mod plain_words;
-mod printed_part;
 #[cfg(test)]
 mod refused;
-mod report;
 mod session_engine;
-mod sink;
 #[cfg(test)]
 mod tests;
 mod tools;
-mod usage;
-mod words;
 
-use asked::{Settings, Tool};
 use clap::error::ErrorKind;
-use gathering::Gathering;
-use report::{RunError, give_up};
 use shtext::{Input, Output};
+use shtool::{Gathering, RunError, Settings, Tool, Usage, give_up, settings};
 use std::alloc::AllocError;
 use std::io::{Read, Write};
 use std::process::ExitCode;
 use std::{env, fs, io};
 use tools::run_tool;
-use usage::Usage;
-use words::settings;
 
 /// An output of the program. What is written has come to the device when it is flushed.
 fn output_to<W: Write>(rt: &HostRuntime, device: W) -> Output<Gathering<W>>
@@ -117,7 +98,8 @@ fn tell_wrong_words(rt: &HostRuntime, error: &clap::Error) -> u8
     0
 }
 
-/// Says why words ask for no run. It stands apart for the reason that `settings` does.
+/// Says why words ask for no run. It stands apart, so that nothing of it lies on the stack while a script is
+/// read.
 #[inline(never)]
 fn tell_usage(rt: &HostRuntime, usage: &Usage) -> u8
     ensures { (result ≡ 0) ⊎ (result ≡ 2) }

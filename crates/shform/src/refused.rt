@@ -1,12 +1,12 @@
 //! Each growth refused in turn, as in the tests of the reader: by the library that
 //! `tests/refused-growths` loads. Without it, as in the gate, each test runs once. They catch a
 //! body that gives up though there is memory, which no contract can.
-use crate::gathering::Gathering;
 use crate::tests::checked;
 use crate::tests::print::print as printed;
 use crate::tests::session::session as served;
 use shprint::{LayoutError, message};
 use shread::{Fault, FaultKind};
+use shtool::Gathering;
 use std::alloc::{AllocError, Global};
 use std::io;
 use std::io::{Read, Write};

@@ -8,12 +8,11 @@ ghost use Rattle.shtext.specs.Edit.{limit};
 ghost use Rattle.shform.specs.ProgramEnds.{program_ends, devices};
 ghost use Rattle.shform.specs.SessionReport.{IsGivenUp, IsReadWhole, IsSessionReport, how_of, opened_on};
 
-use crate::engine::read_whole;
-use crate::report::{RunError, give_up};
 use shlive::Session;
 use shprint::Layout;
 use shread::Reader;
 use shtext::{Input, Output};
+use shtool::{RunError, give_up, read_whole};
 use std::alloc::Global;
 use std::io::{Read, Write};
 

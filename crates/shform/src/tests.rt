@@ -10,9 +10,9 @@ pub(crate) mod session;
 mod tools;
 mod words;
 
-use crate::engine::check_engine;
 use shread::Edition;
 use shtext::{Failed, Input, LIMIT, Output};
+use shtool::check_engine;
 use std::alloc::Global;
 use std::io;
 use std::io::{Error, Read, Write};

@@ -4,14 +4,14 @@
 ghost use Rattle.std.specs.Prelude.{◌≡◌, IfSome, false, is_some};
 ghost use Rattle.shlive.specs.Ahead.{IsOpen};
 ghost use Rattle.shtext.specs.Device.{input_ended, input_failed, output_failed};
+ghost use Rattle.shtool.specs.Report.{name_of};
 ghost use Rattle.shform.specs.ProgramEnds.{program_ends, devices};
-ghost use Rattle.shform.specs.ToolReport.{ChecksScript, IsToolReport, PrintsScript, name_of};
+ghost use Rattle.shform.specs.ToolReport.{ChecksScript, IsToolReport, PrintsScript};
 
-use crate::asked::{Settings, Tool};
-use crate::engine::{check_engine, print_engine};
 use crate::session_engine::session_engine;
 use shread::Reader;
 use shtext::{Input, Output};
+use shtool::{Settings, Tool, check_engine, print_engine};
 use std::alloc::Global;
 use std::io::{Read, Write};
 

@@ -1,7 +1,7 @@
 //! What comes to a device of the pieces that are gathered, and when.
 use super::{Page, WhenFull};
-use crate::gathering::Gathering;
 use shtext::Output;
+use shtool::Gathering;
 use std::alloc::Global;
 use std::io;
 use std::io::Write;

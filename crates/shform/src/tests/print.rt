@@ -1,9 +1,9 @@
 //! `print` over devices that give, take and fail.
 use super::{Hiccup, Page, Same, Tape, WAYS, WhenFull};
-use crate::engine::print_engine;
 use shprint::{Layout, LayoutError};
 use shread::Edition;
 use shtext::{Input, Output};
+use shtool::print_engine;
 use std::alloc::Global;
 use std::io::{Read, Write};
 use std::test::Fail;

@@ -3,11 +3,11 @@ ghost use Rattle.std.specs.Prelude.{◌≡◌, IfSome, is_some};
 ghost use Rattle.shlive.specs.Ahead.{IsOpen};
 
 use super::{Page, Tape, WhenFull};
-use crate::asked::{Settings, Tool};
 use crate::tools::run_tool;
 use shprint::{Layout, LayoutError};
 use shread::Edition;
 use shtext::{Input, Output};
+use shtool::{Settings, Tool};
 use std::alloc::Global;
 use std::io::{Read, Write};
 use std::test::Fail;

@@ -1,10 +1,8 @@
 //! The words of the command line.
-use crate::asked::Tool;
-use crate::usage::Usage;
-use crate::words::settings;
 use clap::error::ErrorKind;
 use shprint::Layout;
 use shread::Edition;
+use shtool::{Tool, Usage, settings};
 use std::test::Fail;
 
 #[test]

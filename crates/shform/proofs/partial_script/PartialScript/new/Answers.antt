@@ -1,6 +1,0 @@
-use Rattle.std.proofs.Common.{refl}
-use Rattle.shform.proofs.Parts.{holds_none}
-use Rattle.shform.proofs.partial_script.PartialScript.new.Goals as goal
-
-pub returns : goal.returns
-returns c = holds_none c.args.edition _ refl refl refl c.new.ensures.items

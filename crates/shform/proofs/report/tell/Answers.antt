@@ -1,5 +1,0 @@
-use Rattle.std.proofs.Common.{inr}
-use Rattle.shform.proofs.report.tell.Goals as goal
-
-pub returns-in_default : goal.returns-in_default
-returns-in_default g c = record { told = λ read line col. inr (c.give_up.ensures.told read) }

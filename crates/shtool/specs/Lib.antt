@@ -1,0 +1,4 @@
+pub mod PartialScript
+pub mod Report
+pub mod Words
+pub mod Gathering
