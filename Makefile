@@ -11,15 +11,16 @@ PREFIX = /usr/local
 PROGRAM = crates/shform/out/shform
 SHARE = $(DESTDIR)$(PREFIX)/share
 TESTS = crates/shtreetests/out/shtreetests_tests crates/shtests/out/shtests_tests \
-	crates/shlivetests/out/shlivetests_tests crates/shform/out/shform_tests
+	crates/shprinttests/out/shprinttests_tests crates/shlivetests/out/shlivetests_tests \
+	crates/shrefusedtests/out/shrefusedtests_tests crates/shform/out/shform_tests
 SCRIPTS = tests/run tests/examples tests/session tests/soak tests/lsp tests/terminal tests/refused-growths \
 	tests/leaks tests/stack tests/second-reader tests/launcher tests/install tests/completions \
 	tests/git-hook tests/pre-commit tests/columns tests/names tests/imports tests/uncited tests/twice \
-	tests/planted
+	tests/stale tests/planted
 
 # How many checks the gate runs side by side: one a processor, and one for 5 GB of free memory. The largest
-# took 6.1 GB, but four at a time 12.8 where that was looked at. Of itself rt reserves more for a check than
-# it takes, and leaves processors idle.
+# took 6.1 GB, but four at a time 12.8 where that was looked at; CHECK_KB of ./prove is the same 5 GB. Of
+# itself rt reserves more for a check than it takes, and leaves processors idle.
 LANES = $(shell awk -v most="$$(getconf _NPROCESSORS_ONLN)" '$$1 == "MemAvailable:" \
 	{ lanes = int($$2 / 5000000); print lanes < 1 ? 1 : (lanes < most ? lanes : most) }' /proc/meminfo)
 

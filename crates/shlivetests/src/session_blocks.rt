@@ -1,20 +1,10 @@
 //! Edits where lines stand in more than one block of held lines: at the bounds of blocks,
 //! and such that fill one, empty it or take lines of some.
-use crate::session_runs::opened;
 use crate::session_windows::is_right;
+use crate::sessions::{lines, opened};
 use shtreetests::spliced::part;
 use shtreetests::table::{cells, counted};
-use std::alloc::{AllocError, Global};
 use std::test::Fail;
-
-/// So many lines.
-pub(crate) fn lines(alloc: Global, count: usize, line: &[u8]) -> Result<Vec<u8>, AllocError> {
-    let mut bytes = Vec::new(alloc);
-    for _ in 0..count {
-        bytes.extend_from_slice(line)?;
-    }
-    Ok(bytes)
-}
 
 /// Two offsets, and how many lines come between them.
 const ROWS: &[u8] = br#"

@@ -1,7 +1,7 @@
 //! Scripts that are cut: each is typed byte by byte, and a quote that is put in anywhere leaves only a
 //! beginning of one faultless. All answers are judged at each step, and what an edit reads.
-use crate::session_runs::opened;
 use crate::session_windows::is_right;
+use crate::sessions::opened;
 use shlive::Session;
 use shread::{Fault, FaultKind};
 use shtreetests::spliced::part;

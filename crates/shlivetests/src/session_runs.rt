@@ -1,9 +1,10 @@
 //! What no clause says: that requests are answered where nothing fails, what the replies look like, that a
 //! failure of a device is told, and that edits by the thousand leave what a session opened anew would answer.
+use crate::sessions::{alike, alike_at_each, opened, page_of};
 use shlive::{LiveError, Session, run};
 use shprint::Layout;
 use shread::Reader;
-use shtext::{Input, Output, Splice};
+use shtext::{Input, Output};
 use shtreetests::cell::{Cell, joined};
 use shtreetests::devices::{PAGE, Page, Same, Tape};
 use shtreetests::dice::Dice;
@@ -13,32 +14,6 @@ use std::alloc::Global;
 use std::io::Read;
 use std::process::Abort;
 use std::test::Fail;
-
-/// A session on a script, which prints with a tab for each level.
-pub(crate) fn opened(alloc: Global, script: &[u8]) -> Result<Session, Fail> {
-    let layout = Layout::new(0, false, false, false)?;
-    Ok(Session::open(alloc, Reader::new(alloc), layout, script)?)
-}
-
-/// Makes some splices: one alone as an edit of one.
-pub(crate) fn make(session: &mut Session, splices: &[Splice<'_>]) -> Result<(), LiveError> {
-    if splices.is_empty() {
-        return Ok(());
-    }
-    if let [one] = splices {
-        session.edit(one.a, one.b, one.bytes)
-    } else {
-        session.edit_all(splices)
-    }
-}
-
-/// A page that takes five bytes at a time, and fails once where it is full. Whatever
-/// comes after a failure it takes.
-pub(crate) fn page_of(room: usize) -> Page {
-    let mut page = Page::new(room, 5);
-    page.is_emptied = true;
-    page
-}
 
 /// The answer of a run over a session on this script.
 fn answer<R: Read + Drop>(
@@ -329,26 +304,6 @@ fn limits(rt: HostRuntime) -> Result<(), Fail> {
     assert!(rt; session.edit(2, 1, b"") == Err(LiveError::Range));
     assert!(rt; session.script_len() == 16_777_216);
     Ok(())
-}
-
-/// Whether two sessions answer the same.
-pub(crate) fn alike(one: &Session, two: &Session) -> Result<bool, Fail> {
-    alike_at_each(one, two, 1)
-}
-
-/// Whether they do, where the nodes are asked for at one offset of so many.
-pub(crate) fn alike_at_each(one: &Session, two: &Session, step: usize) -> Result<bool, Fail> {
-    let mut same = one.script_len() == two.script_len()
-        && one.status() == two.status()
-        && one.fault() == two.fault()
-        && one.outline()? == two.outline()?
-        && one.print()? == two.print()?;
-    let mut at = 0;
-    for _ in 0..=one.script_len().saturating_add(1) / step.max(1) {
-        same = same && one.nodes_at(at)? == two.nodes_at(at)?;
-        at = at.saturating_add(step);
-    }
-    Ok(same)
 }
 
 /// What is put into a script.

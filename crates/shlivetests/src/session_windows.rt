@@ -1,6 +1,6 @@
 //! What an edit reads again, and that it changes no answer: rows with the meter, and edits by the thousand,
 //! judged by a session opened anew and by the window as it is defined.
-use crate::session_runs::{alike_at_each, make, opened, page_of};
+use crate::sessions::{alike_at_each, make, opened, page_of};
 use crate::windows::window;
 use shlive::{LiveError, Session, run};
 use shtext::{Input, Output, Splice};

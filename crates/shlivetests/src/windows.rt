@@ -41,7 +41,7 @@ fn end(old: &[usize], new: &[usize], new_end: usize, b: usize) -> Option<usize> 
 }
 
 /// How many bytes an edit of some splices has to read.
-pub(crate) fn window(alloc: Global, bytes: &[u8], splices: &[Splice<'_>]) -> Result<usize, Fail> {
+pub fn window(alloc: Global, bytes: &[u8], splices: &[Splice<'_>]) -> Result<usize, Fail> {
     let (Some(first), Some(last)) = (splices.first(), splices.last()) else {
         return Ok(0);
     };

@@ -1,6 +1,7 @@
 //! The tests of the reader, and of what is asked of the trees that it reads, over their public calls. The
 //! tests of what stands below the reader are the crate `shtreetests`, whose refused growths and tables are
-//! used here; those of what stands above it are the crate `shlivetests`.
+//! used here; those of what stands above it are the crates `shprinttests`, `shlivetests` and
+//! `shrefusedtests`.
 //!
 //! Start with the module of what is tested: `grammar_bytes` has the tests of `shgrammar`, `reader_..` are
 //! those of `shread` and `shpass`, `tree_append` and `tree_nodes` those of `shtree`; `reader_refused` refuses

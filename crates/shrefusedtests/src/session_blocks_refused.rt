@@ -1,6 +1,6 @@
 //! Each growth of an edit refused in turn where lines stand in more than one block: `growths.rt` says how.
-use crate::session_blocks::lines;
 use crate::session_refused::each_refused;
+use shlivetests::sessions::lines;
 use shtreetests::spliced::part;
 use std::test::Fail;
 

@@ -1,8 +1,9 @@
 //! Each growth of a session refused in turn: `growths.rt` says how.
-use crate::session_runs::{alike, alike_at_each, make, opened, page_of};
-use crate::windows::window;
+use crate::read_at_most::read_at_most;
 use shast::NodeLine;
 use shlive::{LiveError, Session, run};
+use shlivetests::sessions::{alike, alike_at_each, make, opened, page_of};
+use shlivetests::windows::window;
 use shprint::Layout;
 use shread::Reader;
 use shtext::{Input, Output, Splice};
@@ -62,8 +63,8 @@ fn is_as_before(
     window: usize,
     step: usize,
 ) -> Result<bool, Fail> {
-    let read = session.meter().saturating_sub(opened.meter());
-    Ok(read <= window as u64 && alike_at_each(session, opened, step)?)
+    let is_little = read_at_most(opened.meter(), session.meter(), window);
+    Ok(is_little && alike_at_each(session, opened, step)?)
 }
 
 /// An edit of a script, how many bytes it has to read, and sessions on the script before it and after it.

@@ -1,4 +1,5 @@
 //! Each growth of a printing refused in turn: `growths.rt` says how.
+use crate::rest::rest;
 use shpieces::{PrintError, Printing, print_source};
 use shprint::{Layout, print};
 use shread::{Edition, Reader};
@@ -101,7 +102,7 @@ fn in_pieces(alloc: Global, layout: &Layout, first: usize) -> Result<Vec<u8>, Pr
     let Ok(count) = printing.print_front(&Flat::new(front)) else {
         return Err(PrintError::Memory);
     };
-    printing.print_rest(&Flat::new(SCRIPT.get(count..SCRIPT.len()).unwrap_or(&[])))
+    printing.print_rest(&Flat::new(rest(SCRIPT, count)))
 }
 
 #[test]

@@ -1,4 +1,5 @@
 //! What no clause says: what a layout refuses, that calls succeed where nothing fails, and the texts.
+use crate::rest::rest;
 use shpieces::{PrintError, Printing, print_source};
 use shprint::{Layout, LayoutError, message, print};
 use shread::{Edition, Fault, FaultKind, Reader};
@@ -75,7 +76,7 @@ fn printed_in_parts(
 ) -> Result<Vec<u8>, Fail> {
     let mut printing = Printing::new(alloc, edition, layout);
     let count = printing.print_front(&Flat::new(script))?;
-    Ok(printing.print_rest(&Flat::new(script.get(count..).unwrap_or(b"")))?)
+    Ok(printing.print_rest(&Flat::new(rest(script, count)))?)
 }
 
 /// The printed text of a script that a source tells. Line by line it has the same text.
