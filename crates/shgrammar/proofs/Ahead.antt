@@ -13,7 +13,7 @@ use Rattle.shgrammar.specs.declared.token.Token.TheVariants as tokens
 use Rattle.shgrammar.specs.Tokens.{Spelling, is_word_at, first_of_words, reserved_words, reserved_at, begins_assignment, greater_at, is_name_at, is_number, less_at, word_by, token_of, token_at, next_at}
 use Rattle.shgrammar.proofs.Stretches.{place_low, past_more, past_none, stands_in_low, joined_none, joined_more, raw_more, raw_none}
 use Rattle.shgrammar.proofs.Places.{after_low, past_low}
-use Rattle.shgrammar.proofs.SameBytes.{Kept, goes_on, Safe, at_limit, halts, one_byte, two_bytes, Place, inside, outside, Here, no_backslash, on_no_backslash, continued, safe_high, safe_low, safe_place, safe_after, none_same, pair_same, place, raw_same, here_byte, here_after, on_no_backslash_by}
+use Rattle.shgrammar.proofs.SameBytes.{Kept, goes_on, Safe, at_limit, halts, one_byte, two_bytes, Place, inside, outside, Here, no_backslash, on_no_backslash, continuation_is_two, safe_high, safe_low, safe_place, safe_after, none_same, pair_same, place, raw_same, here_byte, here_after, on_no_backslash_by}
 use Rattle.shgrammar.specs.declared.edition.Edition.{Edition}
 
 -- the place after a byte is one past the continuations before it
@@ -22,8 +22,8 @@ unfolding past_byte
 past_byte_is T p = refl
 
 -- what ends a word is none of these
-pub ender : (b c : ℕ) → ends (Some b) ≡ true → ends (Some c) ≡ false → (b == c) ≡ false
-ender b c e f = false_from_ne_true (b == c)
+pub ender_is_other : (b c : ℕ) → ends (Some b) ≡ true → ends (Some c) ≡ false → (b == c) ≡ false
+ender_is_other b c e f = false_from_ne_true (b == c)
     (λ g. let is : b ≡ c = grind (arith, nat_tests) in both_ways (ends (Some b)) (rw is f) e)
 
 -- what the byte at the limit is: it is no byte over which anything that is looked for
@@ -218,7 +218,7 @@ module _ {edition : Edition} {T T2 : List ℕ} {a L : ℕ} {to : ℕ → ℕ} {c
   raw_safe (halts low lt none stop) on other = absurd (both_ways _ stop on)
   raw_safe (one_byte low on rest) also other = rest
   raw_safe (two_bytes {p = p} low c rest) on other =
-      absurd (both_ways (raw_stands T p backslash) (on_no_backslash T p on) (continued T p c).0)
+      absurd (both_ways (raw_stands T p backslash) (on_no_backslash T p on) (continuation_is_two T p c).0)
 
   module _ (test : ℕ → Bool) (g : Goes c test) where
     -- a byte that passes is not the one at the limit, and what is looked for goes on over it
@@ -359,7 +359,8 @@ module _ {edition : Edition} {T T2 : List ℕ} {a L : ℕ} {to : ℕ → ℕ} {c
       spelled_more T2 (to p) x xs ∙ ap (λ b. b && is_word_at T2 (past_byte T2 (to p)) xs) (same_stands s x)
       ∙ same_and (stands T p x) _ _ (λ f. ap (λ q. is_word_at T2 q xs) (same_after s)
       ∙ same_word xs (past_byte T p) there.1
-      (next_safe (λ b. b == x) (goes_one c x here.0 (ender c x E.ender.ends_it (not-true (ends (Some x)) there.0)))
+      (next_safe (λ b. b == x) (goes_one c x here.0
+      (ender_is_other c x E.ender.ends_it (not-true (ends (Some x)) there.0)))
       s (stands_is p x f)))
       ∙ sym (spelled_more T p x xs)
 

@@ -237,14 +237,14 @@ module _ {g : Given} where
 
 -- what may be opened goes the same way, with its tree and without
 module _ (g : Given) where
-  pub record Fits (inner : Inner) : Type 0 where
+  pub record InnerAlike (inner : Inner) : Type 0 where
     pub construct : (mode : Mode) (b : ℕ) (ss zs : Row ASubst) →
         Alike g All (inner.construct mode b ss) (inner.construct mode b zs)
     pub substitution : (b : ℕ) (ss zs : Row ASubst) → Alike g All (inner.substitution b ss) (inner.substitution b zs)
     pub compound : (o : Opener) → Alike g SameNext (inner.compound o) (inner.compound o)
     pub function : (name : Span) → Alike g SameNext (inner.function name) (inner.function name)
 
-module _ {g : Given} {inner : Inner} (fits : Fits g inner) where
+module _ {g : Given} {inner : Inner} (fits : InnerAlike g inner) where
   -- a construct that opens in a word goes the same way
   alike_opened : (mode : Mode) (b : ℕ) (h i : WordSoFar) → SameHeld h i →
       Alike g (SameStep SameHeld) (opened inner mode b h) (opened inner mode b i)

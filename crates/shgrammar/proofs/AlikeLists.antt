@@ -21,9 +21,9 @@ use Rattle.shgrammar.specs.Lists.{Listed, ListSoFar, list_so_far, none_listed, w
 use Rattle.shgrammar.specs.Compounds.{is_closing, is_open_paren, is_close_paren, reserved_or_paren, closing, Closed, closed, a_branch, BranchesSoFar, branches_so_far, elif_turn, an_else, an_if, a_loop, a_group, a_for_name, a_sequential_sep, Headed, word_turn, for_words, a_for_head, a_for, a_form, a_compound, a_function, a_case_word, begins_pattern, PatternsSoFar, a_pattern, one_pattern, pattern_turn, a_pattern_list, an_open_bracket, a_body, ItemEnd, an_ender, an_item_end, CasesSoFar, cases_so_far, one_case, case_turn, a_case_head, a_case}
 use Rattle.shgrammar.specs.Substitutions.{substitution_list, a_substitution, one_substitution}
 use Rattle.shgrammar.proofs.Alike.{SameEnd, SameStep, All, Alike, alike_give, alike_push, alike_move, alike_stop, alike_then, alike_see, alike_on, alike_pushed, alike_pick, alike_at, alike_token, alike_ending, alike_change, alike_level_of, alike_inside, alike_many}
-use Rattle.shgrammar.proofs.AlikeCommands.{SameNext, SameItems, SameJoin, Fits, alike_contents, alike_word, alike_unexpected, alike_item, alike_compound_by, alike_entry, alike_mark, alike_place, alike_next, alike_comment, alike_newline, alike_nothing_waits, alike_semicolon, alike_linebreak}
+use Rattle.shgrammar.proofs.AlikeCommands.{SameNext, SameItems, SameJoin, InnerAlike, alike_contents, alike_word, alike_unexpected, alike_item, alike_compound_by, alike_entry, alike_mark, alike_place, alike_next, alike_comment, alike_newline, alike_nothing_waits, alike_semicolon, alike_linebreak}
 
-module _ {g : Given} {inner : Inner} (fits : Fits g inner) where
+module _ {g : Given} {inner : Inner} (fits : InnerAlike g inner) where
   -- ---- lists
 
   -- Both lists have a command so far, or none has, and the same token comes after them.
@@ -411,7 +411,7 @@ module _ {g : Given} {inner : Inner} (fits : Fits g inner) where
       (λ x y so. alike_give so)
 
 -- what may be opened goes the same way, words within words and commands within commands
-pub alike_level : (g : Given) (room : ℕ) → Fits g (level room)
+pub alike_level : (g : Given) (room : ℕ) → InnerAlike g (level room)
 unfolding level
 alike_level g zero = record {
   construct = λ mode b ss zs. alike_stop;

@@ -18,8 +18,8 @@ use Rattle.shgrammar.specs.Sights.{Move, continuations, one_taken, the_closer, t
 use Rattle.shgrammar.specs.Form.{raw}
 use Rattle.shgrammar.proofs.Stretches.{place_low, joined_more, raw_more, get_drop, blanks_before, no_blanks_before}
 use Rattle.shgrammar.proofs.Places.{next_escaped_low, place_same, after_low, raw_past_low, raw_past_stops, raw_past_all, next_of_low, next_newline_low, parameter_low, reserved_low, digits_low, blanks_low}
-use Rattle.shgrammar.proofs.SameBytes.{Safe, halts, one_byte, two_bytes, goes_on, safe_high, safe_low, safe_escape, safe_place, no_backslash, continued, raw_there, byte_other}
-use Rattle.shgrammar.proofs.Ahead.{ListEnds, ender, not_backslash, K, Goes, goes_name, goes_digit, goes_one, past_byte_is, same_if, same_and, seen, same_byte, same_after, same_stands, same_stands_in, same_place, next_safe, past_safe, past_back, blanks_safe, blanks_back, same_raw_in}
+use Rattle.shgrammar.proofs.SameBytes.{Safe, halts, one_byte, two_bytes, goes_on, safe_high, safe_low, safe_escape, safe_place, no_backslash, continuation_is_two, raw_there, byte_other}
+use Rattle.shgrammar.proofs.Ahead.{ListEnds, ender_is_other, not_backslash, K, Goes, goes_name, goes_digit, goes_one, past_byte_is, same_if, same_and, seen, same_byte, same_after, same_stands, same_stands_in, same_place, next_safe, past_safe, past_back, blanks_safe, blanks_back, same_raw_in}
 use Rattle.shgrammar.specs.declared.edition.Edition.{Edition}
 
 -- what is looked for ahead from p on is found before the newline, or the `)`, at M, or at it
@@ -41,18 +41,18 @@ module _ {edition : Edition} {T U : List ℕ} {a M : ℕ} {to : ℕ → ℕ} {li
   G p = Good T a M p
 
   -- a good place is at most M and at least a; from a on as many bytes further is as many further in U
-  pub high : {p : ℕ} → G p → p ≤ M
-  high s = safe_high (K E) s
+  pub good_high : {p : ℕ} → G p → p ≤ M
+  good_high s = safe_high (K E) s
 
-  pub low_of : {p : ℕ} → G p → a ≤ p
-  low_of s = safe_low (K E) s
+  pub good_low : {p : ℕ} → G p → a ≤ p
+  good_low s = safe_low (K E) s
 
-  pub on : (p k : ℕ) → a ≤ p → to (p + k) ≡ to p + k
-  on p k low = E.kept.on p k low
+  pub to_add : (p k : ℕ) → a ≤ p → to (p + k) ≡ to p + k
+  to_add p k low = E.kept.on p k low
 
   -- so two places are as far from each other there
-  pub apart : (p q : ℕ) → a ≤ p → p ≤ q → to q ≡ to p + (q - p)
-  apart p q low le = let is : p + (q - p) ≡ q = omega (arith, le) in ap to (sym is) ∙ on p (q - p) low
+  pub to_apart : (p q : ℕ) → a ≤ p → p ≤ q → to q ≡ to p + (q - p)
+  to_apart p q low le = let is : p + (q - p) ≡ q = omega (arith, le) in ap to (sym is) ∙ to_add p (q - p) low
 
   -- where no continuation stands, a place before M is good if the search ends there, or if the next is good
   good_halt : (q : ℕ) → a ≤ q → q < M → continues T q ≡ false → raw_in goes_on T q ≡ false → G q
@@ -60,7 +60,7 @@ module _ {edition : Edition} {T U : List ℕ} {a M : ℕ} {to : ℕ → ℕ} {li
 
   good_back : (q : ℕ) → a ≤ q → continues T q ≡ false → G (q + 1) → G q
   good_back q low none s =
-      let lt = high s in
+      let lt = good_high s in
       ⊎_elim (λ on. one_byte low on s) (λ off. good_halt q low (omega (arith, lt)) none off)
       (cases_Bool (raw_in goes_on T q))
 
@@ -139,6 +139,7 @@ module _ {edition : Edition} {T U : List ℕ} {a M : ℕ} {to : ℕ → ℕ} {li
   unfolding past_digits
   moves_digits p = (digits_low T p, λ low s. moves_past is_digit (goes_digit limit E.ender) p low s)
 
+  -- past a parameter: a name, digits, one special byte, or nothing
   pub moves_parameter : (p : ℕ) → Moves past_parameter p
   unfolding past_parameter
   moves_parameter p = (
@@ -181,7 +182,8 @@ module _ {edition : Edition} {T U : List ℕ} {a M : ℕ} {to : ℕ → ℕ} {li
 
   -- where the next byte is no newline no continuation stands
   no_newline : (q : ℕ) → raw_stands T (q + 1) newline_char ≡ false → continues T q ≡ false
-  no_newline q e = false_from_ne_true _ (λ c. both_ways (raw_stands T (q + 1) newline_char) e (continued T q c).1)
+  no_newline q e = false_from_ne_true _
+      (λ c. both_ways (raw_stands T (q + 1) newline_char) e (continuation_is_two T q c).1)
 
   -- from p, after which b stands, up to what is looked for, which is no newline
   found_good : (test : ℕ → Bool) (b p : ℕ) → a ≤ p → p ≤ b → raw_stands T (raw_past test T b) newline_char ≡ false →
@@ -195,7 +197,7 @@ module _ {edition : Edition} {T U : List ℕ} {a M : ℕ} {to : ℕ → ℕ} {li
             (no_newline (q - 1) (subst (λ z. raw_stands T z newline_char ≡ false) (sym back) other))
             (subst G (sym back) s))
             (λ ge. let is : q ≡ p = omega (arith, ge, le, from) in subst G is s) (cases_lt p q),
-        raw_there E.kept test b (omega (arith, low, le)) (omega (arith, high s)),
+        raw_there E.kept test b (omega (arith, low, le)) (omega (arith, good_high s)),
       )
 
   -- a search for a quote ends at no other byte, one for a closer or a backslash at no newline
@@ -212,15 +214,15 @@ module _ {edition : Edition} {T U : List ℕ} {a M : ℕ} {to : ℕ → ℕ} {li
 
   -- past one byte that is no backslash, and past a backslash with the byte after it
   pub moves_one : (p : ℕ) → raw_stands T p backslash ≡ false → Moves (λ T p. p + 1) p
-  moves_one p e = (omega arith, λ low s. (good_back p low (no_backslash T p e) s, sym (on p 1 low)))
+  moves_one p e = (omega arith, λ low s. (good_back p low (no_backslash T p e) s, sym (to_add p 1 low)))
 
   pub moves_two : (p : ℕ) → raw_stands T p backslash ≡ true → Moves (λ T p. p + 2) p
   moves_two p e = (
     omega arith,
     λ low s. (
-      ⊎_elim (λ c. two_bytes low c s) (λ c. safe_escape (K E) p low c e (high s))
+      ⊎_elim (λ c. two_bytes low c s) (λ c. safe_escape (K E) p low c e (good_high s))
           (cases_Bool (continues T p)),
-      sym (on p 2 low),
+      sym (to_add p 2 low),
     ),
   )
 
@@ -228,10 +230,10 @@ module _ {edition : Edition} {T U : List ℕ} {a M : ℕ} {to : ℕ → ℕ} {li
   pub same_taken : (p : ℕ) → raw_stands T p backslash ≡ true → a ≤ p → G p → at_end U (to p + 1) ≡ at_end T (p + 1)
   unfolding raw_stands
   same_taken p e low s =
-      ap (at_end U) (sym (on p 1 low))
+      ap (at_end U) (sym (to_add p 1 low))
       ∙ same_end (p + 1) (omega (arith, low))
       (⊎_elim (λ lt. omega (arith, lt))
-      (λ ge. let is : p ≡ M = omega (arith, ge, high s) in
+      (λ ge. let is : p ≡ M = omega (arith, ge, good_high s) in
       absurd (both_ways (is_byte (slice_get T M) backslash) (rw E.byte (not_backslash limit E.ender)) (rw (sym is) e)))
       (cases_lt p M))
 
@@ -262,7 +264,7 @@ module _ {edition : Edition} {T U : List ℕ} {a M : ℕ} {to : ℕ → ℕ} {li
   before_there (suc n) p q few low lt le first =
       let r = q - 1 in
       let q_is : r + 1 ≡ q = omega (arith, lt) in
-      let to_is : to q ≡ to r + 1 = ap to (sym q_is) ∙ on r 1 (omega (arith, low, lt)) in
+      let to_is : to q ≡ to r + 1 = ap to (sym q_is) ∙ to_add r 1 (omega (arith, low, lt)) in
       let back : to q - 1 ≡ to r = omega (arith, to_is) in
       let same = same_raw_in E is_blank r (omega (arith, low, lt)) (omega (arith, le)) in
       ⊎_elim
@@ -292,7 +294,7 @@ module _ {edition : Edition} {T U : List ℕ} {a M : ℕ} {to : ℕ → ℕ} {li
 
   -- the byte of the limit is no `#`
   no_hash : (limit == number_sign) ≡ false
-  no_hash = ender limit number_sign E.ender.ends_it refl
+  no_hash = ender_is_other limit number_sign E.ender.ends_it refl
 
   -- where a `#` stands, the place is good
   at_hash : (p : ℕ) → a ≤ p → p ≤ M → raw_stands T p number_sign ≡ true → G p
@@ -320,15 +322,15 @@ module _ {edition : Edition} {T U : List ℕ} {a M : ℕ} {to : ℕ → ℕ} {li
   long_there p q low from =
       ⊎_elim
       (λ lt. let far : to q ≡ to p + (q - p) = let is : p + (q - p) ≡ q = omega (arith, lt) in
-      ap to (sym is) ∙ on p (q - p) low in omega (arith, far))
+      ap to (sym is) ∙ to_add p (q - p) low in omega (arith, far))
       (λ ge. let far : to p ≡ to q + (p - q) = let is : q + (p - q) ≡ p = omega (arith, ge) in
-      ap to (sym is) ∙ on q (p - q) from in omega (arith, far, ge)) (cases_lt p q)
+      ap to (sym is) ∙ to_add q (p - q) from in omega (arith, far, ge)) (cases_lt p q)
 
   -- up to the limit, and with it
   pub same_raw_to : (p q : ℕ) → a ≤ p → a ≤ q → q ≤ M + 1 → raw U (to p) (to q) ≡ raw T p q
   same_raw_to p q low from le =
       rw (long_there p q low from) (same_take (q - p) (drop (to p) U) (drop p T)
-      (λ i lt. get_drop (to p) U i ∙ ap (slice_get U) (sym (on p i low))
+      (λ i lt. get_drop (to p) U i ∙ ap (slice_get U) (sym (to_add p i low))
       ∙ E.kept.same (p + i) (omega (arith, low)) (omega (arith, lt, le)) ∙ sym (get_drop p T i)))
 
   pub same_raw : (p q : ℕ) → a ≤ p → a ≤ q → q ≤ M → raw U (to p) (to q) ≡ raw T p q
@@ -374,7 +376,7 @@ module _ {edition : Edition} {T U : List ℕ} {a M : ℕ} {to : ℕ → ℕ} {li
   dollar_same : (p b : ℕ) → G p → byte_at T p ≡ Some b → (b == dollar_sign) ≡ true → dollar_at U (to p) ≡ dollar_at T p
   unfolding dollar_at
   dollar_same p b s is e =
-      let next = next_byte p b dollar_sign s is e refl (ender limit dollar_sign E.ender.ends_it refl) in
+      let next = next_byte p b dollar_sign s is e refl (ender_is_other limit dollar_sign E.ender.ends_it refl) in
       rw (same_after E s, same_byte E next) (dollar_by_same (past_byte T p) (byte_at T (past_byte T p)) next refl)
 
   -- what a byte begins in a mode, if it is no backslash, no backquote and no `$`
@@ -397,7 +399,7 @@ module _ {edition : Edition} {T U : List ℕ} {a M : ℕ} {to : ℕ → ℕ} {li
       (λ e. let clear = not_backslash limit E.ender in let other : (b == limit) ≡ false = grind (arith, nat_tests) in
       rw (
         same_after E s,
-        same_end (past_byte T p) (omega (arith, low_of s, after_low T p))
+        same_end (past_byte T p) (omega (arith, good_low s, after_low T p))
             (escape_in p b s is other),
       )
       refl)
@@ -431,7 +433,7 @@ module _ {edition : Edition} {T U : List ℕ} {a M : ℕ} {to : ℕ → ℕ} {li
     omega arith,
     λ low s.
         let w = by_taken p 0 (raw_stands T p backslash) refl low s in
-        (w.0, rw (same_raw_stands p backslash low (high w.0)) w.1),
+        (w.0, rw (same_raw_stands p backslash low (good_high w.0)) w.1),
   )
 
   -- to the next quote, to the next closer or backslash, and to the end of a comment
@@ -462,11 +464,11 @@ module _ {edition : Edition} {T U : List ℕ} {a M : ℕ} {to : ℕ → ℕ} {li
     λ low s.
         ⊎_elim
         (λ (e : raw_stands T p number_sign ≡ true). let t : G (next_newline T p) = rw e at s in
-        let le : p ≤ M = omega (arith, next_newline_low T p, high t) in
+        let le : p ≤ M = omega (arith, next_newline_low T p, good_high t) in
         let g : G p = at_hash p low le e in
-        (g, rw (same_raw_stands p number_sign low le, e) (same_newline p low (high t))))
+        (g, rw (same_raw_stands p number_sign low le, e) (same_newline p low (good_high t))))
         (λ (e : raw_stands T p number_sign ≡ false). let g : G p = rw e at s in
-        (g, rw (same_raw_stands p number_sign low (high g), e) refl)) (cases_Bool (raw_stands T p number_sign)),
+        (g, rw (same_raw_stands p number_sign low (good_high g), e) refl)) (cases_Bool (raw_stands T p number_sign)),
   )
     where
       comment_far : (b : Bool) → p ≤ cond b (next_newline T p) p
@@ -477,11 +479,11 @@ module _ {edition : Edition} {T U : List ℕ} {a M : ℕ} {to : ℕ → ℕ} {li
 
   -- at a good place both texts end or neither, and a backslash is the last byte of both or of neither
   pub same_end_here : (p : ℕ) → a ≤ p → G p → at_end U (to p) ≡ at_end T p
-  same_end_here p low s = same_end p low (high s)
+  same_end_here p low s = same_end p low (good_high s)
 
   pub same_last_backslash : (p : ℕ) → a ≤ p → G p → is_last_backslash U (to p) ≡ is_last_backslash T p
   same_last_backslash p low s =
-      rw (same_raw_stands p backslash low (high s))
+      rw (same_raw_stands p backslash low (good_high s))
       (same_and (raw_stands T p backslash) _ _ (λ e. same_taken p e low s))
 
   -- where a comment ends
@@ -490,7 +492,7 @@ module _ {edition : Edition} {T U : List ℕ} {a M : ℕ} {to : ℕ → ℕ} {li
       × (p ≤ before_blanks T (next_newline T p))
   unfolding raw_in raw_stands
   comment_end p s e near =
-      let low = low_of s in
+      let low = good_low s in
       let bytes = hash_goes (slice_get T p) e in
       let q = next_newline T p in
       let more : q ≡ next_newline T (p + 1) = raw_more (λ b. not (b == newline_char)) T p bytes.2 in
@@ -503,12 +505,12 @@ module _ {edition : Edition} {T U : List ℕ} {a M : ℕ} {to : ℕ → ℕ} {li
       (raw_stands T p number_sign ≡ true → next_newline T p ≤ M) → comment_at U o2 (to p) ≡ comment_at T o p
   unfolding comment_at
   same_comment o o2 spans p s near =
-      let low = low_of s in
+      let low = good_low s in
       ⊎_elim
       (λ (e : raw_stands T p number_sign ≡ true). let w = comment_end p s e (near e) in
-      rw (same_raw_stands p number_sign low (high s), e, w.0)
+      rw (same_raw_stands p number_sign low (good_high s), e, w.0)
       (ap Some (spans p (before_blanks T (next_newline T p)) low (omega (arith, low, w.1)))))
-      (λ (e : raw_stands T p number_sign ≡ false). rw (same_raw_stands p number_sign low (high s), e) refl)
+      (λ (e : raw_stands T p number_sign ≡ false). rw (same_raw_stands p number_sign low (good_high s), e) refl)
       (cases_Bool (raw_stands T p number_sign))
 
   -- ---- all moves

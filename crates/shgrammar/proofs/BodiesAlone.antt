@@ -12,7 +12,7 @@ use Rattle.shgrammar.specs.Sights.{Waiting, given}
 use Rattle.shgrammar.specs.HereDocuments.{rest_of_line, past_line, is_delimiter, takes_newline, delimiter_below, delimiter_on, delimiter_from, body_by, bodies_from}
 use Rattle.shgrammar.proofs.Stretches.{get_drop}
 use Rattle.shgrammar.proofs.Places.{next_newline_low}
-use Rattle.shgrammar.proofs.Delimiters.{between, bodies_go, past_line_high}
+use Rattle.shgrammar.proofs.Delimiters.{delimiter_between, bodies_go, past_line_high}
 use Rattle.shgrammar.specs.declared.edition.Edition.{Edition}
 
 -- a byte that is no newline
@@ -32,36 +32,36 @@ past_front X = min (width X + 1) (length X)
 -- ---- texts whose last line ends in a newline
 
 -- the last byte is a newline, or there is none
-unfoldable pub closed : List ℕ → Bool
-closed [] = true
-closed (b ∷ []) = b == newline_char
-closed (b ∷ c ∷ bs) = closed (c ∷ bs)
+unfoldable pub is_whole_lines : List ℕ → Bool
+is_whole_lines [] = true
+is_whole_lines (b ∷ []) = b == newline_char
+is_whole_lines (b ∷ c ∷ bs) = is_whole_lines (c ∷ bs)
 
 -- without its first bytes such a text is one too
-pub closed_drop : (n : ℕ) (L : List ℕ) → closed L ≡ true → closed (drop n L) ≡ true
-unfolding closed
-closed_drop zero L so = so
-closed_drop (suc n) [] so = refl
-closed_drop (suc n) (b ∷ []) so = closed_drop n [] refl
-closed_drop (suc n) (b ∷ c ∷ bs) so = closed_drop n (c ∷ bs) so
+pub whole_lines_drop : (n : ℕ) (L : List ℕ) → is_whole_lines L ≡ true → is_whole_lines (drop n L) ≡ true
+unfolding is_whole_lines
+whole_lines_drop zero L so = so
+whole_lines_drop (suc n) [] so = refl
+whole_lines_drop (suc n) (b ∷ []) so = whole_lines_drop n [] refl
+whole_lines_drop (suc n) (b ∷ c ∷ bs) so = whole_lines_drop n (c ∷ bs) so
 
 -- its first line ends in it, whatever follows
-abbrev pub Ends : List ℕ → List ℕ → Type 0
-Ends L Y = (width (L ++ Y) ≡ width L) × (width L < length L)
+abbrev pub FirstLineEnds : List ℕ → List ℕ → Type 0
+FirstLineEnds L Y = (width (L ++ Y) ≡ width L) × (width L < length L)
 
 -- so it is of each such text that is not empty
-ends_by : (b : ℕ) (L Y : List ℕ) → ((b == newline_char) ≡ false → Ends L Y) → (t : Bool) →
-    (b == newline_char) ≡ t → Ends (b ∷ L) Y
+ends_by : (b : ℕ) (L Y : List ℕ) → ((b == newline_char) ≡ false → FirstLineEnds L Y) → (t : Bool) →
+    (b == newline_char) ≡ t → FirstLineEnds (b ∷ L) Y
 unfolding count_front
 ends_by b L Y more true is = (rw is refl, rw is (omega arith))
 ends_by b L Y more false is =
     let r = more is in
     (rw (is, r.0) refl, rw is (omega (arith, r.1)))
 
-pub ends : (b : ℕ) (bs Y : List ℕ) → closed (b ∷ bs) ≡ true → Ends (b ∷ bs) Y
-unfolding closed
-ends b [] Y so = ends_by b [] Y (λ other. absurd (cc)) (b == newline_char) refl
-ends b (c ∷ bs) Y so = ends_by b (c ∷ bs) Y (λ other. ends c bs Y so) (b == newline_char) refl
+pub first_line_ends : (b : ℕ) (bs Y : List ℕ) → is_whole_lines (b ∷ bs) ≡ true → FirstLineEnds (b ∷ bs) Y
+unfolding is_whole_lines
+first_line_ends b [] Y so = ends_by b [] Y (λ other. absurd (cc)) (b == newline_char) refl
+first_line_ends b (c ∷ bs) Y so = ends_by b (c ∷ bs) Y (λ other. first_line_ends c bs Y so) (b == newline_char) refl
 
 module _ (w : Waiting) where
   -- the first line, or what is found after it
@@ -79,13 +79,13 @@ module _ (w : Waiting) where
   -- ---- what follows makes no difference
 
   -- in such a text the search looks at its first line, and then at the rest of it
-  pub by_turn : (n : ℕ) (taken : Bool) (b : ℕ) (bs Y : List ℕ) → closed (b ∷ bs) ≡ true
+  pub by_turn : (n : ℕ) (taken : Bool) (b : ℕ) (bs Y : List ℕ) → is_whole_lines (b ∷ bs) ≡ true
       → found_in (suc n) taken ((b ∷ bs) ++ Y)
       ≡ turn taken (front (b ∷ bs)) (width (b ∷ bs) + 1)
       (found_in n (takes_newline w (front (b ∷ bs))) (drop (width (b ∷ bs) + 1) (b ∷ bs) ++ Y))
   unfolding found_in
   by_turn n taken b bs Y so =
-      let e = ends b bs Y so in
+      let e = first_line_ends b bs Y so in
       let same : front ((b ∷ bs) ++ Y) ≡ front (b ∷ bs) = ap (λ k. take k ((b ∷ bs) ++ Y)) e.0
       ∙ take-append-le (width (b ∷ bs)) (b ∷ bs) Y (omega (arith, e.1)) in
       let past : past_front ((b ∷ bs) ++ Y) ≡ width (b ∷ bs) + 1 = omega (arith, e.0, e.1, length-append (b ∷ bs) Y) in
@@ -113,20 +113,20 @@ module _ (w : Waiting) where
   none_found X taken i found = absurd cc
 
   -- what is found in such a text is found there whatever follows it
-  pub alone : (n m : ℕ) (taken : Bool) (L Y Z : List ℕ) (i : ℕ) → closed L ≡ true → length L < m
+  pub found_alone : (n m : ℕ) (taken : Bool) (L Y Z : List ℕ) (i : ℕ) → is_whole_lines L ≡ true → length L < m
       → found_in n taken (L ++ Y) ≡ Some i → i < length L → found_in m taken (L ++ Z) ≡ Some i
-  alone n m taken [] Y Z i so many found before = absurd (omega arith)
-  alone n zero taken (b ∷ bs) Y Z i so many found before = absurd (omega arith)
-  alone zero (suc m) taken (b ∷ bs) Y Z i so many found before = none_found ((b ∷ bs) ++ Y) taken i found
-  alone (suc n) (suc m) taken (b ∷ bs) Y Z i so many found before =
-      let e = ends b bs Y so in
+  found_alone n m taken [] Y Z i so many found before = absurd (omega arith)
+  found_alone n zero taken (b ∷ bs) Y Z i so many found before = absurd (omega arith)
+  found_alone zero (suc m) taken (b ∷ bs) Y Z i so many found before = none_found ((b ∷ bs) ++ Y) taken i found
+  found_alone (suc n) (suc m) taken (b ∷ bs) Y Z i so many found before =
+      let e = first_line_ends b bs Y so in
       let line = front (b ∷ bs) in
       let rest = drop (width (b ∷ bs) + 1) (b ∷ bs) in
       let left : length rest ≡ length (b ∷ bs) - (width (b ∷ bs) + 1) = length-drop (width (b ∷ bs) + 1) (b ∷ bs) in
       by_turn m taken b bs Z so
       ∙ turn_alone (width (b ∷ bs) + 1) i (found_in n (takes_newline w line) (rest ++ Y))
       (found_in m (takes_newline w line) (rest ++ Z))
-      (λ j r is. alone n m (takes_newline w line) rest Y Z j (closed_drop (width (b ∷ bs) + 1) (b ∷ bs) so)
+      (λ j r is. found_alone n m (takes_newline w line) rest Y Z j (whole_lines_drop (width (b ∷ bs) + 1) (b ∷ bs) so)
       (omega (arith, many, left, e.1)) r (omega (arith, before, is, left, e.1)))
       (not taken && is_delimiter w line) (sym (by_turn n taken b bs Y so) ∙ found)
 
@@ -196,7 +196,7 @@ module _ (w : Waiting) where
   -- L stands in one text from p on, and in another from r on, and its last byte is a
   -- newline: a document that ends in L ends there in both
   pub same_delimiter : (T U L Y Z : List ℕ) (p r q : ℕ) → p ≤ length T → r ≤ length U → drop p T ≡ L ++ Y →
-      drop r U ≡ L ++ Z → closed L ≡ true → q < length L
+      drop r U ≡ L ++ Z → is_whole_lines L ≡ true → q < length L
       → delimiter_from T w p ≡ Some (p + q) → delimiter_from U w r ≡ Some (r + q)
   unfolding delimiter_on
   same_delimiter T U L Y Z p r q within inside here there so before found =
@@ -207,27 +207,27 @@ module _ (w : Waiting) where
       found_at (suc (length U - r)) false U r inside
       ∙ ap (λ X. option_map (λ (i : ℕ). r + i) (found_in (suc (length U - r)) false X)) there
       ∙ ap (option_map (λ (i : ℕ). r + i))
-      (alone (suc (length T - p)) (suc (length U - r)) false L Y Z q so
+      (found_alone (suc (length T - p)) (suc (length U - r)) false L Y Z q so
       (omega (arith, size, length-drop r U)) read before)
 
 -- ---- bodies
 
 -- so it is of each text that ends in a newline and is not empty
-ends_some : (D Y : List ℕ) → closed D ≡ true → 0 < length D → Ends D Y
+ends_some : (D Y : List ℕ) → is_whole_lines D ≡ true → 0 < length D → FirstLineEnds D Y
 ends_some [] Y so some = absurd (omega arith)
-ends_some (b ∷ bs) Y so some = ends b bs Y so
+ends_some (b ∷ bs) Y so some = first_line_ends b bs Y so
 
 -- the line from there on ends in L
 abbrev step_in : List ℕ → ℕ → ℕ
 step_in L q = q + (width (drop q L) + 1)
 
 -- the line that begins at q in L ends in L
-past_in : (T L Y : List ℕ) (p q : ℕ) → p ≤ length T → drop p T ≡ L ++ Y → closed L ≡ true → q < length L →
+past_in : (T L Y : List ℕ) (p q : ℕ) → p ≤ length T → drop p T ≡ L ++ Y → is_whole_lines L ≡ true → q < length L →
     (past_line T (p + q) ≡ p + step_in L q) × (step_in L q ≤ length L)
 unfolding raw_past
 past_in T L Y p q within here so before =
     let left : length (drop q L) ≡ length L - q = length-drop q L in
-    let e = ends_some (drop q L) Y (closed_drop q L so) (omega (arith, left, before)) in
+    let e = ends_some (drop q L) Y (whole_lines_drop q L so) (omega (arith, left, before)) in
     let rest : drop (p + q) T ≡ drop q L ++ Y = sym (drop-drop q p T) ∙ ap (drop q) here
     ∙ drop-append-le q L Y (omega (arith, before)) in
     let wide : width (drop (p + q) T) ≡ width (drop q L) = ap width rest ∙ e.0 in
@@ -257,7 +257,7 @@ module _ (edition : Edition) (T U Y Z : List ℕ) (o u : ℕ) where
   -- so it is for these documents wherever L stands, if their bodies end in it
   abbrev Alike : Row Waiting → Row Span × ℕ → Type 0
   Alike ws x = (bodies : Row Span) (L : List ℕ) (p r : ℕ) → p ≤ length T → r ≤ length U → o + p ≡ u + r →
-      drop p T ≡ L ++ Y → drop r U ≡ L ++ Z → closed L ≡ true
+      drop p T ≡ L ++ Y → drop r U ≡ L ++ Z → is_whole_lines L ≡ true
       → bodies_from (given edition T o) ws bodies p ≡ Ok x → x.1 ≤ p + length L → Same ws bodies p r x
 
   -- the bytes from p + k on are L without its first k, and what follows it
@@ -267,13 +267,13 @@ module _ (edition : Edition) (T U Y Z : List ℕ) (o u : ℕ) where
   -- one more document before others, and all of them
   one_alike : (w : Waiting) (ws : Row Waiting) (x : Row Span × ℕ) → Alike ws x →
       (bodies : Row Span) (L : List ℕ) (p r : ℕ) → p ≤ length T → r ≤ length U → o + p ≡ u + r
-      → drop p T ≡ L ++ Y → drop r U ≡ L ++ Z → closed L ≡ true → (d : Option ℕ) → delimiter_from T w p ≡ d →
+      → drop p T ≡ L ++ Y → drop r U ≡ L ++ Z → is_whole_lines L ≡ true → (d : Option ℕ) → delimiter_from T w p ≡ d →
       body_by (bodies_from (given edition T o) ws) (given edition T o) w bodies p d ≡ Ok x
       → x.1 ≤ p + length L → body_by (bodies_from (given edition U u) ws) (given edition U u) w bodies r
       (delimiter_from U w r) ≡ done (x.0, r + (x.1 - p))
   one_alike w ws x more bodies L p r within inside off here there so None found read low = absurd cc
   one_alike w ws x more bodies L p r within inside off here there so (Some d) found read low =
-      let one = between T w false p d found in
+      let one = delimiter_between T w false p d found in
       let go = bodies_go (given edition T o) ws (bodies ++ span o p d ∷ []) (past_line T d) x read
       (past_line_high T d) in
       let q = d - p in
@@ -296,7 +296,7 @@ module _ (edition : Edition) (T U Y Z : List ℕ) (o u : ℕ) where
       ∙ ap (bodies_from (given edition U u) ws (bodies ++ span u r (r + q) ∷ [])) other.0
       ∙ more (bodies ++ span u r (r + q) ∷ []) (drop k L) (p + k) (r + k) (omega (arith, past, past_line_high T d))
       (omega (arith, other.0, past_line_high U (r + q))) (omega (arith, off))
-      (after_in T Y L p k here mine.1) (after_in U Z L r k there mine.1) (closed_drop k L so) read_on
+      (after_in T Y L p k here mine.1) (after_in U Z L r k there mine.1) (whole_lines_drop k L so) read_on
       (omega (arith, low, left, mine.1))
       ∙ ap (λ (n : ℕ). done (x.0, n)) (omega (arith, high))
 

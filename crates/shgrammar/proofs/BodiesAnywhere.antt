@@ -3,7 +3,7 @@
 use Rattle.std.proofs.Common.{◌≡◌, ℕ, zero, suc, ◌+◌, ◌-◌, ◌==◌, ◌<◌, ◌≤◌, Bool, true, false, cond, not, List, [], ◌∷◌, ◌++◌, length, take, drop, Option, Some, None, option_map, bytes_eq, refl, sym, ap, subst, ◌∙◌, arith, ⊎_elim}
 use Rattle.std.specs.Prelude.{◌&&◌}
 use Rattle.std.proofs.lemmas.Bool.{and_parts, cases_lt}
-use Rattle.std.proofs.Math.Seq.{take-add}
+use Rattle.std.proofs.Math.Seq.{drop-append_seam, take-add}
 use Rattle.std.proofs.lemmas.Bool.Decides.{nat_tests}
 use Rattle.std.proofs.lemmas.List.{drop-drop, length-append, length-drop, length-take-le, take-append-drop, take-append-le}
 use Rattle.shgrammar.specs.Characters.{newline_char, tab}
@@ -12,8 +12,8 @@ use Rattle.shgrammar.specs.Sights.{Waiting}
 use Rattle.shgrammar.specs.HereDocuments.{ADelimiter, stripped, past_line, is_delimiter, takes_newline, delimiter_on, delimiter_from}
 use Rattle.shgrammar.specs.Commands.{document}
 use Rattle.shgrammar.specs.Form.{raw}
-use Rattle.shgrammar.proofs.BodiesAlone.{width, front, past_front, closed, closed_drop, ends, turn, found_in, by_turn, turn_alone, none_found, found_at, from_found}
-use Rattle.shgrammar.proofs.Delimiters.{between}
+use Rattle.shgrammar.proofs.BodiesAlone.{width, front, past_front, is_whole_lines, whole_lines_drop, first_line_ends, turn, found_in, by_turn, turn_alone, none_found, found_at, from_found}
+use Rattle.shgrammar.proofs.Delimiters.{delimiter_between}
 
 -- ---- bytes that are compared
 
@@ -149,15 +149,16 @@ module _ (w : Waiting) where
 
   -- ---- the same body, and other bytes after it that begin with the delimiter's line
 
-  pub rewritten : (n m : ℕ) (taken : Bool) (L Y Z : List ℕ) → closed L ≡ true → length L < m →
+  pub found_rewritten : (n m : ℕ) (taken : Bool) (L Y Z : List ℕ) → is_whole_lines L ≡ true → length L < m →
       ((k : ℕ) → found_in w (suc k) false Z ≡ Some 0)
       → found_in w n taken (L ++ Y) ≡ Some (length L) → found_in w m taken (L ++ Z) ≡ Some (length L)
-  rewritten n zero taken L Y Z so many start found = absurd (omega (arith, many))
-  rewritten n (suc m) taken [] Y Z so many start found = let free = free_first n taken Y found in rw free.0 (start m)
-  rewritten zero (suc m) taken (b ∷ bs) Y Z so many start found =
+  found_rewritten n zero taken L Y Z so many start found = absurd (omega (arith, many))
+  found_rewritten n (suc m) taken [] Y Z so many start found = let free = free_first n taken Y found in
+      rw free.0 (start m)
+  found_rewritten zero (suc m) taken (b ∷ bs) Y Z so many start found =
       none_found w ((b ∷ bs) ++ Y) taken (length (b ∷ bs)) found
-  rewritten (suc n) (suc m) taken (b ∷ bs) Y Z so many start found =
-      let e = ends b bs Y so in
+  found_rewritten (suc n) (suc m) taken (b ∷ bs) Y Z so many start found =
+      let e = first_line_ends b bs Y so in
       let line = front (b ∷ bs) in
       let k = width (b ∷ bs) + 1 in
       let rest = drop k (b ∷ bs) in
@@ -166,32 +167,33 @@ module _ (w : Waiting) where
       ∙ turn_alone w k (length (b ∷ bs)) (found_in w n (takes_newline w line) (rest ++ Y))
       (found_in w m (takes_newline w line) (rest ++ Z))
       (λ j r is. let all : j ≡ length rest = omega (arith, is, left, e.1) in
-      rewritten n m (takes_newline w line) rest Y Z (closed_drop k (b ∷ bs) so) (omega (arith, many, left, e.1)) start
+      found_rewritten n m (takes_newline w line) rest Y Z (whole_lines_drop k (b ∷ bs) so)
+      (omega (arith, many, left, e.1)) start
       (r ∙ ap (λ (x : ℕ). Some x) all) ∙ ap (λ (x : ℕ). Some x) (sym all))
       (not taken && is_delimiter w line) (sym (by_turn w n taken b bs Y so) ∙ found)
 
   -- ---- what was found is a body and a delimiter
 
   -- two texts whose last lines end in a newline are one such text, one after the other
-  closed_join : (X Y : List ℕ) → closed X ≡ true → closed Y ≡ true → closed (X ++ Y) ≡ true
-  unfolding closed
-  closed_join [] Y one two = two
-  closed_join (b ∷ []) [] one two = one
-  closed_join (b ∷ []) (c ∷ Y) one two = two
-  closed_join (b ∷ c ∷ X) Y one two = closed_join (c ∷ X) Y one two
+  whole_lines_join : (X Y : List ℕ) → is_whole_lines X ≡ true → is_whole_lines Y ≡ true → is_whole_lines (X ++ Y) ≡ true
+  unfolding is_whole_lines
+  whole_lines_join [] Y one two = two
+  whole_lines_join (b ∷ []) [] one two = one
+  whole_lines_join (b ∷ []) (c ∷ Y) one two = two
+  whole_lines_join (b ∷ c ∷ X) Y one two = whole_lines_join (c ∷ X) Y one two
 
   -- the first line with its newline is such a text, by the first byte
-  first_line_by : (b : ℕ) (X : List ℕ) → (width X < length X → closed (take (suc (width X)) X) ≡ true) →
+  first_line_by : (b : ℕ) (X : List ℕ) → (width X < length X → is_whole_lines (take (suc (width X)) X) ≡ true) →
       width (b ∷ X) < length (b ∷ X) → (t : Bool) → (b == newline_char) ≡ t
-      → closed (take (suc (width (b ∷ X))) (b ∷ X)) ≡ true
-  unfolding closed
+      → is_whole_lines (take (suc (width (b ∷ X))) (b ∷ X)) ≡ true
+  unfolding is_whole_lines
   first_line_by b X more some true is = let none = newline_first b X is in rw none is
   first_line_by b [] more some false is = let one = text_first b [] is in absurd (omega (arith, one, some))
   first_line_by b (c ∷ cs) more some false is = let one = text_first b (c ∷ cs) is in
       rw one (more (omega (arith, one, some)))
 
   -- a line that is not the last one, with its newline
-  first_line : (X : List ℕ) → width X < length X → closed (take (suc (width X)) X) ≡ true
+  first_line : (X : List ℕ) → width X < length X → is_whole_lines (take (suc (width X)) X) ≡ true
   first_line [] some = absurd (omega (arith, some))
   first_line (b ∷ X) some = first_line_by b X (first_line X) some (b == newline_char) refl
 
@@ -203,13 +205,13 @@ module _ (w : Waiting) where
 
   -- up to the delimiter's line whole lines stand
   pub record Cut (X : List ℕ) (i : ℕ) : Type 0 where
-    pub lines : closed (take i X) ≡ true
+    pub lines : is_whole_lines (take i X) ≡ true
     pub within : i ≤ length X
     pub line : is_delimiter w (front (drop i X)) ≡ true
 
   -- so it is where the first line is the delimiter's, and where it is found after that
   cut_here : (X : List ℕ) (i : ℕ) → is_delimiter w (front X) ≡ true → 0 ≡ i → Cut X i
-  unfolding closed
+  unfolding is_whole_lines
   cut_here X i is none = subst (λ n. Cut X n) none (record { lines = refl; within = omega arith; line = is })
 
   cut_on : (n : ℕ) (taken : Bool) (X : List ℕ) (j : ℕ) → found_in w n taken (drop (past_front X) X) ≡ Some j →
@@ -217,12 +219,12 @@ module _ (w : Waiting) where
   cut_on n taken X j found rest =
       let k = past_front X in
       let left : length (drop k X) ≡ length X - k = length-drop k X in
-      let whole : closed (take k X) ≡ true = ⊎_elim
-      (λ lt. let is : k ≡ suc (width X) = omega (arith, lt) in ap (λ m. closed (take m X)) is ∙ first_line X lt)
+      let whole : is_whole_lines (take k X) ≡ true = ⊎_elim
+      (λ lt. let is : k ≡ suc (width X) = omega (arith, lt) in ap (λ m. is_whole_lines (take m X)) is ∙ first_line X lt)
       (λ ge. none_in n taken j (ap (found_in w n taken) (sym (empty_row (drop k X) (omega (arith, ge, left)))) ∙ found))
       (cases_lt (width X) (length X)) in
       record {
-        lines = ap closed (take-add k j X) ∙ closed_join (take k X) (take j (drop k X)) whole rest.lines;
+        lines = ap is_whole_lines (take-add k j X) ∙ whole_lines_join (take k X) (take j (drop k X)) whole rest.lines;
         within = omega (arith, left, rest.within);
         line = ap (λ R. is_delimiter w (front R)) (sym (drop-drop j k X)) ∙ rest.line;
       }
@@ -243,14 +245,14 @@ module _ (w : Waiting) where
   cut_by n taken b bs i (Some j) is more before false e found = let all : past_front (b ∷ bs) + j ≡ i = cc in
       subst (λ m. Cut (b ∷ bs) m) all (cut_on n taken (b ∷ bs) j is (more j refl))
 
-  pub cut : (n : ℕ) (taken : Bool) (X : List ℕ) (i : ℕ) → found_in w n taken X ≡ Some i → Cut X i
+  pub cut_where_found : (n : ℕ) (taken : Bool) (X : List ℕ) (i : ℕ) → found_in w n taken X ≡ Some i → Cut X i
   unfolding found_in
-  cut zero taken X i found = absurd cc
-  cut (suc n) taken [] i found = absurd cc
-  cut (suc n) taken (b ∷ bs) i found =
+  cut_where_found zero taken X i found = absurd cc
+  cut_where_found (suc n) taken [] i found = absurd cc
+  cut_where_found (suc n) taken (b ∷ bs) i found =
       let rest = found_in w n (takes_newline w (front (b ∷ bs))) (drop (past_front (b ∷ bs)) (b ∷ bs)) in
       cut_by n (takes_newline w (front (b ∷ bs))) b bs i rest refl
-      (λ j is. cut n (takes_newline w (front (b ∷ bs))) (drop (past_front (b ∷ bs)) (b ∷ bs)) j is)
+      (λ j is. cut_where_found n (takes_newline w (front (b ∷ bs))) (drop (past_front (b ∷ bs)) (b ∷ bs)) j is)
       taken (not taken && is_delimiter w (front (b ∷ bs))) refl found
 
 -- where the operator stands makes no difference
@@ -289,13 +291,13 @@ module _ (T : List ℕ) (b p q : ℕ) (strip : Bool) (d : ADelimiter) (within : 
   found_here : found_in w (suc (length T - p)) false bytes ≡ Some i
   unfolding delimiter_on
   found_here =
-      let low = (between T w false p q found).0 in
+      let low = (delimiter_between T w false p q found).0 in
       let is : q ≡ p + i = omega (arith, low) in
       from_found w p i (found_in w (suc (length T - p)) false bytes)
       (sym (found_at w (suc (length T - p)) false T p within) ∙ found ∙ ap (λ (x : ℕ). Some x) is)
 
   cut_here_is : Cut w bytes i
-  cut_here_is = cut w (suc (length T - p)) false bytes i found_here
+  cut_here_is = cut_where_found w (suc (length T - p)) false bytes i found_here
 
   -- once stripped that line is the delimiter, which has no newline and ends the document as a line
   abbrev line : List ℕ
@@ -343,7 +345,7 @@ module _ (T : List ℕ) (b p q : ℕ) (strip : Bool) (d : ADelimiter) (within : 
         ∙ ap (option_map (λ (n : ℕ). r + n))
         (ap (found_in (document c strip d) (suc (length U - r)) false) here
         ∙ same_found c b strip d (suc (length U - r)) false (L ++ (d.text ++ 10 ∷ Z))
-        ∙ rewritten w (suc (length T - p)) (suc (length U - r)) false L (drop i bytes)
+        ∙ found_rewritten w (suc (length T - p)) (suc (length U - r)) false L (drop i bytes)
         (d.text ++ 10 ∷ Z) cut_here_is.lines (omega (arith, size, length-drop r U)) (starts Z) found_whole);
     past_it = λ U r Z inside here.
         let L = take i bytes in
@@ -355,8 +357,4 @@ module _ (T : List ℕ) (b p q : ℕ) (strip : Bool) (d : ADelimiter) (within : 
   }
     where
       skipped : (U : List ℕ) (r : ℕ) (L Z : List ℕ) → drop r U ≡ L ++ Z → drop (r + length L) U ≡ Z
-      skipped U r L Z here = sym (drop-drop (length L) r U) ∙ ap (drop (length L)) here ∙ drop_front L Z
-        where
-          drop_front : (L Z : List ℕ) → drop (length L) (L ++ Z) ≡ Z
-          drop_front [] Z = refl
-          drop_front (b ∷ L) Z = drop_front L Z
+      skipped U r L Z here = sym (drop-drop (length L) r U) ∙ ap (drop (length L)) here ∙ drop-append_seam L Z

@@ -18,10 +18,10 @@ use Rattle.shgrammar.proofs.Stretches.{get_drop}
 use Rattle.shgrammar.proofs.Places.{raw_past_stops}
 use Rattle.shgrammar.proofs.SameBytes.{byte_other, no_backslash}
 use Rattle.shgrammar.proofs.Ahead.{ListEnds}
-use Rattle.shgrammar.proofs.Asked.{Good, high, on, good_over, same_raw_to, apart}
+use Rattle.shgrammar.proofs.Asked.{Good, good_high, good_over, same_raw_to, to_apart}
 use Rattle.shgrammar.proofs.Delimiters.{bodies_low}
-use Rattle.shgrammar.proofs.BodiesAlone.{closed, same_bodies}
-use Rattle.shgrammar.proofs.Shifted.{shifted, span_from, waiting_from, state_from, moved, twice_spans, twice_waits}
+use Rattle.shgrammar.proofs.BodiesAlone.{is_whole_lines, same_bodies}
+use Rattle.shgrammar.proofs.Shifted.{shifted, span_from, waiting_from, state_from, bodies_from_moved, twice_spans, twice_waits}
 use Rattle.shgrammar.specs.declared.edition.Edition.{Edition}
 
 -- ---- the newline before the place where bodies end
@@ -94,24 +94,25 @@ pub ends_line : (keep : Keep) (g : Given) (s t : State) → does (change bodies_
 ends_line keep g s t is newline = ends_by g s t (bodies_from g s.waiting s.bodies s.at) refl is newline
 
 -- bytes of which the last is a newline
-closed_take : (n : ℕ) (X : List ℕ) → slice_get X n ≡ Some 10 → closed (take (suc n) X) ≡ true
-unfolding closed
-closed_take n [] is = absurd cc
-closed_take zero (b ∷ X) is = let ten : b ≡ 10 = cc in grind (arith, nat_tests, ten)
-closed_take (suc n) (b ∷ []) is = absurd cc
-closed_take (suc n) (b ∷ c ∷ X) is = closed_take n (c ∷ X) is
+whole_lines_take : (n : ℕ) (X : List ℕ) → slice_get X n ≡ Some 10 → is_whole_lines (take (suc n) X) ≡ true
+unfolding is_whole_lines
+whole_lines_take n [] is = absurd cc
+whole_lines_take zero (b ∷ X) is = let ten : b ≡ 10 = cc in grind (arith, nat_tests, ten)
+whole_lines_take (suc n) (b ∷ []) is = absurd cc
+whole_lines_take (suc n) (b ∷ c ∷ X) is = whole_lines_take n (c ∷ X) is
 
 -- so are the bytes from p up to q, or there are none
-pub closed_raw : (T : List ℕ) (p q : ℕ) → p ≤ q → (p < q → slice_get T (q - 1) ≡ Some 10) → closed (raw T p q) ≡ true
-unfolding closed
-closed_raw T p q le newline =
+pub whole_lines_raw : (T : List ℕ) (p q : ℕ) → p ≤ q → (p < q → slice_get T (q - 1) ≡ Some 10) →
+    is_whole_lines (raw T p q) ≡ true
+unfolding is_whole_lines
+whole_lines_raw T p q le newline =
     ⊎_elim
     (λ lt. let n = q - p - 1 in
     let many : q - p ≡ suc n = omega (arith, lt) in
     let last : p + n ≡ q - 1 = omega (arith, lt) in
-    ap (λ m. closed (take m (drop p T))) many
-    ∙ closed_take n (drop p T) (get_drop p T n ∙ ap (slice_get T) last ∙ newline lt))
-    (λ ge. let none : q - p ≡ 0 = omega (arith, ge) in ap (λ m. closed (take m (drop p T))) none) (cases_lt p q)
+    ap (λ m. is_whole_lines (take m (drop p T))) many
+    ∙ whole_lines_take n (drop p T) (get_drop p T n ∙ ap (slice_get T) last ∙ newline lt))
+    (λ ge. let none : q - p ≡ 0 = omega (arith, ge) in ap (λ m. is_whole_lines (take m (drop p T))) none) (cases_lt p q)
 
 -- ---- the same bodies there
 
@@ -132,7 +133,7 @@ module _ {edition : Edition} {T U : List ℕ} {a M : ℕ} {to : ℕ → ℕ} {li
       let onward = bodies_low (given edition T o) ws bodies p x read in
       ⊎_elim
       (λ lt. let newline = newline_before (given edition T o) ws bodies p x read
-      (omega (arith, high E good, long)) lt in
+      (omega (arith, good_high E good, long)) lt in
       let none = no_backslash T (x.1 - 1) (byte_other (slice_get T (x.1 - 1)) 10 92 refl (rw newline refl)) in
       let is : x.1 - 1 + 1 ≡ x.1 = omega (arith, lt) in
       good_over E p (x.1 - 1) from (omega (arith, lt)) none (subst (Good T a M) (sym is) good))
@@ -157,21 +158,21 @@ module _ {edition : Edition} {T U : List ℕ} {a M : ℕ} {to : ℕ → ℕ} {li
   module _ (o u : ℕ) (off : (p : ℕ) → a ≤ p → u + to p ≡ o + p) where
     -- bodies that end with a newline, and not past the byte at the limit, have the same spans there
     pub bodies_there : (ws : Row Waiting) (bodies : Row Span) (p : ℕ) (x : Row Span × ℕ) → a ≤ p →
-        bodies_from (given edition T o) ws bodies p ≡ Ok x → x.1 ≤ M + 1 → closed (raw T p x.1) ≡ true
+        bodies_from (given edition T o) ws bodies p ≡ Ok x → x.1 ≤ M + 1 → is_whole_lines (raw T p x.1) ≡ true
         → bodies_from (given edition U u) ws bodies (to p) ≡ Ok (x.0, to x.1)
     bodies_there ws bodies p x from read high_x so =
         let onward = bodies_low (given edition T o) ws bodies p x read in
         let n = x.1 - p in
         let L = take n (drop p T) in
-        let end = apart E p x.1 from onward in
-        let limit_there = apart E p M from in
+        let end = to_apart E p x.1 from onward in
+        let limit_there = to_apart E p M from in
         let many : to x.1 - to p ≡ n = omega (arith, end) in
         let same : take n (drop (to p) U) ≡ L = ap (λ m. take m (drop (to p) U)) (sym many)
         ∙ same_raw_to E p x.1 from (omega (arith, from, onward)) high_x in
         let size : length L ≡ n = length-take-le n (drop p T) (omega (arith, long, high_x, onward, length-drop p T)) in
         let inside : to p ≤ length U =
         ⊎_elim (λ lt. omega (arith, limit_there (omega (arith, lt)), long_there))
-        (λ ge. omega (arith, apart E M p E.under ge, long_there, onward, high_x)) (cases_lt p M) in
+        (λ ge. omega (arith, to_apart E M p E.under ge, long_there, onward, high_x)) (cases_lt p M) in
         same_bodies edition T U (drop n (drop p T)) (drop n (drop (to p) U)) o u ws x bodies L p (to p)
         (omega (arith, long, high_x, onward)) inside (sym (off p from)) (sym (take-append-drop n (drop p T)))
         (sym (take-append-drop n (drop (to p) U)) ∙ ap (λ X. X ++ drop n (drop (to p) U)) same) so read
@@ -196,7 +197,7 @@ module _ {edition : Edition} {T U : List ℕ} {a M : ℕ} {to : ℕ → ℕ} {li
     read_there s t from high_t newline (Ok x) read is =
         let same : after_bodies x ≡ t = cc in
         let at : x.1 ≡ t.at = ap (λ (v : State). v.at) same in
-        let so = closed_raw T s.at x.1 (bodies_low (given edition T o) s.waiting s.bodies s.at x read)
+        let so = whole_lines_raw T s.at x.1 (bodies_low (given edition T o) s.waiting s.bodies s.at x read)
         (λ lt. ap (λ n. slice_get T (n - 1)) at ∙ newline (omega (arith, at, lt))) in
         ap state_by (bodies_there s.waiting s.bodies s.at x from read (omega (arith, at, high_t)) so)
         ∙ ap (λ v. Ok (over v)) same
@@ -219,10 +220,10 @@ module _ {edition : Edition} {T U : List ℕ} {a M : ℕ} {to : ℕ → ℕ} {li
         let same : after_bodies x ≡ t = cc in
         let at : x.1 ≡ t.at = ap (λ (v : State). v.at) same in
         let newline : s.at < t.at → slice_get T (t.at - 1) ≡ Some 10 = λ lt. ap (λ n. slice_get T (n - 1)) (sym at)
-        ∙ newline_before (given edition T o) s.waiting s.bodies s.at x read (omega (arith, at, high E good, long))
+        ∙ newline_before (given edition T o) s.waiting s.bodies s.at x read (omega (arith, at, good_high E good, long))
         (omega (arith, at, lt)) in (
           good_before o s.waiting s.bodies s.at x from read (subst (Good T a M) (sym at) good),
-          read_there s t from (omega (arith, high E good)) newline (Ok x) read is,
+          read_there s t from (omega (arith, good_high E good)) newline (Ok x) read is,
         )
     good_by s t from good (Err f) read is = absurd cc
 
@@ -255,17 +256,18 @@ module _ {edition : Edition} {T U : List ℕ} {a M : ℕ} {to : ℕ → ℕ} {li
 
     -- through a text whose offsets are those of the other
     pub bodies_moved : (ws : Row Waiting) (bodies : Row Span) (p : ℕ) (x : Row Span × ℕ) → a ≤ p →
-        bodies_from (given edition T o) ws bodies p ≡ Ok x → x.1 ≤ M + 1 → closed (raw T p x.1) ≡ true
+        bodies_from (given edition T o) ws bodies p ≡ Ok x → x.1 ≤ M + 1 → is_whole_lines (raw T p x.1) ≡ true
         → bodies_from (given edition U u) (map move_waiting ws) (map move_span bodies) (to p)
         ≡ Ok (map move_span x.0, to x.1)
     bodies_moved ws bodies p x from read high_x so =
-        let one = moved edition T o (to a) (o + a) (to a + a) a (omega arith)
+        let one = bodies_from_moved edition T o (to a) (o + a) (to a + a) a (omega arith)
         (λ q low. omega (arith, low)) ws bodies p x from read in
-        let two = bodies_there (to a) a (λ q low. omega (arith, apart E a q (omega arith) low))
+        let two = bodies_there (to a) a (λ q low. omega (arith, to_apart E a q (omega arith) low))
         (map (waiting_from (o + a) (to a + a)) ws) (map (span_from (o + a) (to a + a)) bodies) p
         (map (span_from (o + a) (to a + a)) x.0, x.1) from one high_x so in
-        let low_to : to a ≤ to p = omega (arith, apart E a p (omega arith) from) in
-        let three = moved edition U a u (a + to a) (u + to a) (to a) (omega arith) (λ q low. omega (arith, low))
+        let low_to : to a ≤ to p = omega (arith, to_apart E a p (omega arith) from) in
+        let three = bodies_from_moved edition U a u (a + to a) (u + to a) (to a) (omega arith)
+        (λ q low. omega (arith, low))
         (map (waiting_from (o + a) (to a + a)) ws) (map (span_from (o + a) (to a + a)) bodies) (to p)
         (map (span_from (o + a) (to a + a)) x.0, to x.1) low_to two in
         let f : ℕ → ℕ = λ (n : ℕ). shifted (o + a) (u + to a) n in
@@ -284,8 +286,8 @@ module _ {edition : Edition} {T U : List ℕ} {a M : ℕ} {to : ℕ → ℕ} {li
     moved_by s t from good (Ok x) read is =
         let same : record { at = x.1; waiting = []; bodies = x.0 } ≡ t = cc in
         let at : x.1 ≡ t.at = ap (λ (v : State). v.at) same in
-        let le = high E good in
-        let so = closed_raw T s.at x.1 (bodies_low (given edition T o) s.waiting s.bodies s.at x read)
+        let le = good_high E good in
+        let so = whole_lines_raw T s.at x.1 (bodies_low (given edition T o) s.waiting s.bodies s.at x read)
         (λ lt. newline_before (given edition T o) s.waiting s.bodies s.at x read
         (omega (arith, at, le, long)) lt) in
         ap state_by (bodies_moved s.waiting s.bodies s.at x from read (omega (arith, at, le)) so)

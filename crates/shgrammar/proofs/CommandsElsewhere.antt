@@ -20,9 +20,9 @@ use Rattle.shgrammar.proofs.Ahead.{ListEnds, same_name}
 use Rattle.shgrammar.specs.HereDocuments.{ADelimiter, waits}
 use Rattle.shgrammar.proofs.Shifted.{shifted}
 use Rattle.shgrammar.proofs.BodiesThere.{move_span}
-use Rattle.shgrammar.proofs.GoingOn.{go_waits, go_place, go_with_bytes, good, Goes, go_see, go_so, go_token, go_any, go_stop}
+use Rattle.shgrammar.proofs.FormsElsewhere.{go_waits, go_place, go_with_bytes, Goes, go_see, go_so, go_token, go_any, go_stop}
 use Rattle.shgrammar.specs.declared.edition.Edition.{Edition}
-use Rattle.shgrammar.proofs.JoinsElsewhere.{rows_more, rows_empty, SameText, SameRemark, SameSeparator, gives, pushes, then, moves_on, picks, at_same, marks, two_marks, repeats, next, comment_at_same, separator, join, stopped}
+use Rattle.shgrammar.proofs.JoinsElsewhere.{rows_more, rows_empty, SameText, SameRemark, SameSeparator, gives, pushes, then, moves_on, picks, at_same, marks, two_marks, repeats, next_same, comment_at_same, separator_same, join_same, stopped}
 
 -- ---- rows of the same shapes
 
@@ -83,7 +83,7 @@ module _ (B B2 : List ℕ) where
 module _ {edition : Edition} {T U : List ℕ} {a M : ℕ} {to : ℕ → ℕ} {limit : ℕ}
     (E : ListEnds edition T U a M to limit) (o o2 : ℕ) (B B2 : List ℕ) (stands : T ≡ drop o B)
     (stands_there : U ≡ drop o2 B2) where
-  pub record Fine (inner : Inner) : Type 0 where
+  pub record InnerElsewhere (inner : Inner) : Type 0 where
     pub word : Goes E o o2 B B2 stands stands_there (SameWord B B2) (a_word inner) (a_word inner)
     pub compound : (c : Opener) → Goes E o o2 B B2 stands stands_there (SameCommand B B2) (inner.compound c)
         (inner.compound c)
@@ -93,7 +93,7 @@ module _ {edition : Edition} {T U : List ℕ} {a M : ℕ} {to : ℕ → ℕ} {li
 module _ {edition : Edition} {T U : List ℕ} {a M : ℕ} {to : ℕ → ℕ} {limit : ℕ}
     {E : ListEnds edition T U a M to limit} {o o2 : ℕ} {B B2 : List ℕ} {stands : T ≡ drop o B}
     {stands_there : U ≡ drop o2 B2}
-    {inner : Inner} (fine : Fine E o o2 B B2 stands stands_there inner) where
+    {inner : Inner} (fine : InnerElsewhere E o o2 B B2 stands stands_there inner) where
   -- what r reads in the one text q reads in the other, and S holds of the two: `Goes` of
   -- these texts and places
   abbrev Goes2 : {X Y : Type 0} → (X → Y → Type 0) → Form X → Form Y → Type 0
@@ -122,7 +122,7 @@ module _ {edition : Edition} {T U : List ℕ} {a M : ℕ} {to : ℕ → ℕ} {li
       then fine.word (λ w v so. then (pushes {S = λ is js. map (shape_of_item B) is ≡ map (shape_of_item B2) js}
       (rows_more (shape_of_item B) (shape_of_item B2) i.items _ j.items _ same.0
       (item_same position (breaks i) (breaks j) w v (breaks_same i j same) so)))
-      (λ is js all. then (next position) (λ n m is_next. gives (all, (refl, is_next)))))
+      (λ is js all. then (next_same position) (λ n m is_next. gives (all, (refl, is_next)))))
 
   -- two rows of items have the same shapes
   abbrev SameRow : Row AnItem → Row AnItem → Type 0
@@ -134,7 +134,7 @@ module _ {edition : Edition} {T U : List ℕ} {a M : ℕ} {to : ℕ → ℕ} {li
   number_same n =
       picks (is_number_token n.token) _ refl
       (then (go_token E o o2 B B2 stands stands_there moves_on)
-      (λ x y text. then (next Suffix) (λ m k same. gives (ap Some text.1, same)))) (gives (refl, refl))
+      (λ x y text. then (next_same Suffix) (λ m k same. gives (ap Some text.1, same)))) (gives (refl, refl))
 
   -- an operator is read in both texts, and stands there at the place that is meant
   operator_same : (z : RedirectOperator) → Goes2 (λ x y. move_span E o o2 x.1 ≡ y.1) (an_operator z) (an_operator z)
@@ -168,7 +168,7 @@ module _ {edition : Edition} {T U : List ℕ} {a M : ℕ} {to : ℕ → ℕ} {li
   -- the word of a redirection is read with the same shape and the same bytes in both texts
   target_same : Goes2 SameTarget (a_target inner) (a_target inner)
   unfolding a_target
-  target_same = then (next Suffix)
+  target_same = then (next_same Suffix)
       (λ n m same. picks _ _ (ap (λ (k : Next). is_word k.token) same)
       (go_with_bytes E o o2 B B2 stands stands_there fine.word) (stopped inner n))
 
@@ -229,7 +229,7 @@ module _ {edition : Edition} {T U : List ℕ} {a M : ℕ} {to : ℕ → ℕ} {li
       then (document_at x y w v four five) (λ h i six.
       then (pushes {S = SameRow} (rows_more (shape_of_item B) (shape_of_item B2) is _ js _ two
       (redirect_shape broken pale d.0 e.0 x.0 y.0 x.1 y.1 w.0 v.0 h i one three.0 four.0 five.0 six)))
-      (λ ks ls all. then (next position) (λ m k is_next. gives (all, (refl, is_next)))))))))
+      (λ ks ls all. then (next_same position) (λ m k is_next. gives (all, (refl, is_next)))))))))
 
   redirect_at : (broken pale : Bool) (p q : Position) (is js : Row AnItem) (n m : Next) → broken ≡ pale →
       SameRow is js → p ≡ q → n ≡ m
@@ -256,7 +256,8 @@ module _ {edition : Edition} {T U : List ℕ} {a M : ℕ} {to : ℕ → ℕ} {li
 
   -- ---- commands
 
-  -- A word's shape has its text, so that a name is the same there; compound commands are read as `Fine` says.
+  -- A word's shape has its text, so that a name is the same there; compound commands are read as
+  -- `InnerElsewhere` says.
 
   -- a simple command is read with the same shape in both texts
   simple_same : (i j : ItemsSoFar) → SameItems B B2 i j → Goes2 (SameCommand B B2) (a_simple inner i) (a_simple inner j)
@@ -324,7 +325,7 @@ module _ {edition : Edition} {T U : List ℕ} {a M : ℕ} {to : ℕ → ℕ} {li
   unfolding a_word_command
   word_command_same =
       then (go_see E o o2 B B2 stands stands_there {l = is_a_name} (λ s from e. same_name E e))
-      (λ good pure is. then fine.word (λ w v so. then (next Suffix)
+      (λ good pure is. then fine.word (λ w v so. then (next_same Suffix)
       (λ n m same. picks _ _ (ap (λ (k : Next). is_paren k.token) same) (named_function_same good pure w v is so)
       (then (pushes {S = λ is js. map (shape_of_item B) is ≡ map (shape_of_item B2) js}
       (rows_more (shape_of_item B) (shape_of_item B2) [] (item false (as_item Suffix w)) []
@@ -350,7 +351,7 @@ module _ {edition : Edition} {T U : List ℕ} {a M : ℕ} {to : ℕ → ℕ} {li
   bang : (n : Next) → Goes2 (λ x y. (shape_of_bang x.0 ≡ shape_of_bang y.0) × (x.1 ≡ y.1)) (a_bang n) (a_bang n)
   unfolding a_bang
   bang n = picks (is_bang n.token) _ refl
-      (then marks (λ x y all. then (next Command) (λ m k same. gives (refl, same)))) (gives (refl, refl))
+      (then marks (λ x y all. then (next_same Command) (λ m k same. gives (refl, same)))) (gives (refl, refl))
 
   -- the commands after the first so far have the same shapes, with their joins, and the same token stands
   -- after them
@@ -362,7 +363,7 @@ module _ {edition : Edition} {T U : List ℕ} {a M : ℕ} {to : ℕ → ℕ} {li
       Goes2 (SameStep SamePipes) (one_command inner p) (one_command inner q)
   unfolding one_command
   one_more_command p q same =
-      then marks (λ x y all. then (join p.next.broken q.next.broken (ap (λ (n : Next). n.broken) same.1))
+      then marks (λ x y all. then (join_same p.next.broken q.next.broken (ap (λ (n : Next). n.broken) same.1))
       (λ j k so. then (command j.1 k.1 so.1)
       (λ c d is. then (pushes {S = λ ps qs. map (pipe_shape B) ps ≡ map (pipe_shape B2) qs}
       (rows_more (pipe_shape B) (pipe_shape B2) p.parts _ q.parts _ same.0 (rw (so.0, is.0) refl)))
@@ -401,7 +402,7 @@ module _ {edition : Edition} {T U : List ℕ} {a M : ℕ} {to : ℕ → ℕ} {li
       Goes2 (SameStep SameParts) (one_pipeline inner x c) (one_pipeline inner y c)
   unfolding one_pipeline
   one_more_pipeline x y c same =
-      then two_marks (λ u v all. then (join x.next.broken y.next.broken (ap (λ (n : Next). n.broken) same.1))
+      then two_marks (λ u v all. then (join_same x.next.broken y.next.broken (ap (λ (n : Next). n.broken) same.1))
       (λ j k so. then (pipeline_same j.1 k.1 so.1)
       (λ p q is. then (pushes {S = λ ps qs. map (part_shape B) ps ≡ map (part_shape B2) qs}
       (rows_more (part_shape B) (part_shape B2) x.parts _ y.parts _ same.0 (rw (so.0, is.0) refl)))
@@ -445,7 +446,7 @@ module _ {edition : Edition} {T U : List ℕ} {a M : ℕ} {to : ℕ → ℕ} {li
   unfolding an_entry
   entry_same blank pale n m is same =
       then (and_or_same n m same) (λ x y so.
-      then (separator x.1 y.1 so.1) (λ s z parts. then (comment_at_same s.1 z.1 parts.1.1)
+      then (separator_same x.1 y.1 so.1) (λ s z parts. then (comment_at_same s.1 z.1 parts.1.1)
       (λ c d text. gives (entered (x.0) (y.0) s z c d so.0 parts text))))
     where
       entered : (x y : _) (s z : Option ASeparator × Next) (c d : Option Span × Next) →

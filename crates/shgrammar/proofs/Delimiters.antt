@@ -84,9 +84,9 @@ module _ (T : List ℕ) where
         (at_end T p) refl (ends_here taken p) found
 
     -- not before the body, and in the text
-    pub between : (taken : Bool) (p q : ℕ) → delimiter_on T w taken p ≡ Some q → Between p q
+    pub delimiter_between : (taken : Bool) (p q : ℕ) → delimiter_on T w taken p ≡ Some q → Between p q
     unfolding delimiter_on
-    between taken p q found = between_below (suc (length T - p)) taken p q found
+    delimiter_between taken p q found = between_below (suc (length T - p)) taken p q found
 
 -- ---- how far the bodies go
 
@@ -102,7 +102,7 @@ module _ (g : Given) where
       Go (w ∷ ws) bodies p x
   bodies_step w ws bodies p x more None none read = absurd cc
   bodies_step w ws bodies p x more (Some q) found read =
-      let one = between g.text w false p q found in
+      let one = delimiter_between g.text w false p q found in
       let r = more (bodies ++ span g.offset p q ∷ []) (past_line g.text q) read (past_line_high g.text q) in (
         omega (arith, one.0, one.1, r.0, next_newline_low g.text q),
         r.1,
@@ -115,7 +115,7 @@ module _ (g : Given) where
       → (o : Option ℕ) → delimiter_from g.text w p ≡ o → body_by (bodies_from g ws) g w bodies p o ≡ Ok x → p ≤ x.1
   low_step w ws bodies p x more None none read = absurd cc
   low_step w ws bodies p x more (Some q) found read =
-      let one = between g.text w false p q found in
+      let one = delimiter_between g.text w false p q found in
       let r = more (bodies ++ span g.offset p q ∷ []) (past_line g.text q) read in
       omega (arith, one.0, one.1, r, next_newline_low g.text q)
 

@@ -52,10 +52,11 @@ module _ (edition : Edition) (B : List ℕ) where
   whatever_on so to p = whatever (suc (length B - p)) so to p
 
   -- a line without fault that a newline ends
-  pub beyond_kept : (p : ℕ) (es : Row AnEntry) (t : State) → line_from edition B Whole false p ≡ Ok ((es, true), t) →
+  pub first_fault_after_kept : (p : ℕ) (es : Row AnEntry) (t : State) →
+      line_from edition B Whole false p ≡ Ok ((es, true), t) →
       first_fault_from edition B p ≡ first_fault_from edition B (p + t.at)
   unfolding first_fault_from
-  beyond_kept p es t is = ap (λ (y : AScript). y.fault)
+  first_fault_after_kept p es t is = ap (λ (y : AScript). y.fault)
       (line_more edition B nothing_yet p false refl es t (with_line nothing_yet es) is refl) ∙ whatever_on _ _ _
 
   -- the same of a line that is read without its tree
@@ -64,14 +65,16 @@ module _ (edition : Edition) (B : List ℕ) where
       first_fault_from edition B p ≡ first_fault_from edition B (p + t.at)
   beyond_by p t (Ok ((es, true), s)) z fs is z_is one =
       let same = rw z_is at one in
-      beyond_kept p es s is ∙ ap (λ (u : State). first_fault_from edition B (p + u.at)) same.0
+      first_fault_after_kept p es s is ∙ ap (λ (u : State). first_fault_from edition B (p + u.at)) same.0
   beyond_by p t (Ok ((es, false), s)) z fs is z_is one = let same = rw z_is at one in let no : false ≡ true = same.1 in
       absurd cc
   beyond_by p t (Err e) z fs is z_is one = let same = rw z_is at one in absurd same
 
-  pub beyond : (p : ℕ) (t : State) (fs : Row AnEntry) → line_from edition B Nothing false p ≡ Ok ((fs, true), t) →
+  pub first_fault_after : (p : ℕ) (t : State) (fs : Row AnEntry) →
+      line_from edition B Nothing false p ≡ Ok ((fs, true), t) →
       first_fault_from edition B p ≡ first_fault_from edition B (p + t.at)
-  beyond p t fs is = beyond_by p t (line_from edition B Whole false p) (line_from edition B Nothing false p) fs refl is
+  first_fault_after p t fs is =
+      beyond_by p t (line_from edition B Whole false p) (line_from edition B Nothing false p) fs refl is
       (like false p)
 
   -- the last line, without fault
@@ -86,9 +89,10 @@ module _ (edition : Edition) (B : List ℕ) where
       absurd cc
   nowhere_by p t (Err e) z fs is z_is one = let same = rw z_is at one in absurd same
 
-  pub nowhere : (p : ℕ) (t : State) (fs : Row AnEntry) → line_from edition B Nothing false p ≡ Ok ((fs, false), t) →
+  pub no_first_fault : (p : ℕ) (t : State) (fs : Row AnEntry) →
+      line_from edition B Nothing false p ≡ Ok ((fs, false), t) →
       first_fault_from edition B p ≡ None
-  nowhere p t fs is = nowhere_by p t (line_from edition B Whole false p)
+  no_first_fault p t fs is = nowhere_by p t (line_from edition B Whole false p)
       (line_from edition B Nothing false p) fs refl is (like false p)
 
   -- a line with a fault
@@ -100,11 +104,13 @@ module _ (edition : Edition) (B : List ℕ) where
       let same = rw z_is at one in
       ap (λ (y : AScript). y.fault) (line_faulty edition B nothing_yet p false refl e is) ∙ ap Some same
 
-  pub here : (p : ℕ) (f : Fault) → line_from edition B Nothing false p ≡ Err f → first_fault_from edition B p ≡ Some f
-  here p f is = here_by p f (line_from edition B Whole false p) (line_from edition B Nothing false p) refl is
+  pub first_fault_here : (p : ℕ) (f : Fault) → line_from edition B Nothing false p ≡ Err f →
+      first_fault_from edition B p ≡ Some f
+  first_fault_here p f is = here_by p f (line_from edition B Whole false p)
+      (line_from edition B Nothing false p) refl is
       (like false p)
 
   -- and it stands at most at the end of the script
-  pub here_within : (p : ℕ) (f : Fault) → p ≤ length B → line_from edition B Nothing false p ≡ Err f →
+  pub first_fault_here_within : (p : ℕ) (f : Fault) → p ≤ length B → line_from edition B Nothing false p ≡ Err f →
       f.at ≤ p + length (drop p B) → (first_fault_from edition B p ≡ Some f) × (f.at ≤ length B)
-  here_within p f within is high = (here p f is, omega (arith, high, within, length-drop p B))
+  first_fault_here_within p f within is high = (first_fault_here p f is, omega (arith, high, within, length-drop p B))

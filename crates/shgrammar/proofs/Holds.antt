@@ -1,7 +1,7 @@
 -- What holds of whatever a form gives: the laws of forms, and that no form goes back.
 use Rattle.std.proofs.Common.{◌≡◌, ℕ, zero, suc, ◌-◌, ◌≤◌, ◌<◌, Bool, true, false, cond, Result, Ok, Err, List, List as Row, [], ◌∷◌, ◌++◌, length, refl, subst, arith}
 use Rattle.std.proofs.lemmas.Bool.{ltb-true, cond_both}
-use Rattle.shgrammar.specs.Characters.{number_sign}
+use Rattle.shgrammar.specs.Characters.{apostrophe, number_sign}
 use Rattle.shgrammar.specs.declared.keep.Keep.TheVariants.{Whole}
 use Rattle.shgrammar.specs.declared.keep.Keep.{Keep}
 use Rattle.shgrammar.specs.declared.fault.FaultKind.{FaultKind}
@@ -289,7 +289,7 @@ move_low continuations T p = place_low T p
 move_low one_taken T p = omega (arith, taken_low T p)
 move_low (the_closer mode) T p = closer_low mode T p
 move_low the_parameter T p = parameter_low T p
-move_low a_quote_on T p = next_of_low 39 T p
+move_low a_quote_on T p = next_of_low apostrophe T p
 move_low (escaped_on how) T p = next_escaped_low how T p
 move_low blanks T p = blanks_low T p
 move_low a_comment_on T p = comment_low T p

@@ -13,7 +13,7 @@ use Rattle.shgrammar.specs.Lines.{ALine, IsLine, kind_of}
 use Rattle.shgrammar.specs.Scripts.{AScript, Outcome, LinesSoFar, as_line, is_blank_line, line_from, line_of_text, line_told, nothing_yet, script_at, script_on, the_line, with_line}
 use Rattle.shgrammar.specs.Moved.{Same}
 use Rattle.shgrammar.specs.Joined.{AreLines, blanked, has_entry, lines_joined, line_joined_by, last_of, more_of}
-use Rattle.shgrammar.proofs.Lined.{line_faulty, line_last, line_more, nothing}
+use Rattle.shgrammar.proofs.Lined.{line_faulty, line_last, line_more, line_at_end}
 use Rattle.shgrammar.proofs.MovedLine.{line_moved}
 use Rattle.shgrammar.proofs.Scripts.{line_only, script_is}
 use Rattle.shgrammar.specs.declared.edition.Edition.{Edition}
@@ -52,7 +52,7 @@ module _ (edition : Edition) (B : List ℕ) where
   at_end so p le =
       line_last edition B so p (is_blank_line so) refl [] (standing 0) (with_line so [])
       (ap (λ T. does (the_line (is_blank_line so)) Whole (given edition T p) (standing 0)) (drop_all p B le)
-      ∙ nothing edition (is_blank_line so) Whole p) refl
+      ∙ line_at_end edition (is_blank_line so) Whole p) refl
       ∙ ap (λ es. record { entries = entries_of es; fault = None }) (append-nil so.entries)
 
   -- ---- one line

@@ -20,11 +20,11 @@ use Rattle.shgrammar.specs.Words.{Inner}
 use Rattle.shgrammar.specs.Commands.{is_empty, pick, next_token, is_newline_token, is_semicolon, a_semicolon, a_join_of, comment_by, a_comment, a_newline, unexpected, JoinSoFar, join_so_far, with_comment, join_turn, a_join, separator_of, separator_by, a_separator, is_background, ASeparator, past_separator}
 use Rattle.shgrammar.specs.Compounds.{a_linebreak}
 use Rattle.shgrammar.proofs.Holds.{Holds, move_low}
-use Rattle.shgrammar.proofs.Within.{before_blanks_low}
+use Rattle.shgrammar.proofs.NodesInLimit.{before_blanks_low}
 use Rattle.shgrammar.proofs.Alike.{SameStep}
 use Rattle.shgrammar.proofs.Ahead.{ListEnds, same_next}
-use Rattle.shgrammar.proofs.Asked.{Good, high, comment_end, same_raw_stands}
-use Rattle.shgrammar.proofs.GoingOn.{go_bodies, over, Back, good, Found, Goes, go_give, go_push, go_see, go_move, go_then, go_so, go_stopped, go_pick, go_at, go_token, go_many, same_texts}
+use Rattle.shgrammar.proofs.Asked.{Good, good_high, comment_end, same_raw_stands}
+use Rattle.shgrammar.proofs.FormsElsewhere.{go_bodies, over, Back, each_form_back, Found, Goes, go_give, go_push, go_see, go_move, go_then, go_so, go_stopped, go_pick, go_at, go_token, go_many, same_texts}
 use Rattle.shgrammar.proofs.AlikeCommands.{both_broken}
 use Rattle.shgrammar.specs.declared.edition.Edition.{Edition}
 use Rattle.shgrammar.specs.Tokens.{next_in}
@@ -107,7 +107,7 @@ SameSeparator x y = (is_background x.0 ≡ is_background y.0)
 
 -- ---- the laws of forms
 
--- Those of `GoingOn`, with the texts and the places that they speak of left to be inferred.
+-- Those of `FormsElsewhere`, with the texts and the places that they speak of left to be inferred.
 
 module _ {edition : Edition} {T U : List ℕ} {a M : ℕ} {to : ℕ → ℕ} {limit : ℕ}
     {E : ListEnds edition T U a M to limit} {o o2 : ℕ} {B B2 : List ℕ} {stands : T ≡ drop o B}
@@ -170,10 +170,10 @@ module _ {edition : Edition} {T U : List ℕ} {a M : ℕ} {to : ℕ → ℕ} {li
   stopped inner n = go_stopped E o o2 B B2 stands stands_there
 
   -- the token after blanks is the same there
-  pub next : (position : Position) → Goes E o o2 B B2 stands stands_there (λ n m. n ≡ m) (next_token position)
+  pub next_same : (position : Position) → Goes E o o2 B B2 stands stands_there (λ n m. n ≡ m) (next_token position)
       (next_token position)
   unfolding next_token
-  next position = then (go_see E o o2 B B2 stands stands_there
+  next_same position = then (go_see E o o2 B B2 stands stands_there
       (λ s from e. ap (next_in edition) (same_next E position e))) (λ n m same. then moves_on (λ x y all. gives same))
 
 -- ---- comments
@@ -205,7 +205,7 @@ module _ {edition : Edition} {T U : List ℕ} {a M : ℕ} {to : ℕ → ℕ} {li
   -- after a comment of the same text the same token is read in both texts
   comment_after : (n : Next) (c d : Span) → text_at B c ≡ text_at B2 d →
       Goes2 (SameRemark B B2) (comment_by n (Some c)) (comment_by n (Some d))
-  comment_after n c d same = then moves_on (λ x y all. then (next Command) (λ m k so. gives (ap Some same, so)))
+  comment_after n c d same = then moves_on (λ x y all. then (next_same Command) (λ m k so. gives (ap Some same, so)))
 
   module _ (n : Next) (s : State) (from : a ≤ s.at) where
     -- the place of the reading, and that the second text has the same comment there, or none
@@ -227,7 +227,7 @@ module _ {edition : Edition} {T U : List ℕ} {a M : ℕ} {to : ℕ → ℕ} {li
     none_there : comment_at T o p ≡ None → FoundThere (None, n) s
     unfolding a_comment comment_at
     none_there is = λ e. let none = no_comment (raw_stands T p number_sign) refl is in
-        ((None, n), (rw (same_raw_stands E p number_sign from (high E e), none) refl, (refl, refl)))
+        ((None, n), (rw (same_raw_stands E p number_sign from (good_high E e), none) refl, (refl, refl)))
 
     -- where a comment is told a `#` stands, and the comment goes to the end of the line but for blanks
     hash_there : (b : Bool) → raw_stands T p number_sign ≡ b → (c : Span) → comment_at T o p ≡ Some c →
@@ -267,14 +267,14 @@ module _ {edition : Edition} {T U : List ℕ} {a M : ℕ} {to : ℕ → ℕ} {li
       unfolding a_comment
       some_there (Ok (x, t)) at back back_on =
           λ e. let here = back.1 e in
-          let near = high E (subst (λ (q : ℕ). G q) (past_is hash.0) (back_on.1 e)) in
+          let near = good_high E (subst (λ (q : ℕ). G q) (past_is hash.0) (back_on.1 e)) in
           let w = comment_end E p here hash.0 near in
           let d = span o2 (to p) (before_blanks U (next_newline U (to p))) in
           let text : text_at B c ≡ text_at B2 d = ap (text_at B) (sym hash.1)
           ∙ same_texts E o o2 B B2 stands stands_there p (before_blanks T (next_newline T p)) from
           (omega (arith, from, w.1)) (blanks_near (next_newline T p) near)
           ∙ ap (λ (q : ℕ). text_at B2 (span o2 (to p) q)) (sym w.0) in
-          let there = comment_is (same_raw_stands E p number_sign from (high E here) ∙ hash.0) in
+          let there = comment_is (same_raw_stands E p number_sign from (good_high E here) ∙ hash.0) in
           let m = subst (Holds (Found E o o2 B B2 stands stands_there (SameRemark B B2) (comment_by n (Some d)) s)) at
           ((comment_after n c d text).go s from) e in (
             m.0,
@@ -294,8 +294,8 @@ module _ {edition : Edition} {T U : List ℕ} {a M : ℕ} {to : ℕ → ℕ} {li
     comment_there None is = none_there is
     comment_there (Some c) is =
         some_there c is (does (comment_by n (Some c)) Whole g s) refl
-        (good E o o2 B B2 stands stands_there (comment_by n (Some c)) s from).told
-        (good E o o2 B B2 stands stands_there (next_token Command >>= λ m. give (Some c, m)) (on c is)
+        (each_form_back E o o2 B B2 stands stands_there (comment_by n (Some c)) s from).told
+        (each_form_back E o o2 B B2 stands stands_there (next_token Command >>= λ m. give (Some c, m)) (on c is)
         (omega (arith, from, move_low a_comment_on T p))).told
 
   -- a comment of the same text is read in both texts, or none in both
@@ -316,44 +316,47 @@ module _ {edition : Edition} {T U : List ℕ} {a M : ℕ} {to : ℕ → ℕ} {li
   -- Newlines, with the bodies after them, separators and joins: as many, with the same comments.
 
   -- a newline, with the bodies after it, or a `;` stands in both texts, or in none
-  pub newline : (n m : Next) → n ≡ m → Goes E o o2 B B2 stands stands_there (λ x y. x ≡ y) (a_newline n) (a_newline m)
+  pub newline_same : (n m : Next) → n ≡ m →
+      Goes E o o2 B B2 stands stands_there (λ x y. x ≡ y) (a_newline n) (a_newline m)
   unfolding a_newline
-  newline n m same = at_same a_newline a_newline one n m same
+  newline_same n m same = at_same a_newline a_newline newline_both n m same
     where
-      one : (n : Next) → Goes E o o2 B B2 stands stands_there (λ x y. x ≡ y) (a_newline n) (a_newline n)
-      one n =
+      newline_both : (n : Next) → Goes E o o2 B B2 stands stands_there (λ x y. x ≡ y) (a_newline n) (a_newline n)
+      newline_both n =
           picks (is_newline_token n.token) _ refl
           (then moves_on (λ x y all.
           then (go_bodies E o o2 B B2 stands stands_there)
-          (λ u v any. then (next Command) (λ m k same. gives (ap (λ z. (true, z)) same))))) (gives refl)
+          (λ u v any. then (next_same Command) (λ m k same. gives (ap (λ z. (true, z)) same))))) (gives refl)
 
-  pub semicolon : (n m : Next) → n ≡ m → Goes E o o2 B B2 stands stands_there (λ x y. x ≡ y) (a_semicolon n)
+  pub semicolon_same : (n m : Next) → n ≡ m → Goes E o o2 B B2 stands stands_there (λ x y. x ≡ y) (a_semicolon n)
       (a_semicolon m)
   unfolding a_semicolon
-  semicolon n m same = at_same a_semicolon a_semicolon one n m same
+  semicolon_same n m same = at_same a_semicolon a_semicolon semicolon_both n m same
     where
-      one : (n : Next) → Goes E o o2 B B2 stands stands_there (λ x y. x ≡ y) (a_semicolon n) (a_semicolon n)
-      one n = picks (is_semicolon n.token) _ refl
-          (then moves_on (λ x y all. then (next Command) (λ m k same. gives (ap (λ z. (true, z)) same)))) (gives refl)
+      semicolon_both : (n : Next) → Goes E o o2 B B2 stands stands_there (λ x y. x ≡ y) (a_semicolon n) (a_semicolon n)
+      semicolon_both n = picks (is_semicolon n.token) _ refl
+          (then moves_on (λ x y all. then (next_same Command) (λ m k same. gives (ap (λ z. (true, z)) same))))
+          (gives refl)
 
   -- a separator of the same kind is read in both texts, or none in both
   separator_by_same : (n : Next) (s : Option Separator) →
       Goes E o o2 B B2 stands stands_there SameSeparator (separator_by n s) (separator_by n s)
   separator_by_same n (Some s) =
-      then marks (λ x y all. then (next Command) (λ m k same. gives (same_kind s x.1.«end» y.1.«end», (refl, same))))
+      then marks (λ x y all. then (next_same Command)
+      (λ m k same. gives (same_kind s x.1.«end» y.1.«end», (refl, same))))
     where
       same_kind : (s : Separator) (p q : ℕ) → is_background (Some (s, p)) ≡ is_background (Some (s, q))
       same_kind Semicolon p q = refl
       same_kind Ampersand p q = refl
   separator_by_same n None = gives (refl, (refl, refl))
 
-  pub separator : (n m : Next) → n ≡ m → Goes E o o2 B B2 stands stands_there SameSeparator (a_separator n)
+  pub separator_same : (n m : Next) → n ≡ m → Goes E o o2 B B2 stands stands_there SameSeparator (a_separator n)
       (a_separator m)
   unfolding a_separator
-  separator n m same = at_same a_separator a_separator one n m same
+  separator_same n m same = at_same a_separator a_separator separator_both n m same
     where
-      one : (n : Next) → Goes E o o2 B B2 stands stands_there SameSeparator (a_separator n) (a_separator n)
-      one n = separator_by_same n (separator_of n.token)
+      separator_both : (n : Next) → Goes E o o2 B B2 stands stands_there SameSeparator (a_separator n) (a_separator n)
+      separator_both n = separator_by_same n (separator_of n.token)
 
   -- comments of the same texts are so with one more, or none
   kept : (cs ds : Row Span) (c d : Option Span) → SameComments B B2 cs ds → SameText B B2 c d →
@@ -370,20 +373,20 @@ module _ {edition : Edition} {T U : List ℕ} {a M : ℕ} {to : ℕ → ℕ} {li
   join_on j k same =
       then (comment_at_same j.next k.next same.1.1)
       (λ c d so. then (kept j.join.comments k.join.comments c.0 d.0 same.1.0 so.0)
-      (λ cs ds all. then (newline c.1 d.1 so.1)
+      (λ cs ds all. then (newline_same c.1 d.1 so.1)
       (λ l m is. gives (join_steps B B2 l m is _ _
       (or_same B B2 j.join.broken k.join.broken c.0 d.0 same.0 so.0) cs ds all))))
 
-  pub join : (broken pale : Bool) → broken ≡ pale →
+  pub join_same : (broken pale : Bool) → broken ≡ pale →
       Goes E o o2 B B2 stands stands_there (SameJoined B B2) (a_join broken) (a_join pale)
   unfolding a_join
-  join broken pale is =
-      then (next Command) (λ n m same.
+  join_same broken pale is =
+      then (next_same Command) (λ n m same.
       then (repeats (SameJoin B B2) join_turn join_turn join_on _ _ (both_broken broken pale n m is same, (refl, same)))
       (λ j k so. gives (joins_same B B2 j k so)))
 
   -- newlines and comments are read in both texts, after comments of the same texts
-  pub linebreak : (cs ds : Row Span) (n m : Next) → SameComments B B2 cs ds → n ≡ m →
+  pub linebreak_same : (cs ds : Row Span) (n m : Next) → SameComments B B2 cs ds → n ≡ m →
       Goes E o o2 B B2 stands stands_there (SameJoin B B2) (a_linebreak cs n) (a_linebreak ds m)
   unfolding a_linebreak
-  linebreak cs ds n m all same = repeats (SameJoin B B2) join_turn join_turn join_on _ _ (refl, (all, same))
+  linebreak_same cs ds n m all same = repeats (SameJoin B B2) join_turn join_turn join_on _ _ (refl, (all, same))

@@ -22,20 +22,21 @@ pub mod Asked
 pub mod SameBytes
 pub mod NoFurther
 pub mod SameLine
--- a word, and what it holds, is read wherever its bytes stand
-pub mod Inside
-pub mod PiecesInside
-pub mod GoingOn
+-- what ends by a limit, or before the `)` of its list: in each text with the same bytes up to there
+pub mod EndsByLimit
+pub mod PiecesElsewhere
+pub mod FormsElsewhere
 pub mod JoinsElsewhere
 pub mod CommandsElsewhere
 pub mod ListsElsewhere
-pub mod WordsElsewhere
-pub mod Anywhere
-pub mod Elsewhere
+-- a word, what it holds, a name and a comment are read wherever their bytes stand
+pub mod LevelsAnywhere
+pub mod WordsAnywhere
+pub mod ItemsAnywhere
 pub mod WordsWithin
 pub mod WordsWaiting
 pub mod NamesBefore
-pub mod CommentsElsewhere
+pub mod CommentsAnywhere
 -- here-documents: their delimiters, where their bodies end, and bodies that stand elsewhere
 pub mod HereDocuments
 pub mod Delimiters
@@ -64,10 +65,10 @@ pub mod LineInPiece
 -- what was read names no offset past the place where the reading stands then: spans, nodes and bodies
 pub mod UpToLimit
 pub mod EachSpan
-pub mod ListsEverywhere
-pub mod Everywhere
-pub mod Within
-pub mod BodiesHeld
+pub mod SpansOfLists
+pub mod SpansInLimit
+pub mod NodesInLimit
+pub mod BodiesInLimit
 -- the tokens passed are those that the shape of the tree spells
 pub mod Spelling
 pub mod SpelledCommands

@@ -16,7 +16,7 @@ use Rattle.shast.specs.Moved.{blanked_row, body_by, carried_entry, moved_entry, 
 use Rattle.shgrammar.specs.Scripts.{line_from, line_told, the_line}
 use Rattle.shgrammar.specs.Sights.{State, given, standing}
 use Rattle.shgrammar.proofs.EachSpan.{throughout_so}
-use Rattle.shgrammar.proofs.Everywhere.{line_throughout}
+use Rattle.shgrammar.proofs.SpansInLimit.{line_throughout}
 use Rattle.shgrammar.proofs.MovedLine.{line_moved, line_outer}
 use Rattle.shgrammar.proofs.ShapeMoved.{SameText, entry_same}
 use Rattle.shgrammar.specs.declared.edition.Edition.{Edition}

@@ -91,12 +91,12 @@ line_ended_low inner blank keep g s =
     (λ l t so. tells_give keep g so)
 
 -- at the end of the text there is none
-pub nothing : (edition : Edition) → (blank : Bool) (keep : Keep) (o : ℕ) →
+pub line_at_end : (edition : Edition) → (blank : Bool) (keep : Keep) (o : ℕ) →
     does (the_line blank) keep (given edition [] o) (standing 0) ≡ Ok (([], false), standing 0)
 unfolding a_line an_open_line nothing_waits filled_row next_token on_line many turns turns_below entry_turn a_remark
     a_comment end_of_line token_at comment_at raw_stands past count_front past_blanks past_continuations count_joined
     past_below
-nothing edition blank keep o = refl
+line_at_end edition blank keep o = refl
 
 -- a line that a newline ended is no line that the text ended
 flag : Read (Row AnEntry × Bool) → Bool
@@ -114,7 +114,7 @@ some_text : (edition : Edition) → (B : List ℕ) (keep : Keep) (blank : Bool) 
 some_text edition B keep blank p es t is =
     ⊎_elim (λ lt. lt)
     (λ ge. clash es t (standing 0)
-    (sym (nothing edition blank keep p)
+    (sym (line_at_end edition blank keep p)
     ∙ ap (λ T. does (the_line blank) keep (given edition T p) (standing 0)) (sym (drop_all p B ge)) ∙ is))
     (cases_lt p (length B))
 

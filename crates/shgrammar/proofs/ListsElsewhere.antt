@@ -20,10 +20,10 @@ use Rattle.shgrammar.specs.Lists.{Listed, ListSoFar, list_so_far, none_listed, i
 use Rattle.shgrammar.specs.Compounds.{is_closing, is_open_paren, is_close_paren, reserved_or_paren, closing, Closed, a_branch, BranchesSoFar, branches_so_far, elif_turn, an_else, an_if, a_loop, a_group, a_for_name, a_sequential_sep, Headed, word_turn, for_words, a_for_head, after_remarks, a_for, a_form, held_apart, a_compound, under_name, a_function, a_case_word, begins_pattern, PatternsSoFar, a_pattern, one_pattern, pattern_turn, a_pattern_list, an_open_bracket, a_body, ItemEnd, an_ender, an_item_end, CasesSoFar, cases_so_far, one_case, case_turn, a_case_head, a_case}
 use Rattle.shgrammar.proofs.Alike.{SameStep}
 use Rattle.shgrammar.proofs.Ahead.{ListEnds, same_name}
-use Rattle.shgrammar.proofs.GoingOn.{Goes, go_see, go_any, go_stop}
+use Rattle.shgrammar.proofs.FormsElsewhere.{Goes, go_see, go_any, go_stop}
 use Rattle.shgrammar.specs.declared.edition.Edition.{Edition}
-use Rattle.shgrammar.proofs.JoinsElsewhere.{rows_more, rows_empty, SameText, SameRemark, SameComments, SameJoin, gives, pushes, then, moves_on, picks, at_same, marks, two_marks, repeats, next, comment_at_same, newline, semicolon, linebreak, stopped}
-use Rattle.shgrammar.proofs.CommandsElsewhere.{SameWord, SameCommand, SameItems, items_same, Fine, one_item, compound_by_same, entry_same}
+use Rattle.shgrammar.proofs.JoinsElsewhere.{rows_more, rows_empty, SameText, SameRemark, SameComments, SameJoin, gives, pushes, then, moves_on, picks, at_same, marks, two_marks, repeats, next_same, comment_at_same, newline_same, semicolon_same, linebreak_same, stopped}
+use Rattle.shgrammar.proofs.CommandsElsewhere.{SameWord, SameCommand, SameItems, items_same, InnerElsewhere, one_item, compound_by_same, entry_same}
 
 -- ---- rows of the same shapes
 
@@ -66,7 +66,7 @@ module _ (B B2 : List ℕ) where
 module _ {edition : Edition} {T U : List ℕ} {a M : ℕ} {to : ℕ → ℕ} {limit : ℕ}
     {E : ListEnds edition T U a M to limit} {o o2 : ℕ} {B B2 : List ℕ} {stands : T ≡ drop o B}
     {stands_there : U ≡ drop o2 B2}
-    {inner : Inner} (fine : Fine E o o2 B B2 stands stands_there inner) where
+    {inner : Inner} (fine : InnerElsewhere E o o2 B B2 stands stands_there inner) where
   -- what r reads up to a good place q reads in the other text, and S holds of the two
   abbrev Goes2 : {X Y : Type 0} → (X → Y → Type 0) → Form X → Form Y → Type 0
   Goes2 S r q = Goes E o o2 B B2 stands stands_there S r q
@@ -151,15 +151,15 @@ module _ {edition : Edition} {T U : List ℕ} {a M : ℕ} {to : ℕ → ℕ} {li
       Goes2 (SameStep (SameList B B2)) (list_turn inner l) (list_turn inner m)
   unfolding list_turn
   line_on l m same =
-      then (on_line_same l m same) (λ j k so. then (newline j.next k.next so.1)
+      then (on_line_same l m same) (λ j k so. then (newline_same j.next k.next so.1)
       (λ x y is. gives (list_step x.0 y.0 (list_so_far (next_line j.list) x.1) (list_so_far (next_line k.list) y.1)
       (ap (λ (z : Bool × Next). z.0) is) (lines_same j.list k.list so.0, ap (λ (z : Bool × Next). z.1) is))))
 
   -- what stands before the end of a list is read the same in both texts
-  pub lines : (n m : Next) → n ≡ m →
+  pub all_lines_same : (n m : Next) → n ≡ m →
       Goes2 (SameList B B2) (many (list_turn inner) (list_so_far (none_listed false) n))
       (many (list_turn inner) (list_so_far (none_listed false) m))
-  lines n m same = repeats (SameList B B2) (list_turn inner) (list_turn inner) line_on _ _
+  all_lines_same n m same = repeats (SameList B B2) (list_turn inner) (list_turn inner) line_on _ _
       ((refl, (refl, (refl, refl))), same)
 
   -- two lists have the same shape, and the same token stands after them
@@ -169,7 +169,7 @@ module _ {edition : Edition} {T U : List ℕ} {a M : ℕ} {to : ℕ → ℕ} {li
   -- a list is read with the same shape in both texts; it has a command in both or in neither
   list_same : (n m : Next) → n ≡ m → Goes2 SameEnd (a_list inner n) (a_list inner m)
   unfolding a_list
-  list_same n m same = then (lines n m same)
+  list_same n m same = then (all_lines_same n m same)
       (λ l k so. picks _ _ so.0.1.1.1 (gives (list_shape B B2 l k so, so.1)) (stopped inner l.next))
 
   -- ---- compound commands
@@ -180,7 +180,8 @@ module _ {edition : Edition} {T U : List ℕ} {a M : ℕ} {to : ℕ → ℕ} {li
   reserved_or_paren_same : (text : Spelled) (paren : Bool) (position : Position) →
       Goes2 (λ x y. x.1 ≡ y.1) (reserved_or_paren text paren position) (reserved_or_paren text paren position)
   unfolding reserved_or_paren
-  reserved_or_paren_same text paren position = then marks (λ x y all. then (next position) (λ n m same. gives same))
+  reserved_or_paren_same text paren position =
+      then marks (λ x y all. then (next_same position) (λ n m same. gives same))
 
   closing_same : (c : Closing) (n m : Next) → n ≡ m → Goes2 (λ x y. x.1 ≡ y.1) (closing inner c n) (closing inner c m)
   unfolding closing
@@ -270,7 +271,7 @@ module _ {edition : Edition} {T U : List ℕ} {a M : ℕ} {to : ℕ → ℕ} {li
       (then (go_any E o o2 B B2 stands stands_there {l = here})
       (λ p q all. then (go_see E o o2 B B2 stands stands_there {l = is_a_name} (λ s from e. same_name E e))
       (λ good fine_too is. then fine.word
-      (λ w v so. picks good fine_too is (then (next Command) (λ m k same. gives (so, same)))
+      (λ w v so. picks good fine_too is (then (next_same Command) (λ m k same. gives (so, same)))
       (go_stop E o o2 B B2 stands stands_there)))))
       (stopped inner n)
 
@@ -279,7 +280,8 @@ module _ {edition : Edition} {T U : List ℕ} {a M : ℕ} {to : ℕ → ℕ} {li
       Goes2 (SameJoin B B2) (a_sequential_sep inner cs n) (a_sequential_sep inner ds m)
   unfolding a_sequential_sep
   sequential_sep_same cs ds n m all same =
-      then (semicolon n m same) (λ s z so. then (linebreak cs ds s.1 z.1 all (ap (λ (x : Bool × Next). x.1) so))
+      then (semicolon_same n m same)
+      (λ s z so. then (linebreak_same cs ds s.1 z.1 all (ap (λ (x : Bool × Next). x.1) so))
       (λ l k is. picks (s.0 || l.join.broken) (z.0 || k.join.broken) (rw (so, is.0) refl) (gives is)
       (stopped inner l.next)))
 
@@ -310,7 +312,8 @@ module _ {edition : Edition} {T U : List ℕ} {a M : ℕ} {to : ℕ → ℕ} {li
   for_head_same : (n m : Next) → n ≡ m → Goes2 SameHead (a_for_head inner n) (a_for_head inner m)
   unfolding a_for_head
   for_head_same n m same =
-      then (semicolon n m same) (λ s z so. then (linebreak [] [] s.1 z.1 refl (ap (λ (x : Bool × Next). x.1) so))
+      then (semicolon_same n m same)
+      (λ s z so. then (linebreak_same [] [] s.1 z.1 refl (ap (λ (x : Bool × Next). x.1) so))
       (λ l k is. picks (not s.0 && is_closing closings.In l.next.token)
       (not z.0 && is_closing closings.In k.next.token) (rw (so, is.1.1) refl)
       (for_words_same l.join.comments k.join.comments is.1.0) (gives (refl, is.1))))
@@ -348,7 +351,7 @@ module _ {edition : Edition} {T U : List ℕ} {a M : ℕ} {to : ℕ → ℕ} {li
       Goes2 (λ x y. SameWord B B2 x.0 y.0 × (x.1 ≡ y.1)) (a_case_word inner n) (a_case_word inner n)
   unfolding a_case_word
   case_word_same n = picks (begins_word n.token) _ refl
-      (then fine.word (λ w v so. then (next Command) (λ m k same. gives (so, same)))) (stopped inner n)
+      (then fine.word (λ w v so. then (next_same Command) (λ m k same. gives (so, same)))) (stopped inner n)
 
   -- two rows of patterns have the same shapes, and the same token stands after them
   abbrev SameWords : Row AWord → Row AWord → Type 0
@@ -363,13 +366,13 @@ module _ {edition : Edition} {T U : List ℕ} {a M : ℕ} {to : ℕ → ℕ} {li
   pattern_same ws vs same =
       then fine.word (λ w v so. then
       (pushes {S = SameWords} (rows_more (shape_of_word B) (shape_of_word B2) ws w vs v same so))
-      (λ xs ys all. then (next Suffix) (λ n m is. gives (all, is))))
+      (λ xs ys all. then (next_same Suffix) (λ n m is. gives (all, is))))
 
   one_more_pattern : (ws vs : Row AWord) → SameWords ws vs →
       Goes2 (SameStep SamePatterns) (one_pattern inner ws) (one_pattern inner vs)
   unfolding one_pattern
   one_more_pattern ws vs same =
-      then marks (λ x y all. then (next Suffix)
+      then marks (λ x y all. then (next_same Suffix)
       (λ n m is. picks _ _ (ap (λ (k : Next). begins_word k.token) is)
       (then (pattern_same ws vs same) (λ p q so. gives so)) (stopped inner n)))
 
@@ -390,7 +393,8 @@ module _ {edition : Edition} {T U : List ℕ} {a M : ℕ} {to : ℕ → ℕ} {li
   -- the `(` before patterns is read in both texts, or none, with the same token after it
   open_same : (n m : Next) → n ≡ m → Goes2 (λ x y. x ≡ y) (an_open_bracket n) (an_open_bracket m)
   unfolding an_open_bracket
-  open_same n m same = picks _ _ (ap (λ (k : Next). is_paren k.token) same) (then moves_on (λ x y all. next Command))
+  open_same n m same = picks _ _ (ap (λ (k : Next). is_paren k.token) same)
+      (then moves_on (λ x y all. next_same Command))
       (gives same)
 
   -- the ends of two items have comments of the same texts and the same token after them; their
@@ -403,7 +407,8 @@ module _ {edition : Edition} {T U : List ℕ} {a M : ℕ} {to : ℕ → ℕ} {li
   unfolding an_ender
   ender_same b =
       then two_marks (λ x y all. then (go_any E o o2 B B2 stands stands_there {l = here})
-      (λ p q any. then (next Command) (λ n m same. then (linebreak [] [] n m refl same) (λ l k so. gives so.1))))
+      (λ p q any. then (next_same Command)
+      (λ n m same. then (linebreak_same [] [] n m refl same) (λ l k so. gives so.1))))
 
   item_end_same : (p q : ℕ) (n m : Next) → n ≡ m → Goes2 SameItemEnd (an_item_end inner p n) (an_item_end inner q m)
   unfolding an_item_end
@@ -433,7 +438,7 @@ module _ {edition : Edition} {T U : List ℕ} {a M : ℕ} {to : ℕ → ℕ} {li
   one_more_case c d same =
       then (go_any E o o2 B B2 stands stands_there {l = here})
       (λ s z any. then (open_same c.next d.next same.1.1) (λ n m is. then (pattern_list_same n m is)
-      (λ p q so. then (closing_same closings.Paren p.next q.next so.1) (λ x y after. then (lines x.1 y.1 after)
+      (λ p q so. then (closing_same closings.Paren p.next q.next so.1) (λ x y after. then (all_lines_same x.1 y.1 after)
       (λ l k body. then (item_end_same _ _ l.next k.next body.1) (λ e f ended.
       then (pushes {S = λ is js. map (shape_of_case B) is ≡ map (shape_of_case B2) js}
       (rows_more (shape_of_case B) (shape_of_case B2) c.items _ d.items _ same.0
@@ -455,8 +460,8 @@ module _ {edition : Edition} {T U : List ℕ} {a M : ℕ} {to : ℕ → ℕ} {li
   unfolding a_case_head
   case_head_same n =
       then (case_word_same n) (λ w v one.
-      then (linebreak [] [] w.1 v.1 refl one.1) (λ l k two. then (closing_same closings.In l.next k.next two.1.1)
-      (λ i j three. then (linebreak l.join.comments k.join.comments i.1 j.1 two.1.0 three)
+      then (linebreak_same [] [] w.1 v.1 refl one.1) (λ l k two. then (closing_same closings.In l.next k.next two.1.1)
+      (λ i j three. then (linebreak_same l.join.comments k.join.comments i.1 j.1 two.1.0 three)
       (λ h m so. gives (one.0, so.1)))))
 
   -- the whole of `case` is read with the same shape in both texts
@@ -534,7 +539,7 @@ module _ {edition : Edition} {T U : List ℕ} {a M : ℕ} {to : ℕ → ℕ} {li
   unfolding a_function
   function_same name new same =
       then (reserved_or_paren_same _ true Command)
-      (λ x y so. then (closing_same closings.Paren x.1 y.1 so) (λ c d one. then (linebreak [] [] c.1 d.1 refl one)
+      (λ x y so. then (closing_same closings.Paren x.1 y.1 so) (λ c d one. then (linebreak_same [] [] c.1 d.1 refl one)
       (λ l k two. then (at_same the_body the_body (λ n. compound_by_same fine n (opener_of n.token)) l.next k.next
       two.1.1)
       (λ b e three. gives (

@@ -25,7 +25,7 @@ use Rattle.shgrammar.specs.Moved.{moved_fault, moved_waiting, moved_state}
 use Rattle.shgrammar.specs.Commands.{pick}
 use Rattle.shgrammar.proofs.Turns.{turns_on, turns_rest, turns_done, turns_fault, Stepped}
 use Rattle.shgrammar.proofs.Places.{next_newline_low}
-use Rattle.shgrammar.proofs.Delimiters.{between}
+use Rattle.shgrammar.proofs.Delimiters.{delimiter_between}
 use Rattle.shgrammar.specs.declared.edition.Edition.{Edition}
 
 -- a text, the offset of its first byte, and how much further it stands the other time
@@ -67,8 +67,8 @@ same x = x
 abbrev pub each : {X Y : Type 0} → (X → X) → (Y → Y) → X × Y → X × Y
 each c d x = (c x.0, d x.1)
 
-abbrev pub first : {X Y : Type 0} → (X → X) → X × Y → X × Y
-first c x = (c x.0, x.1)
+abbrev pub on_first : {X Y : Type 0} → (X → X) → X × Y → X × Y
+on_first c x = (c x.0, x.1)
 
 abbrev pub of_first : {X Y : Type 0} → (X → Type 0) → X × Y → Type 0
 of_first P x = P x.0
@@ -273,7 +273,7 @@ moves_token {z = z} {c = c} {P = P} {r = r} {q = q} one =
 
 -- what is read, with the same bytes
 bytes_like : {X : Type 0} (T : List ℕ) (k : ℕ) (c : X → X) (P : X → Type 0) (s : State) (x y : Read X) → Like k c P x y
-    → Like k (first {Y = Spelled} c) (of_first P) (x ▸ λ a t. Ok ((a, raw T s.at t.at), t))
+    → Like k (on_first {Y = Spelled} c) (of_first P) (x ▸ λ a t. Ok ((a, raw T s.at t.at), t))
     (y ▸ λ b t. Ok ((b, raw T s.at t.at), t))
 bytes_like T k c P s (Ok (x, t)) (Ok (y, u)) like = rw (like.0, like.1) (refl, refl, like.2)
 bytes_like T k c P s (Ok (x, t)) (Err e) like = absurd like
@@ -281,7 +281,7 @@ bytes_like T k c P s (Err e) (Ok (y, t)) like = absurd like
 bytes_like T k c P s (Err e) (Err f) like = like
 
 pub moves_with_bytes : {z : Place} {X : Type 0} {c : X → X} {P : X → Type 0} {r q : Form X} → Moves z c P r q →
-    Moves z (first {Y = Spelled} c) (of_first P) (with_bytes r) (with_bytes q)
+    Moves z (on_first {Y = Spelled} c) (of_first P) (with_bytes r) (with_bytes q)
 moves_with_bytes {z = z} {c = c} {P = P} {r = r} {q = q} one =
     record {
       like = λ s. bytes_like z.text z.base c P s (does r Whole (by_itself z) s)
@@ -437,7 +437,7 @@ module _ (edition : Edition) (T : List ℕ) (k o : ℕ) where
       ≡ moved_bodies k (body_by (bodies_from (given edition T o) ws) (given edition T o) w bodies p d)
   body_step w ws bodies p from more None found = refl
   body_step w ws bodies p from more (Some q) found =
-      let low = between T w false p q found in
+      let low = delimiter_between T w false p q found in
       let above : o + q ≡ suc (o + q - 1) = omega (arith, from, low.0) in
       let one : placed_body k (span o p q) ≡ span (k + o) p q = body_read k (span o p q) (o + q - 1) above
       ∙ span_moved k o p q in

@@ -18,9 +18,9 @@ use Rattle.shgrammar.specs.Form.{Spelled, give, many, Step, again, done, step_if
 use Rattle.shgrammar.specs.Words.{Inner}
 use Rattle.shgrammar.specs.Commands.{is_empty, begins_redirect, begins_simple, after_word, redirect_operator_of, ItemsSoFar, items_so_far, breaks, as_item, an_item, a_number, is_strip, an_operator, operator_by, a_target, document, document_by, a_document, one_redirect, after_redirect, item_by, item_turn, a_simple, a_newline, a_semicolon, none_waits, nothing_waits, JoinSoFar, join_so_far, a_join_of, with_comment, join_turn, a_join, redirect_turn, with_redirect_list, compound_by, opener_of, named_function, a_word_command, a_command, a_bang, PipesSoFar, pipes_so_far, one_command, pipe_turn, a_pipeline, AndOrSoFar, and_or_so_far, one_pipeline, joined_by, and_or_turn, and_or_operator_of, an_and_or, ASeparator, separator_by, separator_of, a_separator}
 use Rattle.shgrammar.proofs.Turns.{Stepped}
-use Rattle.shgrammar.proofs.Moved.{Place, Any, same, each, first, of_first, step, Moves, moves_give, moves_move, moves_stop, moves_so, moves_then, moves_see, moves_here, moves_see_waiting, moves_on, moves_pushed, moves_push, moves_pick_by, moves_pick, moves_token, moves_with_bytes, moves_many, moves_waits, moves_newline}
+use Rattle.shgrammar.proofs.Moved.{Place, Any, same, each, on_first, of_first, step, Moves, moves_give, moves_move, moves_stop, moves_so, moves_then, moves_see, moves_here, moves_see_waiting, moves_on, moves_pushed, moves_push, moves_pick_by, moves_pick, moves_token, moves_with_bytes, moves_many, moves_waits, moves_newline}
 use Rattle.shgrammar.proofs.MovedTrees.{is_empty_map, pushed_some, span_to, join_to, here_to, word_to, item_to, command_to, pipe_to, pipeline_to, part_to, and_or_to, items_row, pipes_row, parts_row, redirects_to, word_span_to, CommandEnds, simple_ends, redirects_end, PipeEnds, PipelineEnds, pipeline_ends, PartEnds, AndOrEnds, and_or_ends}
-use Rattle.shgrammar.proofs.MovedWords.{Fits, moves_next, moves_mark, moves_comment, moves_word, moves_unexpected}
+use Rattle.shgrammar.proofs.MovedWords.{InnerMoves, moves_next, moves_mark, moves_comment, moves_word, moves_unexpected}
 
 -- that something is there does not change where it is moved
 pub is_some_map : {A B : Type 0} (c : A → B) (o : Option A) → is_some (option_map c o) ≡ is_some o
@@ -134,7 +134,7 @@ module _ (z : Place) where
   pub moves_joins : (j : JoinSoFar) → Moves z join_so_far_to Any (many join_turn j) (many join_turn (join_so_far_to j))
   moves_joins j = moves_many join_so_far_to Any Any join_turn join_turn (λ i so. moves_join_turn i) (λ i so. tt) j tt
 
-  pub moves_join : (broken : Bool) → Moves z (first {Y = Next} (join_to k)) Any (a_join broken) (a_join broken)
+  pub moves_join : (broken : Bool) → Moves z (on_first {Y = Next} (join_to k)) Any (a_join broken) (a_join broken)
   unfolding a_join
   moves_join broken = moves_then (moves_next z _)
       (λ n so. moves_then (moves_joins (join_so_far (a_join_of (broken || n.broken) []) n))
@@ -143,7 +143,7 @@ module _ (z : Place) where
   -- ---- redirections
 
   -- the number of a redirection is moved, where it has one, and so is its operator
-  moves_number : (n : Next) → Moves z (first {Y = Next} (option_map (span_to k))) Any (a_number n) (a_number n)
+  moves_number : (n : Next) → Moves z (on_first {Y = Next} (option_map (span_to k))) Any (a_number n) (a_number n)
   unfolding a_number
   moves_number n = moves_pick _
       (moves_then (moves_mark z) (λ x so. moves_then (moves_next z _) (λ m all. moves_give refl tt)))
@@ -181,9 +181,9 @@ module _ (z : Place) where
       (a_document o.0 (k + o.1.start) s.start w.1)) (sym (word_span_to k deep w.0))
       (moves_document o.0 o.1.start (word_span w.0).start w.1)
 
-  module _ (inner : Inner) (fits : Fits z inner) where
+  module _ (inner : Inner) (fits : InnerMoves z inner) where
     -- the target of a redirection is moved, and so is one more redirection with all its parts
-    moves_target : Moves z (first {Y = Spelled} (word_to k deep)) Any (a_target inner) (a_target inner)
+    moves_target : Moves z (on_first {Y = Spelled} (word_to k deep)) Any (a_target inner) (a_target inner)
     unfolding a_target
     moves_target = moves_then (moves_next z _)
         (λ n so. moves_pick _ (moves_with_bytes (moves_word z inner fits)) (moves_unexpected z inner fits n))
@@ -228,7 +228,7 @@ module _ (z : Place) where
     moves_item_turn i begun = moves_item_by i begun (after_word i.next.token) refl
 
     moves_simple : (i : ItemsSoFar) → Begun i →
-        Moves z (first {Y = Next} (command_to k deep)) (of_first (CommandEnds k deep)) (a_simple inner i)
+        Moves z (on_first {Y = Next} (command_to k deep)) (of_first (CommandEnds k deep)) (a_simple inner i)
         (a_simple inner (items_to i))
     unfolding a_simple
     moves_simple i begun =
@@ -249,8 +249,8 @@ module _ (z : Place) where
         (moves_give refl tt)
 
     moves_with_redirect_list : (c : ACommand × Next) → CommandEnds k deep c.0 →
-        Moves z (first {Y = Next} (command_to k deep)) (of_first (CommandEnds k deep)) (with_redirect_list inner c)
-        (with_redirect_list inner (first (command_to k deep) c))
+        Moves z (on_first {Y = Next} (command_to k deep)) (of_first (CommandEnds k deep)) (with_redirect_list inner c)
+        (with_redirect_list inner (on_first (command_to k deep) c))
     unfolding with_redirect_list
     moves_with_redirect_list c ends =
         moves_then (moves_many items_to Any Any (redirect_turn inner) (redirect_turn inner)
@@ -260,21 +260,21 @@ module _ (z : Place) where
         (redirects_end k deep c.0 (items_of r.items) ends))
 
     pub moves_compound_by : (n : Next) (o : Option Opener) →
-        Moves z (first {Y = Next} (command_to k deep)) (of_first (CommandEnds k deep)) (compound_by inner n o)
+        Moves z (on_first {Y = Next} (command_to k deep)) (of_first (CommandEnds k deep)) (compound_by inner n o)
         (compound_by inner n o)
     moves_compound_by n (Some o) = moves_then (fits.compound o) (λ c ends. moves_with_redirect_list c ends)
     moves_compound_by n None = moves_unexpected z inner fits n
 
     -- a function under a name is moved, and so are a command that begins with a word, and any command
     moves_named_function : (good : Bool) (w : AWord) →
-        Moves z (first {Y = Next} (command_to k deep)) (of_first (CommandEnds k deep))
+        Moves z (on_first {Y = Next} (command_to k deep)) (of_first (CommandEnds k deep))
         (named_function inner good (word_span w)) (named_function inner good (word_span (word_to k deep w)))
     moves_named_function good w =
-        subst (λ (s : Span). Moves z (first {Y = Next} (command_to k deep)) (of_first (CommandEnds k deep))
+        subst (λ (s : Span). Moves z (on_first {Y = Next} (command_to k deep)) (of_first (CommandEnds k deep))
         (named_function inner good (word_span w)) (named_function inner good s)) (sym (word_span_to k deep w))
         (moves_pick good (fits.function (word_span w)) moves_stop)
 
-    moves_word_command : Moves z (first {Y = Next} (command_to k deep)) (of_first (CommandEnds k deep))
+    moves_word_command : Moves z (on_first {Y = Next} (command_to k deep)) (of_first (CommandEnds k deep))
         (a_word_command inner) (a_word_command inner)
     unfolding a_word_command
     moves_word_command =
@@ -284,7 +284,7 @@ module _ (z : Place) where
         (moves_pushed (item_to k deep) refl refl
         (moves_simple (items_so_far (item false (argument w) ∷ []) Suffix n) refl)))))
 
-    moves_command : (n : Next) → Moves z (first {Y = Next} (command_to k deep)) (of_first (CommandEnds k deep))
+    moves_command : (n : Next) → Moves z (on_first {Y = Next} (command_to k deep)) (of_first (CommandEnds k deep))
         (a_command inner n) (a_command inner n)
     unfolding a_command
     moves_command n = moves_pick _ moves_word_command
@@ -294,7 +294,7 @@ module _ (z : Place) where
     -- ---- pipelines
 
     -- a `!` is moved, where one stands
-    moves_bang : (n : Next) → Moves z (first {Y = Next} (option_map (span_to k))) Any (a_bang n) (a_bang n)
+    moves_bang : (n : Next) → Moves z (on_first {Y = Next} (option_map (span_to k))) Any (a_bang n) (a_bang n)
     unfolding a_bang
     moves_bang n = moves_pick _ (moves_then (moves_mark z)
         (λ x so. moves_then (moves_next z _) (λ m all. moves_give refl tt))) (moves_give refl tt)
@@ -322,7 +322,7 @@ module _ (z : Place) where
     moves_pipe_turn p all = moves_pick _ (moves_one_command p all) (moves_give refl all)
 
     moves_pipeline : (n : Next) →
-        Moves z (first {Y = Next} (pipeline_to k deep)) (of_first (PipelineEnds k deep)) (a_pipeline inner n)
+        Moves z (on_first {Y = Next} (pipeline_to k deep)) (of_first (PipelineEnds k deep)) (a_pipeline inner n)
         (a_pipeline inner n)
     unfolding a_pipeline
     moves_pipeline n =
@@ -367,7 +367,7 @@ module _ (z : Place) where
     moves_and_or_turn a all = moves_joined_by a (and_or_operator_of a.next.token) all
 
     pub moves_and_or : (n : Next) →
-        Moves z (first {Y = Next} (and_or_to k deep)) (of_first (AndOrEnds k deep)) (an_and_or inner n)
+        Moves z (on_first {Y = Next} (and_or_to k deep)) (of_first (AndOrEnds k deep)) (an_and_or inner n)
         (an_and_or inner n)
     unfolding an_and_or
     moves_and_or n =
@@ -385,11 +385,11 @@ module _ (z : Place) where
 
   -- a separator is moved, where one stands
   moves_separator_by : (n : Next) (s : Option Separator) →
-      Moves z (first {Y = Next} parted_to) Any (separator_by n s) (separator_by n s)
+      Moves z (on_first {Y = Next} parted_to) Any (separator_by n s) (separator_by n s)
   moves_separator_by n (Some s) =
       moves_then (moves_mark z) (λ x so. moves_then (moves_next z _) (λ m all. moves_give refl tt))
   moves_separator_by n None = moves_give refl tt
 
-  pub moves_separator : (n : Next) → Moves z (first {Y = Next} parted_to) Any (a_separator n) (a_separator n)
+  pub moves_separator : (n : Next) → Moves z (on_first {Y = Next} parted_to) Any (a_separator n) (a_separator n)
   unfolding a_separator
   moves_separator n = moves_separator_by n (separator_of n.token)

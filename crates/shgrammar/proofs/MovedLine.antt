@@ -21,10 +21,10 @@ use Rattle.shgrammar.specs.Scripts.{line_told, the_line}
 use Rattle.shast.specs.Moved.{placed_entry, blanked_entry, blanked_row, carried_content}
 use Rattle.shgrammar.specs.Moved.{SameBy, LineMoves}
 use Rattle.shgrammar.proofs.Turns.{Stepped}
-use Rattle.shgrammar.proofs.Moved.{Place, Any, same, first, step, Like, Moves, kept, kept_grows, moves_give, moves_then, moves_pick, moves_level, moves_many, moves_newline}
+use Rattle.shgrammar.proofs.Moved.{Place, Any, same, on_first, step, Like, Moves, kept, kept_grows, moves_give, moves_then, moves_pick, moves_level, moves_many, moves_newline}
 use Rattle.shgrammar.proofs.MovedBodies.{row_moved}
 use Rattle.shgrammar.proofs.MovedTrees.{pushed_some, span_to, body_to, offset_to, and_or_to, entry_to}
-use Rattle.shgrammar.proofs.MovedWords.{Fits, moves_next, moves_comment, moves_unexpected}
+use Rattle.shgrammar.proofs.MovedWords.{InnerMoves, moves_next, moves_comment, moves_unexpected}
 use Rattle.shgrammar.proofs.MovedCommands.{is_some_map, moves_if, moves_nothing_waits, moves_and_or, parted_to, moves_separator}
 use Rattle.shgrammar.proofs.MovedSubstitutions.{moves_inner}
 use Rattle.shgrammar.specs.declared.edition.Edition.{Edition}
@@ -71,7 +71,7 @@ push_on : {z : Place} {A Y : Type 0} {d : Y → Y} {Q : Y → Type 0} {xs ys : R
     → Moves z d Q (both (push xs x) f) (both (push ys y) h)
 push_on {z = z} rest = record { like = λ s. rw (kept_grows z.deep) (rest.like s) }
 
-module _ (z : Place) (inner : Inner) (fits : Fits z inner) where
+module _ (z : Place) (inner : Inner) (fits : InnerMoves z inner) where
   -- how far things move, and whether the trees in command substitutions are kept
   abbrev k : ℕ
   k = z.base
@@ -201,13 +201,13 @@ module _ (z : Place) (inner : Inner) (fits : Fits z inner) where
 
     -- so a line is read there, without the bodies of its here-documents and with them
     open_line_as : (blank : Bool) →
-        Moves z (first {Y = Bool} row_as) Any (an_open_line inner blank) (an_open_line inner pale)
+        Moves z (on_first {Y = Bool} row_as) Any (an_open_line inner blank) (an_open_line inner pale)
     unfolding an_open_line
     open_line_as blank =
         moves_then (moves_next z _) (λ n so. moves_then (on_line_as (list_so_far (none_listed blank) n) refl)
         (λ l all. moves_then (moves_end l.next) (λ newline so2. moves_give refl tt)))
 
-    pub line_as : (blank : Bool) → Moves z (first {Y = Bool} row_as) Any (a_line inner blank) (a_line inner pale)
+    pub line_as : (blank : Bool) → Moves z (on_first {Y = Bool} row_as) Any (a_line inner blank) (a_line inner pale)
     unfolding a_line
     line_as blank =
         moves_then (moves_level (open_line_as blank))
@@ -219,7 +219,8 @@ module _ (z : Place) (inner : Inner) (fits : Fits z inner) where
 
 -- outcomes that are alike but for the move are those of a line by itself and at p
 same_line : (deep : Bool) (p : ℕ) (blank : Bool) (x y : Read (Row AnEntry × Bool)) →
-    Like p (first {Y = Bool} (λ es. blanked_row blank (map (placed_entry deep p) es))) Any x y → SameBy deep p blank y x
+    Like p (on_first {Y = Bool} (λ es. blanked_row blank (map (placed_entry deep p) es))) Any x y →
+    SameBy deep p blank y x
 same_line _ p blank (Ok ((es, newline), s)) (Ok ((fs, ended), t)) like = (
   ap (λ (v : Row AnEntry × Bool). v.0) like.0,
   ap (λ (v : Row AnEntry × Bool). v.1) like.0,

@@ -23,10 +23,10 @@ use Rattle.shgrammar.specs.Compounds.{is_open_paren, is_close_paren, reserved_or
 use Rattle.shgrammar.specs.Substitutions.{substitution_list, one_substitution}
 use Rattle.shast.specs.Moved.{carried_patterns}
 use Rattle.shgrammar.proofs.Turns.{Stepped}
-use Rattle.shgrammar.proofs.Moved.{Place, Any, same, first, of_first, step, Moves, moves_give, moves_stop, moves_so, moves_then, moves_see, moves_here, moves_on, moves_pushed, moves_push, moves_pick, moves_level, moves_ending, moves_many, moves_token, moves_move}
+use Rattle.shgrammar.proofs.Moved.{Place, Any, same, on_first, of_first, step, Moves, moves_give, moves_stop, moves_so, moves_then, moves_see, moves_here, moves_on, moves_pushed, moves_push, moves_pick, moves_level, moves_ending, moves_many, moves_token, moves_move}
 use Rattle.shgrammar.proofs.MovedBodies.{filled_moved}
 use Rattle.shgrammar.proofs.MovedTrees.{is_empty_map, span_to, body_to, offset_to, word_to, subst_to, command_to, and_or_to, entry_to, list_to, branch_to, else_to, for_words_to, case_to, form_to, items_row, entries_row, branches_row, cases_row, patterns_row, remarks_to, under_name_to, CommandEnds, compound_ends, under_name_ends, EntryEnds, entries_end}
-use Rattle.shgrammar.proofs.MovedWords.{Fits, moves_next, moves_mark, moves_comment, moves_word, moves_unexpected}
+use Rattle.shgrammar.proofs.MovedWords.{InnerMoves, moves_next, moves_mark, moves_comment, moves_word, moves_unexpected}
 use Rattle.shgrammar.proofs.MovedCommands.{is_some_map, moves_if, of_any, items_to, SomeItems, moves_line_end, moves_semicolon, moves_nothing_waits, join_so_far_to, moves_joins, moves_item, moves_compound_by, moves_and_or, parted_to, moves_separator}
 
 module _ (z : Place) where
@@ -103,7 +103,7 @@ module _ (z : Place) where
 
   -- the span of a reserved word or a round bracket is moved
   moves_reserved_or_paren : (text : Spelled) (paren : Bool) (position : Position) →
-      Moves z (first {Y = Next} (span_to k)) Any (reserved_or_paren text paren position)
+      Moves z (on_first {Y = Next} (span_to k)) Any (reserved_or_paren text paren position)
       (reserved_or_paren text paren position)
   unfolding reserved_or_paren
   moves_reserved_or_paren text paren position =
@@ -119,7 +119,7 @@ module _ (z : Place) where
   unfolding a_linebreak
   moves_linebreak cs n = moves_joins z (join_so_far (a_join_of false cs) n)
 
-  module _ (inner : Inner) (fits : Fits z inner) where
+  module _ (inner : Inner) (fits : InnerMoves z inner) where
     -- an entry is moved, and where each of its commands ends is too; so is one more entry of a line, or none
     moves_entry : (blank : Bool) (n : Next) →
         Moves z entered_to (λ e. EntryEnds k deep e.entry) (an_entry inner blank n) (an_entry inner blank n)
@@ -181,7 +181,7 @@ module _ (z : Place) where
     moves_lines n = moves_many list_so_far_to ListEnds ListEnds (list_turn inner) (list_turn inner) moves_list_turn
         (λ m so. so) (list_so_far (none_listed false) n) (All-nil (EntryEnds k deep))
 
-    moves_list : (n : Next) → Moves z (first {Y = Next} (list_to k deep)) Any (a_list inner n) (a_list inner n)
+    moves_list : (n : Next) → Moves z (on_first {Y = Next} (list_to k deep)) Any (a_list inner n) (a_list inner n)
     unfolding a_list
     moves_list n =
         moves_then (moves_lines n) (λ l all. moves_pick _
@@ -190,7 +190,7 @@ module _ (z : Place) where
 
     -- the span of what has to stand after a list is moved
     moves_closing : (c : Closing) (n : Next) →
-        Moves z (first {Y = Next} (span_to k)) Any (closing inner c n) (closing inner c n)
+        Moves z (on_first {Y = Next} (span_to k)) Any (closing inner c n) (closing inner c n)
     unfolding closing
     moves_closing c n = moves_pick _ (moves_reserved_or_paren _ (is_close_paren c) _) (moves_unexpected z inner fits n)
 
@@ -202,7 +202,8 @@ module _ (z : Place) where
     unfolding a_group
     moves_group c n = moves_then (moves_list n) (λ l so. moves_then (moves_closing c l.1) (λ e all. moves_give refl tt))
 
-    moves_branch : (n : Next) → Moves z (first {Y = Next} (branch_to k deep)) Any (a_branch inner n) (a_branch inner n)
+    moves_branch : (n : Next) → Moves z (on_first {Y = Next} (branch_to k deep)) Any (a_branch inner n)
+        (a_branch inner n)
     unfolding a_branch
     moves_branch n = moves_then (moves_list n)
         (λ c so. moves_then (moves_closing closings.Then c.1)
@@ -220,7 +221,7 @@ module _ (z : Place) where
         (λ e so. moves_then (moves_branch e.1)
         (λ x so2. moves_pushed (branch_to k deep) refl refl (moves_give refl tt)))) (moves_give refl tt)
 
-    moves_else : (n : Next) → Moves z (first {Y = Next} (else_to k deep)) Any (an_else inner n) (an_else inner n)
+    moves_else : (n : Next) → Moves z (on_first {Y = Next} (else_to k deep)) Any (an_else inner n) (an_else inner n)
     unfolding an_else
     moves_else n = moves_pick _ (moves_then (moves_reserved_or_paren _ false _)
         (λ e so. moves_then (moves_list e.1) (λ l so2. moves_give refl tt))) (moves_give refl tt)
@@ -247,7 +248,7 @@ module _ (z : Place) where
 
     -- the name of a `for` is moved, and so is what ends its words
     moves_for_name : (n : Next) →
-        Moves z (first {Y = Next} (word_to k deep)) Any (a_for_name inner n) (a_for_name inner n)
+        Moves z (on_first {Y = Next} (word_to k deep)) Any (a_for_name inner n) (a_for_name inner n)
     unfolding a_for_name
     moves_for_name n =
         moves_pick _ (moves_here (λ p. moves_see (λ s. refl)
@@ -303,7 +304,7 @@ module _ (z : Place) where
 
     -- the word after `case` is moved
     moves_case_word : (n : Next) →
-        Moves z (first {Y = Next} (word_to k deep)) Any (a_case_word inner n) (a_case_word inner n)
+        Moves z (on_first {Y = Next} (word_to k deep)) Any (a_case_word inner n) (a_case_word inner n)
     unfolding a_case_word
     moves_case_word n = moves_pick _
         (moves_then (moves_word z inner fits) (λ w so. moves_then (moves_next z _) (λ m all. moves_give refl tt)))
@@ -449,7 +450,7 @@ module _ (z : Place) where
 
     -- a compound command and a function are moved, and where they end is too
     pub moves_compound : (o : Opener) →
-        Moves z (first {Y = Next} (command_to k deep)) (of_first (CommandEnds k deep)) (a_compound inner o)
+        Moves z (on_first {Y = Next} (command_to k deep)) (of_first (CommandEnds k deep)) (a_compound inner o)
         (a_compound inner o)
     unfolding a_compound
     moves_compound o =
@@ -458,7 +459,7 @@ module _ (z : Place) where
         (moves_give refl (compound_ends k deep (formed f.what (through x.0 f.closer) no_item)))))
 
     pub moves_function : (name : Span) →
-        Moves z (first {Y = Next} (command_to k deep)) (of_first (CommandEnds k deep)) (a_function inner name)
+        Moves z (on_first {Y = Next} (command_to k deep)) (of_first (CommandEnds k deep)) (a_function inner name)
         (a_function inner (span_to k name))
     unfolding a_function
     moves_function name =

@@ -9,20 +9,20 @@ use Rattle.shgrammar.specs.Moved.{moved_state}
 use Rattle.shgrammar.specs.Substitutions.{a_substitution, one_substitution}
 use Rattle.shgrammar.specs.Words.{Inner}
 use Rattle.shgrammar.proofs.Alike.{All, Like as LikeWithout}
-use Rattle.shgrammar.proofs.AlikeCommands.{Fits as FitsWithout}
+use Rattle.shgrammar.proofs.AlikeCommands.{InnerAlike}
 use Rattle.shgrammar.proofs.AlikeLists.{alike_level, alike_substitution}
 use Rattle.shgrammar.proofs.Holds.{Holds, Tells, tells_any, tells_seen, tells_then}
 use Rattle.shgrammar.proofs.Moved.{Any, Like, Moves, Place, by_itself, elsewhere, kept, moves_here, moves_stop}
 use Rattle.shgrammar.proofs.MovedLists.{moves_compound, moves_function, moves_one_substitution}
 use Rattle.shgrammar.proofs.MovedTrees.{subst_to, substs_to}
-use Rattle.shgrammar.proofs.MovedWords.{Fits, moves_contents}
+use Rattle.shgrammar.proofs.MovedWords.{InnerMoves, moves_contents}
 
 -- the same place, with all trees
 abbrev pub with_all : Place → Place
 with_all z = record { text = z.text; offset = z.offset; edition = z.edition; base = z.base; deep = true }
 
-module _ (z : Place) (inner : Inner) (fits : Fits (with_all z) inner) (fits_without : FitsWithout (elsewhere z) inner)
-    (b : ℕ) (ss : Row ASubst) where
+module _ (z : Place) (inner : Inner) (fits : InnerMoves (with_all z) inner)
+    (fits_without : InnerAlike (elsewhere z) inner) (b : ℕ) (ss : Row ASubst) where
   -- how much further on the text stands
   abbrev k : ℕ
   k = z.base
@@ -65,7 +65,7 @@ module _ (z : Place) (inner : Inner) (fits : Fits (with_all z) inner) (fits_with
   moves_substitution = record { like = λ s. there z.deep s }
 
 -- words within words, commands within commands
-pub moves_inner : (z : Place) (room : ℕ) → Fits z (level room)
+pub moves_inner : (z : Place) (room : ℕ) → InnerMoves z (level room)
 unfolding level
 moves_inner z zero = record {
   construct = λ mode b ss. moves_stop;

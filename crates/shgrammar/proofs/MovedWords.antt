@@ -18,7 +18,7 @@ use Rattle.shgrammar.specs.Words.{single, escaped_turn, backquoted_text, Inner, 
 use Rattle.shgrammar.specs.Tokens.{is_end}
 use Rattle.shgrammar.specs.Commands.{next_token, comment_by, a_comment, wrong_with, what_is_wrong, unexpected}
 use Rattle.shgrammar.proofs.Turns.{Stepped}
-use Rattle.shgrammar.proofs.Moved.{Place, Any, same, each, first, of_first, step, Moves, moves_give, moves_move, moves_stop, moves_then, moves_see, moves_here, moves_byte, moves_see_comment, moves_see_waiting, moves_on, moves_pick, moves_when, moves_token, moves_many}
+use Rattle.shgrammar.proofs.Moved.{Place, Any, same, each, on_first, of_first, step, Moves, moves_give, moves_move, moves_stop, moves_then, moves_see, moves_here, moves_byte, moves_see_comment, moves_see_waiting, moves_on, moves_pick, moves_when, moves_token, moves_many}
 use Rattle.shgrammar.proofs.MovedTrees.{span_to, offset_to, word_to, command_to, substs_row, CommandEnds, kept_none, substs_to}
 
 module _ (z : Place) where
@@ -82,34 +82,36 @@ module _ (z : Place) where
 
   -- a comment, where one stands, and the token after it
   moves_comment_by : (n : Next) (c : Option Span) →
-      Moves z (first {Y = Next} (option_map (span_to k))) Any (comment_by n c) (comment_by n (option_map (span_to k) c))
+      Moves z (on_first {Y = Next} (option_map (span_to k))) Any (comment_by n c)
+      (comment_by n (option_map (span_to k) c))
   moves_comment_by n (Some c) = moves_on (moves_then (moves_next _) (λ m so. moves_give refl tt))
   moves_comment_by n None = moves_give refl tt
 
-  pub moves_comment : (n : Next) → Moves z (first {Y = Next} (option_map (span_to k))) Any (a_comment n) (a_comment n)
+  pub moves_comment : (n : Next) →
+      Moves z (on_first {Y = Next} (option_map (span_to k))) Any (a_comment n) (a_comment n)
   unfolding a_comment
   moves_comment n = moves_see_comment (λ c. moves_comment_by n c)
 
   -- ---- words, where what may be opened moves
 
   -- what may be opened reads there what it reads by itself, moved
-  pub record Fits (inner : Inner) : Type 0 where
+  pub record InnerMoves (inner : Inner) : Type 0 where
     pub construct : (mode : Mode) (b : ℕ) (ss : Row ASubst) →
         Moves z (substs_to k deep) Any (inner.construct mode b ss) (inner.construct mode (k + b) (substs_to k deep ss))
     pub substitution : (b : ℕ) (ss : Row ASubst) →
         Moves z (substs_to k deep) Any (inner.substitution b ss) (inner.substitution (k + b) (substs_to k deep ss))
     pub compound : (o : Opener) →
-        Moves z (first {Y = Next} (command_to k deep)) (of_first (CommandEnds k deep)) (inner.compound o)
+        Moves z (on_first {Y = Next} (command_to k deep)) (of_first (CommandEnds k deep)) (inner.compound o)
         (inner.compound o)
     pub function : (name : Span) →
-        Moves z (first {Y = Next} (command_to k deep)) (of_first (CommandEnds k deep)) (inner.function name)
+        Moves z (on_first {Y = Next} (command_to k deep)) (of_first (CommandEnds k deep)) (inner.function name)
         (inner.function (span_to k name))
 
   -- a word so far, moved
   abbrev held_to : WordSoFar → WordSoFar
   held_to h = word_so_far h.nested (substs_to k deep h.substs)
 
-  module _ (inner : Inner) (fits : Fits inner) where
+  module _ (inner : Inner) (fits : InnerMoves inner) where
     -- a construct in a word, and a piece by its kind
     moves_opened : (mode : Mode) (b : ℕ) (h : WordSoFar) →
         Moves z (step held_to) (Stepped Any) (opened inner mode b h) (opened inner mode (k + b) (held_to h))

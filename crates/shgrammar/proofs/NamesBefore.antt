@@ -28,15 +28,15 @@ use Rattle.shgrammar.proofs.Stretches.{past_more, past_none, stands_in_low, raw_
 use Rattle.shgrammar.proofs.Places.{after_low, past_low}
 use Rattle.shgrammar.proofs.Turns.{many_again, many_done}
 use Rattle.shgrammar.proofs.SameBytes.{Kept, Here, here, here_byte, here_after, here_stands, here_stands_in}
-use Rattle.shgrammar.proofs.Ahead.{same_and, spelled_none, spelled_more, past_byte_is, ender}
+use Rattle.shgrammar.proofs.Ahead.{same_and, spelled_none, spelled_more, past_byte_is, ender_is_other}
 use Rattle.shgrammar.proofs.PlainBytes.{plain_stays, ordinary_by, closer_at}
 use Rattle.shgrammar.proofs.WordsWithin.{word_ends}
-use Rattle.shgrammar.proofs.Elsewhere.{ReadAt, is_a_word, ItemByte, all_plain, all_spelled, item_byte, item_token}
+use Rattle.shgrammar.proofs.ItemsAnywhere.{ReadAt, is_a_word, ItemByte, all_plain, all_spelled, item_byte, item_token}
 use Rattle.shgrammar.proofs.OneOutcome.{computed_is_only}
-use Rattle.shgrammar.proofs.Anywhere.{WordOf, from_to, kept, word_may}
+use Rattle.shgrammar.proofs.WordsAnywhere.{WordOf, from_to, kept_by_bytes, word_may}
 use Rattle.shgrammar.proofs.Spelling.{raw_at}
 use Rattle.shast.specs.Shape.{text_at}
-use Rattle.shgrammar.proofs.CommentsElsewhere.{byte_after, stretch_length}
+use Rattle.shgrammar.proofs.CommentsAnywhere.{byte_after, stretch_length}
 use Rattle.shgrammar.specs.declared.edition.Edition.{Edition}
 
 -- ---- the word that a NAME is
@@ -194,7 +194,7 @@ module _ (room : ℕ) (g : Given) (p n : ℕ) (read : ReadsWord room g p n) (sti
     to = from_to p q
 
     K : Kept g.edition T U p L to
-    K = kept g.edition T U p q n (ap (take n) is_there ∙ take_at w (40 ∷ zs) n size)
+    K = kept_by_bytes g.edition T U p q n (ap (take n) is_there ∙ take_at w (40 ∷ zs) n size)
 
     -- there it stands from q on, and a `(` after it
     limit_is : to L ≡ q + n
@@ -275,11 +275,11 @@ module _ (room : ℕ) (g : Given) (p n : ℕ) (read : ReadsWord room g p n) (sti
       where
         none : (x : Option ℕ) → ends x ≡ true → is_byte x c ≡ false
         none None e = refl
-        none (Some b) e = ender b c e (plain_stays c plain)
+        none (Some b) e = ender_is_other b c e (plain_stays c plain)
 
     other_there : (c : ℕ) → is_plain Plain c ≡ true → stands U (to L) c ≡ false
     unfolding stands
-    other_there c plain = ap (λ x. is_byte x c) limit_byte ∙ ender 40 c refl (plain_stays c plain)
+    other_there c plain = ap (λ x. is_byte x c) limit_byte ∙ ender_is_other 40 c refl (plain_stays c plain)
 
     -- a word ends, or an ordinary byte is read, in both texts or in neither
     same_ends : {r : ℕ} → Goes r → ends (byte_at U (to r)) ≡ ends (byte_at T r)

@@ -17,7 +17,7 @@ use Rattle.shgrammar.proofs.OneOutcome.{computed_is_only}
 use Rattle.shgrammar.proofs.Holds.{Holds, AtOrAfter, no_form_goes_back}
 use Rattle.shgrammar.proofs.Ahead.{ListEnds, same_name, same_place, same_next}
 use Rattle.shgrammar.proofs.BodiesThere.{change_there}
-use Rattle.shgrammar.proofs.Asked.{Good, NoBracket, newline_near, high, moves, same_end_here, same_raw_stands, same_last_backslash, same_comment, same_piece, same_mode, same_raw, apart}
+use Rattle.shgrammar.proofs.Asked.{Good, NoBracket, newline_near, good_high, moves, same_end_here, same_raw_stands, same_last_backslash, same_comment, same_piece, same_mode, same_raw, to_apart}
 use Rattle.shgrammar.specs.declared.edition.Edition.{Edition}
 use Rattle.shgrammar.specs.Tokens.{next_in}
 use Rattle.shgrammar.specs.Pieces.{piece_in}
@@ -86,10 +86,11 @@ module _ {edition : Edition} {T U : List ℕ} {a M : ℕ} {to : ℕ → ℕ} (E 
       ap (piece_in edition mode) (same_piece E mode n s.at (no_bracket mode) good)
   same_seen (the_rest mode) s from good = same_mode E mode s.at good
   same_seen the_end s from good = same_end_here E s.at from good
-  same_seen (a_raw c) s from good = same_raw_stands E s.at c from (high E good)
+  same_seen (a_raw c) s from good = same_raw_stands E s.at c from (good_high E good)
   same_seen last_backslash s from good = same_last_backslash E s.at from good
   same_seen (the_token position) s from good = ap (next_in edition) (same_next E position good)
-  same_seen the_comment s from good = same_comment E o o2 spans s.at good (λ e. newline_near E refl s.at (high E good))
+  same_seen the_comment s from good =
+      same_comment E o o2 spans s.at good (λ e. newline_near E refl s.at (good_high E good))
   same_seen is_a_name s from good = same_name E good
   same_seen a_document_waits s from good = refl
   same_seen (the_delimiter bytes) s from good = refl
@@ -106,8 +107,8 @@ module _ {edition : Edition} {T U : List ℕ} {a M : ℕ} {to : ℕ → ℕ} (E 
   -- a turn leads on there just where it does here
   same_leads : (s t : State) → a ≤ s.at → s.at ≤ t.at → t.at ≤ M → leads_on h (there s) (there t) ≡ leads_on g s t
   same_leads s t from onward le =
-      let one = apart E s.at t.at from onward in
-      let two = apart E t.at M (omega (arith, from, onward)) le in
+      let one = to_apart E s.at t.at from onward in
+      let two = to_apart E t.at M (omega (arith, from, onward)) le in
       less_same (length T - t.at) (length T - s.at) (length U - to t.at) (length U - to s.at)
       (λ lt. omega (arith, lt, one, two, long, long_there, onward, le))
       (λ lt. omega (arith, lt, one, two, long, long_there, onward, le))
@@ -154,7 +155,7 @@ module _ {edition : Edition} {T U : List ℕ} {a M : ℕ} {to : ℕ → ℕ} (E 
       let onward = read_at_or_after r g s (Ok (x, t)) k1 part in
       let same = spans s.at t.at from (omega (arith, from, onward)) in
       let told = same_tell how s.at t.at (to s.at) (to t.at)
-      (same_raw E s.at t.at from (omega (arith, from, onward)) (high E good)) in (
+      (same_raw E s.at t.at from (omega (arith, from, onward)) (good_high E good)) in (
         w.0,
         subst (λ (z : Span). OneToken how h (may r h) (there s) (Ok ((x, z), there t)) (tell how T s.at t.at)) same
             (subst (λ (z : Row Spelled). OneToken how h (may r h) (there s)
@@ -184,7 +185,7 @@ module _ {edition : Edition} {T U : List ℕ} {a M : ℕ} {to : ℕ → ℕ} (E 
       let onward = read_at_or_after r g s (Ok (x, t)) k1 part in (
         w.0,
         subst (λ (z : Spelled). WithBytes h (may r h) (there s) (Ok ((x, z), there t)) k1)
-            (same_raw E s.at t.at from (omega (arith, from, onward)) (high E good)) (with_its_bytes w.1),
+            (same_raw E s.at t.at from (omega (arith, from, onward)) (good_high E good)) (with_its_bytes w.1),
       )
   bytes_back r s first from y k (without_bytes part) good = absurd good
 
@@ -207,12 +208,12 @@ module _ {edition : Edition} {T U : List ℕ} {a M : ℕ} {to : ℕ → ℕ} (E 
     loop_back b s y k (rests {b = c} {t = t} part off') from good =
         let w = each b s from (Ok (again c, t)) k part good in
         let onward = read_at_or_after (turn b) g s (Ok (again c, t)) k part in
-        (w.0, rests w.1 (same_leads s t from onward (high E good) ∙ off'))
+        (w.0, rests w.1 (same_leads s t from onward (good_high E good) ∙ off'))
     loop_back b s y k (more {b = c} {t = t} {k = k1} part on' rest) from good =
         let onward = read_at_or_after (turn b) g s (Ok (again c, t)) k1 part in
         let r = loop_back c t y _ rest (omega (arith, from, onward)) good in
         let w = each b s from (Ok (again c, t)) k1 part r.0 in
-        (w.0, more w.1 (same_leads s t from onward (high E r.0) ∙ on') r.1)
+        (w.0, more w.1 (same_leads s t from onward (good_high E r.0) ∙ on') r.1)
     loop_back b s y k (halts part) from good = absurd good
 
   -- and so of each form

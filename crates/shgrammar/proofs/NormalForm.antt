@@ -240,7 +240,7 @@ module _ (g : Given) where
   Substs h t = are_normal_substs (substs_of h.substs) ≡ true
 
   -- what may be opened is in normal form
-  pub record Fine (inner : Inner) : Type 0 where
+  pub record InnerNormal (inner : Inner) : Type 0 where
     pub construct : (mode : Mode) (b : ℕ) (ss : Row ASubst) (s : State) → are_normal_substs (substs_of ss) ≡ true
         → N (inner.construct mode b ss) (λ zs t. are_normal_substs (substs_of zs) ≡ true) s
     pub substitution : (b : ℕ) (ss : Row ASubst) (s : State) → are_normal_substs (substs_of ss) ≡ true
@@ -248,7 +248,7 @@ module _ (g : Given) where
     pub compound : (o : Opener) (s : State) → N (inner.compound o) (λ c t. is_normal_command c.0 ≡ true) s
     pub function : (name : Span) (s : State) → N (inner.function name) (λ c t. is_normal_command c.0 ≡ true) s
 
-  module _ (inner : Inner) (fine : Fine inner) where
+  module _ (inner : Inner) (fine : InnerNormal inner) where
     -- after a construct that opens, after a piece of each kind, and after the piece that is there the
     -- substitutions so far are in normal form
     normal_opened : (mode : Mode) (b : ℕ) (h : WordSoFar) (s : State) → Substs h s →
@@ -837,7 +837,7 @@ module _ (g : Given) where
         (λ b w good. gives (normal_under name l.join.comments b.0 good)))))
 
   -- so it is with each number of constructs that may be opened
-  normal_level : (room : ℕ) → Fine (level room)
+  normal_level : (room : ℕ) → InnerNormal (level room)
   unfolding level
   normal_level zero = record {
     construct = λ mode b ss s so. record { told = tt };

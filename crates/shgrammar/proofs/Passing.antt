@@ -17,7 +17,7 @@ use Rattle.shgrammar.specs.Standing.{raw_stands}
 use Rattle.shgrammar.proofs.Alike.{Like, SameEnd}
 use Rattle.shgrammar.proofs.AlikeLists.{alike_level, alike_line}
 use Rattle.shgrammar.proofs.Answered.{fault_alone, fault_answered}
-use Rattle.shgrammar.proofs.FirstFault.{beyond_kept}
+use Rattle.shgrammar.proofs.FirstFault.{first_fault_after_kept}
 use Rattle.shgrammar.proofs.MovedLine.{line_moved, line_outer}
 use Rattle.shgrammar.proofs.OneOutcome.{computed_is_only}
 use Rattle.shgrammar.proofs.SameLine.{line_again, newline_at, same_front, same_texts}
@@ -65,7 +65,7 @@ leads_by : (edition : Edition) →
     → first_fault_from edition script p ≡ first_fault_from edition script (p + t.at)
 leads_by edition script p t es (Ok ((fs, true), u)) y is y_is same =
     let moved = rw y_is at same in
-    beyond_kept edition script p fs u is ∙ ap (λ (n : ℕ). first_fault_from edition script (p + n)) moved.2
+    first_fault_after_kept edition script p fs u is ∙ ap (λ (n : ℕ). first_fault_from edition script (p + n)) moved.2
 leads_by edition script p t es (Ok ((fs, false), u)) y is y_is same = let moved = rw y_is at same in
     let no : false ≡ true = moved.1 in absurd cc
 leads_by edition script p t es (Err f) y is y_is same = let moved = rw y_is at same in absurd moved

@@ -22,7 +22,8 @@ unfolding count_joined
 joined_short [] = omega arith
 joined_short (b ∷ []) = omega arith
 joined_short (b ∷ c ∷ bs) =
-    cond_both (b == 92 && c == newline_char) _ _ (λ n. n ≤ length (b ∷ c ∷ bs)) (λ e. omega (arith, joined_short bs))
+    cond_both (b == backslash && c == newline_char) _ _ (λ n. n ≤ length (b ∷ c ∷ bs))
+    (λ e. omega (arith, joined_short bs))
     (λ e. omega arith)
 
 -- and no more follow them
@@ -32,7 +33,7 @@ joined_rest [] = refl
 joined_rest (b ∷ []) = refl
 joined_rest (b ∷ c ∷ bs) =
     let next : 2 + count_joined bs ≡ suc (suc (count_joined bs)) = omega arith in
-    cond_both (b == 92 && c == newline_char) _ _ (λ n. count_joined (drop n (b ∷ c ∷ bs)) ≡ 0)
+    cond_both (b == backslash && c == newline_char) _ _ (λ n. count_joined (drop n (b ∷ c ∷ bs)) ≡ 0)
     (λ e. rw next (joined_rest bs))
     (λ e. rw e refl)
 
@@ -175,15 +176,15 @@ next_of_high c T p within = raw_past_high (λ b. not (b == c)) T p within
 
 -- the end of a line
 pub next_newline_low : (T : List ℕ) (p : ℕ) → p ≤ next_newline T p
-next_newline_low T p = next_of_low 10 T p
+next_newline_low T p = next_of_low newline_char T p
 
 -- it is not past the end of the text
 pub next_newline_high : (T : List ℕ) (p : ℕ) → p ≤ length T → next_newline T p ≤ length T
-next_newline_high T p within = next_of_high 10 T p within
+next_newline_high T p within = next_of_high newline_char T p within
 
 -- the next backquote or backslash
 pub next_escaped_low : (how : Escaping) (T : List ℕ) (p : ℕ) → p ≤ next_escaped how T p
-next_escaped_low how T p = raw_past_low (λ c. not (c == closes_by how || c == 92)) T p
+next_escaped_low how T p = raw_past_low (λ c. not (c == closes_by how || c == backslash)) T p
 
 -- a byte is taken, or a backslash and the one after it
 pub taken_low : (T : List ℕ) (p : ℕ) → p < past_taken T p
@@ -300,12 +301,12 @@ end_is B at p within inside e = omega (arith, within, inside, no_byte (drop at B
 -- ---- text in quotes
 
 -- what ends a search for a single quote is no backslash
-quote_other : (b : Option ℕ) → passes (λ c. not (c == apostrophe)) b ≡ false → is_byte b 92 ≡ false
+quote_other : (b : Option ℕ) → passes (λ c. not (c == apostrophe)) b ≡ false → is_byte b backslash ≡ false
 quote_other None e = refl
 quote_other (Some b) e = grind (arith, nat_tests)
 
 -- a single quote, or the end, is no backslash
-pub quote_clear : (T : List ℕ) (p : ℕ) → raw_stands T (next_of apostrophe T p) 92 ≡ false
+pub quote_clear : (T : List ℕ) (p : ℕ) → raw_stands T (next_of apostrophe T p) backslash ≡ false
 unfolding raw_in raw_stands
 quote_clear T p = quote_other (slice_get T (next_of apostrophe T p)) (raw_past_stops (λ c. not (c == apostrophe)) T p)
 
@@ -313,27 +314,27 @@ quote_clear T p = quote_other (slice_get T (next_of apostrophe T p)) (raw_past_s
 
 -- by how the text is quoted, and by that byte
 backslash_by : (how : Escaping) (b : Option ℕ) → is_none b ≡ false → is_byte b (closes_by how) ≡ false →
-    passes (λ c. not (c == closes_by how || c == 92)) b ≡ false → is_byte b 92 ≡ true
+    passes (λ c. not (c == closes_by how || c == backslash)) b ≡ false → is_byte b backslash ≡ true
 backslash_by how None some other e = absurd cc
 backslash_by escapings.Backquotes (Some b) some other e = grind (arith, nat_tests)
 backslash_by escapings.DollarSingle (Some b) some other e = grind (arith, nat_tests)
 
 -- what stops a search in it and does not close it is a backslash
 pub backslash_next : (how : Escaping) (T : List ℕ) (p : ℕ) → at_end T (next_escaped how T p) ≡ false →
-    raw_stands T (next_escaped how T p) (closes_by how) ≡ false → raw_stands T (next_escaped how T p) 92 ≡ true
+    raw_stands T (next_escaped how T p) (closes_by how) ≡ false → raw_stands T (next_escaped how T p) backslash ≡ true
 unfolding raw_stands raw_in at_end
 backslash_next how T p some other =
     backslash_by how (slice_get T (next_escaped how T p)) some other
-    (raw_past_stops (λ c. not (c == closes_by how || c == 92)) T p)
+    (raw_past_stops (λ c. not (c == closes_by how || c == backslash)) T p)
 
 -- by how the text is quoted, and by that byte
-closer_by : (how : Escaping) (b : Option ℕ) → is_byte b (closes_by how) ≡ true → is_byte b 92 ≡ false
+closer_by : (how : Escaping) (b : Option ℕ) → is_byte b (closes_by how) ≡ true → is_byte b backslash ≡ false
 closer_by how None e = absurd cc
 closer_by escapings.Backquotes (Some b) e = grind (arith, nat_tests)
 closer_by escapings.DollarSingle (Some b) e = grind (arith, nat_tests)
 
 -- what closes it is no backslash
 pub closer_is : (how : Escaping) (T : List ℕ) (p : ℕ) → raw_stands T p (closes_by how) ≡ true →
-    raw_stands T p 92 ≡ false
+    raw_stands T p backslash ≡ false
 unfolding raw_stands
 closer_is how T p e = closer_by how (slice_get T p) e

@@ -20,7 +20,7 @@ use Rattle.std.proofs.lemmas.Bool.{not-true, or_parts}
 use Rattle.shgrammar.specs.declared.keep.Keep.{Keep}
 use Rattle.shgrammar.proofs.Turns.{many_again, many_done}
 use Rattle.shgrammar.proofs.Stretches.{place_low}
-use Rattle.shgrammar.proofs.Unbroken.{stays}
+use Rattle.shgrammar.proofs.Unbroken.{unbroken_at}
 use Rattle.shgrammar.proofs.Levels.{level_below}
 use Rattle.shgrammar.specs.declared.edition.Edition.{Edition}
 
@@ -72,7 +72,7 @@ ordinary_at T p mode n None plain = absurd cc
 ordinary_at T p mode n (Some b) plain = ordinary_by T p mode n b plain
 
 -- a backslash is plain in no mode
-no_backslash : (mode : Mode) → is_plain mode 92 ≡ false
+no_backslash : (mode : Mode) → is_plain mode backslash ≡ false
 no_backslash Plain = refl
 no_backslash Double = refl
 no_backslash Brace = refl
@@ -122,7 +122,7 @@ module _ (inner : Inner) (keep : Keep) (g : Given) (mode : Mode) (b : ℕ) (ws :
       turn h (placed ws ds p) ≡ Ok (again h, placed ws ds (p + 1))
   unfolding a_piece piece_at past_byte
   plain_piece h p plain =
-      let same = stays (is_plain mode) g.text p (no_backslash mode) plain in
+      let same = unbroken_at (is_plain mode) g.text p (no_backslash mode) plain in
       let ordinary : piece_by g.text p mode h.nested (byte_at g.text p) ≡ pieces.Ordinary =
       ap (λ q. piece_by g.text p mode h.nested (slice_get g.text q)) same
       ∙ ordinary_at g.text p mode h.nested (slice_get g.text p) (unfold raw_in in plain) in

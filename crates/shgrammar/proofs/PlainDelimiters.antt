@@ -7,7 +7,7 @@ use Rattle.std.proofs.lemmas.Bool.{and_left, and_parts, and_right, eqb-true, lt-
 use Rattle.std.proofs.lemmas.Bool.Decides.{nat_tests}
 use Rattle.std.proofs.lemmas.List.{append-nil, drop_all, drop_more, drop-drop, length-drop, length-take-le, take-append-drop}
 use Rattle.shast.specs.Shape.{bare}
-use Rattle.shgrammar.specs.Characters.{apostrophe, dollar_sign, grave_accent, newline_char, quotation_mark}
+use Rattle.shgrammar.specs.Characters.{apostrophe, backslash, dollar_sign, grave_accent, newline_char, quotation_mark}
 use Rattle.shgrammar.specs.declared.mode.Mode.TheVariants.{Plain}
 use Rattle.shgrammar.specs.Plain.{is_plain, is_special_in}
 use Rattle.shgrammar.specs.Bytes.{ends}
@@ -41,12 +41,12 @@ all_three true true c e = (refl, refl, e)
 -- it is not special, and quotes nothing
 module _ (b : ℕ) (plain : is_plain Plain b ≡ true) where
   -- it is no backslash, no backquote and no `$`, and not special outside quotes
-  not_special : ((b == 92) ≡ false) × ((b == grave_accent) ≡ false) × ((b == dollar_sign) ≡ false)
+  not_special : ((b == backslash) ≡ false) × ((b == grave_accent) ≡ false) × ((b == dollar_sign) ≡ false)
       × (not (is_special_in Plain b) ≡ true)
-  not_special = none_of_four (b == 92) (b == grave_accent) (b == dollar_sign) (is_special_in Plain b) plain
+  not_special = none_of_four (b == backslash) (b == grave_accent) (b == dollar_sign) (is_special_in Plain b) plain
 
   -- it is none of the bytes that quote or expand
-  no_backslash : (b == 92) ≡ false
+  no_backslash : (b == backslash) ≡ false
   no_backslash = not_special.0
 
   no_backquote : (b == grave_accent) ≡ false
@@ -88,8 +88,12 @@ left_more b xs (Some bs) = refl
 plain_step : (q : Quoting) (second : Bool) (b : ℕ) (bs : List ℕ) → is_plain Plain b ≡ true →
     unquoted q second (b ∷ bs) ≡ left_before b (unquoted q second bs)
 plain_step q second b bs plain =
-    unquoted_byte q second b bs (and_right _ _ (not_live q 92 b (no_backslash b plain)))
-    ∙ rw (no_quote b plain q, not_live q 96 b (no_backquote b plain), not_live q 36 b (no_dollar b plain)) refl
+    unquoted_byte q second b bs (and_right _ _ (not_live q backslash b (no_backslash b plain)))
+    ∙ rw (
+      no_quote b plain q,
+      not_live q grave_accent b (no_backquote b plain),
+      not_live q dollar_sign b (no_dollar b plain),
+    ) refl
 
 plain_on : (q : Quoting) (second : Bool) (xs rest : List ℕ) → list_all (is_plain Plain) xs ≡ true →
     unquoted q second (xs ++ rest) ≡ left_of xs (unquoted q second rest)
@@ -118,12 +122,12 @@ alone_bare (b ∷ xs) all =
 -- ---- of them in quotes
 
 -- by which of the two quotes it is
-quote_is : (b : ℕ) (t : Bool) → (b == apostrophe) ≡ t → (t || b == quotation_mark) ≡ true → (b == 92) ≡ false
+quote_is : (b : ℕ) (t : Bool) → (b == apostrophe) ≡ t → (t || b == quotation_mark) ≡ true → (b == backslash) ≡ false
 quote_is b true is e = grind (arith, nat_tests, is)
 quote_is b false is e = grind (arith, nat_tests, e)
 
 -- a quote is no backslash
-quote_quotes : (b : ℕ) → is_quote not_quoted b ≡ true → (b == 92) ≡ false
+quote_quotes : (b : ℕ) → is_quote not_quoted b ≡ true → (b == backslash) ≡ false
 quote_quotes b e = quote_is b (b == apostrophe) refl e
 
 -- of the quote that ends them nothing is left
@@ -159,19 +163,19 @@ no_newline c plain = (none_of_three (is_blank c) (c == newline_char) (is_operato
 
 -- of ordinary bytes after a backslash they are left, and the word is quoted
 escaped_left : (c : ℕ) (cs : List ℕ) → list_all (is_plain Plain) (c ∷ cs) ≡ true →
-    unquoted not_quoted false (92 ∷ c ∷ cs) ≡ Some (c ∷ cs)
+    unquoted not_quoted false (backslash ∷ c ∷ cs) ≡ Some (c ∷ cs)
 escaped_left c cs all =
     let both = and_parts _ _ all in
-    unquoted_escape not_quoted false 92 c cs refl ∙ rw (no_newline c both.0, alone_left cs both.1) refl
+    unquoted_escape not_quoted false backslash c cs refl ∙ rw (no_newline c both.0, alone_left cs both.1) refl
 
 next_is : (c d : ℕ) (cs ds : List ℕ) → c ∷ cs ≡ d ∷ ds → (c == newline_char) ≡ false → (d == newline_char) ≡ false
 next_is c d cs ds e other = let same : c ≡ d = cc in ap (λ (x : ℕ). x == newline_char) (sym same) ∙ other
 
-escaped_bare : (c : ℕ) (cs : List ℕ) → list_all (is_plain Plain) (c ∷ cs) ≡ true → is_quoted (92 ∷ c ∷ cs) ≡ true
+escaped_bare : (c : ℕ) (cs : List ℕ) → list_all (is_plain Plain) (c ∷ cs) ≡ true → is_quoted (backslash ∷ c ∷ cs) ≡ true
 escaped_bare c cs all =
     let both = and_parts _ _ all in
-    let first : bare (92 ∷ c ∷ cs) ≡ 92 ∷ bare (c ∷ cs) =
-    bare_one 92 (c ∷ cs) (λ d ds e. next_is c d cs ds e (no_newline c both.0)) in
+    let first : bare (backslash ∷ c ∷ cs) ≡ backslash ∷ bare (c ∷ cs) =
+    bare_one backslash (c ∷ cs) (λ d ds e. next_is c d cs ds e (no_newline c both.0)) in
     rw first refl
 
 -- ---- the word
@@ -235,8 +239,8 @@ escaped_part : (word : List ℕ) → is_escaped word ≡ true → list_all (is_p
 escaped_part [] is all = absurd cc
 escaped_part (b ∷ []) is all = absurd cc
 escaped_part (b ∷ c ∷ cs) is all =
-    let slash : b ≡ 92 = eqb-true b 92 (and_parts _ (b == 92) is).1 in
-    let less : nat_lt (length (c ∷ cs)) (length (92 ∷ c ∷ cs)) ≡ true = lt-ltb _ _ (omega arith) in
+    let slash : b ≡ backslash = eqb-true b backslash (and_parts _ (b == backslash) is).1 in
+    let less : nat_lt (length (c ∷ cs)) (length (backslash ∷ c ∷ cs)) ≡ true = lt-ltb _ _ (omega arith) in
     rw (slash, escaped_left c cs all, escaped_bare c cs all, less) refl
 
 alone_part : (word : List ℕ) → list_all (is_plain Plain) word ≡ true → is_its_part word word

@@ -11,35 +11,35 @@ use Rattle.shgrammar.specs.Bytes.{ends}
 use Rattle.shgrammar.specs.Plain.{alone, begins_a_word, is_plain}
 
 -- whether two flags are the same; where that is so they are equal
-unfoldable pub same : Bool → Bool → Bool
-same true b = b
-same false true = false
-same false false = true
+unfoldable pub same_flag : Bool → Bool → Bool
+same_flag true b = b
+same_flag false true = false
+same_flag false false = true
 
-pub same_is : (a b : Bool) → same a b ≡ true → a ≡ b
-unfolding same
-same_is true b e = sym e
-same_is false true e = absurd cc
-same_is false false e = refl
+pub same_flag_is : (a b : Bool) → same_flag a b ≡ true → a ≡ b
+unfolding same_flag
+same_flag_is true b e = sym e
+same_flag_is false true e = absurd cc
+same_flag_is false false e = refl
 
 -- from the byte n on, a byte has none of the marks of the set where it passes the test, and only there
 agrees : ℕ → (ℕ → Bool) → List ℕ → ℕ → Bool
 agrees set test [] n = true
-agrees set test (x ∷ xs) n = same (bit_and x set == 0) (test n) && agrees set test xs (n + 1)
+agrees set test (x ∷ xs) n = same_flag (bit_and x set == 0) (test n) && agrees set test xs (n + 1)
 
 -- so it is with each byte that the table has
 agrees_at : (set : ℕ) (test : ℕ → Bool) (xs : List ℕ) (n k : ℕ) → agrees set test xs n ≡ true → k < length xs →
     (bit_and (get_or xs k 0) set == 0) ≡ test (n + k)
 unfolding agrees
 agrees_at set test [] n k e lt = absurd (omega arith)
-agrees_at set test (x ∷ xs) n zero e lt = same_is _ (test n) (and_parts _ _ e).0 ∙ ap test (sym (add-zero n))
+agrees_at set test (x ∷ xs) n zero e lt = same_flag_is _ (test n) (and_parts _ _ e).0 ∙ ap test (sym (add-zero n))
 agrees_at set test (x ∷ xs) n (suc k) e lt =
     let next : n + 1 + k ≡ n + suc k = omega arith in
     agrees_at set test xs (n + 1) k (and_parts _ _ e).1 (omega arith) ∙ ap test next
 
 -- a byte has no mark of a mode where it is plain in it, and only there
 all_agree : (mode : Mode) → agrees (alone mode) (is_plain mode) MARKS 0 ≡ true
-unfolding agrees same
+unfolding agrees same_flag
 all_agree Plain = refl
 all_agree Double = refl
 all_agree Brace = refl
@@ -60,11 +60,11 @@ marks set test b e lt = ap not (agrees_at set (λ c. not (test c)) MARKS 0 b e l
 
 -- a byte is marked by 32 where a word ends before it, and by 64 where a name has it
 ends_agree : agrees 32 (λ b. not (ends (Some b))) MARKS 0 ≡ true
-unfolding agrees same
+unfolding agrees same_flag
 ends_agree = refl
 
 names_agree : agrees 64 (λ b. not (is_name b)) MARKS 0 ≡ true
-unfolding agrees same
+unfolding agrees same_flag
 names_agree = refl
 
 pub table_ends : (b : ℕ) → b < 256 → not (bit_and (get_or MARKS b 0) 32 == 0) ≡ ends (Some b)
@@ -75,7 +75,7 @@ table_names b lt = marks 64 is_name b names_agree lt
 
 -- it is marked by 128, unless only a word begins with it
 words_agree : agrees 128 begins_a_word MARKS 0 ≡ true
-unfolding agrees same
+unfolding agrees same_flag
 words_agree = refl
 
 pub table_words : (b : ℕ) → b < 256 → (bit_and (get_or MARKS b 0) 128 == 0) ≡ begins_a_word b

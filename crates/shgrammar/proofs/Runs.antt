@@ -94,7 +94,7 @@ module _ (B : List ℕ) (base at : ℕ) (run : List ℕ) (is : IsRun B (base + a
       → is_word_at (drop base B) (at + i) (drop i word) ≡ is_word_at (drop base B) (at + (i + 1)) (drop (i + 1) word)
   run_letter_more word i lt short whole same =
       let next : at + i + 1 ≡ at + (i + 1) = omega arith in
-      letter_more (drop base B) (at + i) word i lt (run_raw i 92 false short whole)
+      letter_more (drop base B) (at + i) word i lt (run_raw i backslash false short whole)
       (run_raw i (get_or word i 0) true short same)
       ∙ ap (λ q. is_word_at (drop base B) q (drop (i + 1) word)) next
 
@@ -103,7 +103,7 @@ module _ (B : List ℕ) (base at : ℕ) (run : List ℕ) (is : IsRun B (base + a
       → (slice_index run i == get_or word i 0) ≡ false
       → is_word_at (drop base B) (at + i) (drop i word) ≡ false
   run_letter_other word i lt short whole other =
-      letter_other (drop base B) (at + i) word i lt (run_raw i 92 false short whole)
+      letter_other (drop base B) (at + i) word i lt (run_raw i backslash false short whole)
       (run_raw i (get_or word i 0) false short other)
 
   pub run_word_whole : (word : List ℕ) → length word < length run → (slice_index run (length word) == backslash) ≡ false
@@ -112,5 +112,5 @@ module _ (B : List ℕ) (base at : ℕ) (run : List ℕ) (is : IsRun B (base + a
   unfolding ends_word
   run_word_whole word short whole =
       let here : past_continuations (drop base B) (at + length word) ≡ at + length word =
-      raw_stays (drop base B) (at + length word) (run_raw (length word) 92 false short whole) in
+      raw_stays (drop base B) (at + length word) (run_raw (length word) backslash false short whole) in
       word_whole (drop base B) (at + length word) word (length word) refl ∙ rw (here, run_byte (length word) short) refl

@@ -73,10 +73,10 @@ byte_other None c d e f = refl
 byte_other (Some b) c d e f = grind (arith, nat_tests)
 
 -- a continuation is two bytes
-pub continued : (T : List ℕ) (p : ℕ) → continues T p ≡ true → (raw_stands T p backslash ≡ true)
+pub continuation_is_two : (T : List ℕ) (p : ℕ) → continues T p ≡ true → (raw_stands T p backslash ≡ true)
     × (raw_stands T (p + 1) newline_char ≡ true)
 unfolding continues
-continued T p e = and_parts _ _ e
+continuation_is_two T p e = and_parts _ _ e
 
 module _ {edition : Edition} {T T2 : List ℕ} {a L : ℕ} {to : ℕ → ℕ} (K : Kept edition T T2 a L to) where
   -- ---- where it is safe

@@ -28,7 +28,7 @@ use Rattle.shgrammar.proofs.Stretches.{byte_is}
 use Rattle.shgrammar.proofs.SameBytes.{at_limit, byte_other, goes_on, halts, no_backslash}
 use Rattle.shgrammar.proofs.Ahead.{ListEnds, newline_ends, past_byte_is, same_after}
 use Rattle.shgrammar.proofs.BodiesThere.{read_to_limit}
-use Rattle.shgrammar.proofs.TokensShown.{Begins, Fine, newline_here, shown_level, shown_next, shown_on_line}
+use Rattle.shgrammar.proofs.TokensShown.{Begins, InnerHandsOn, newline_here, shown_level, shown_next, shown_on_line}
 use Rattle.shgrammar.proofs.Asked.{Good}
 use Rattle.shgrammar.proofs.NoFurther.{reads_the_same, read_at_or_after, there, elsewhere}
 use Rattle.shgrammar.specs.declared.edition.Edition.{Edition}
@@ -172,7 +172,7 @@ module _ {edition : Edition} {T U : List ℕ} {a M : ℕ} {to : ℕ → ℕ} (E 
   held {P = P} r s x t k told part = subst (Holds P) (sym ((computed_is_only r g s).only (Ok (x, t)) k part)) told.told
 
   -- a line without the bodies of its here-documents
-  open_again : (inner : Inner) → Fine g inner → (blank : Bool) (s : State) → a ≤ s.at →
+  open_again : (inner : Inner) → InnerHandsOn g inner → (blank : Bool) (s : State) → a ≤ s.at →
       (y : Read (Row AnEntry × Bool)) (k : Row Spelled) → may (an_open_line inner blank) g s y k →
       Again (an_open_line inner blank) s y
   unfolding an_open_line
@@ -201,7 +201,7 @@ module _ {edition : Edition} {T U : List ℕ} {a M : ℕ} {to : ℕ → ℕ} (E 
   level_again inner blank s inside y k (or_stops (level_stops one)) closed = absurd closed
 
   -- so a line is read again, where the newline at M ends it
-  pub line_again : (inner : Inner) → Fine g inner → (blank : Bool) (s : State) → a ≤ s.at →
+  pub line_again : (inner : Inner) → InnerHandsOn g inner → (blank : Bool) (s : State) → a ≤ s.at →
       (y : Read (Row AnEntry × Bool)) (k : Row Spelled) → may (a_line inner blank) g s y k →
       Again (a_line inner blank) s y
   unfolding a_line

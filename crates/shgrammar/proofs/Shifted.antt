@@ -6,7 +6,7 @@ use Rattle.shgrammar.specs.Comments.{span}
 use Rattle.shgrammar.specs.Sights.{given, State, Waiting}
 use Rattle.shgrammar.specs.HereDocuments.{rest_of_line, past_line, takes_newline, delimiter_below, delimiter_on, delimiter_from, body_by, bodies_from}
 use Rattle.shgrammar.proofs.Places.{next_newline_low}
-use Rattle.shgrammar.proofs.Delimiters.{between}
+use Rattle.shgrammar.proofs.Delimiters.{delimiter_between}
 use Rattle.shgrammar.specs.declared.edition.Edition.{Edition}
 
 -- the offset x, where the offset k goes to l
@@ -71,7 +71,7 @@ module _ (edition : Edition) (T : List ℕ) (o u k l low : ℕ) (begins : k ≤ 
   unfolding bodies_from
   one_moved w ws bodies p x from more None found read = absurd cc
   one_moved w ws bodies p x from more (Some q) found read =
-      let one = between T w false p q found in
+      let one = delimiter_between T w false p q found in
       let next = more (bodies ++ span o p q ∷ []) (past_line T q)
       (omega (arith, from, one.0, one.1, next_newline_low T q)) read in
       let here : map (span_from k l) (bodies ++ span o p q ∷ []) ≡ map (span_from k l) bodies ++ span u p q ∷ [] =
@@ -81,13 +81,13 @@ module _ (edition : Edition) (T : List ℕ) (o u k l low : ℕ) (begins : k ≤ 
       rw (same_from k l T w p, found, ← here) next
 
   -- and so those of all that wait
-  pub moved : (ws : Row Waiting) (bodies : Row Span) (p : ℕ) (x : Row Span × ℕ) → low ≤ p →
+  pub bodies_from_moved : (ws : Row Waiting) (bodies : Row Span) (p : ℕ) (x : Row Span × ℕ) → low ≤ p →
       bodies_from (given edition T o) ws bodies p ≡ Ok x → Moved ws bodies p x
   unfolding bodies_from
-  moved [] bodies p x from read = let is : (bodies, p) ≡ x = cc in
+  bodies_from_moved [] bodies p x from read = let is : (bodies, p) ≡ x = cc in
       ap (λ (y : Row Span × ℕ). Ok (map (span_from k l) y.0, y.1)) is
-  moved (w ∷ ws) bodies p x from read =
-      one_moved w ws bodies p x from (λ bs q. moved ws bs q x) (delimiter_from T w p) refl read
+  bodies_from_moved (w ∷ ws) bodies p x from read =
+      one_moved w ws bodies p x from (λ bs q. bodies_from_moved ws bs q x) (delimiter_from T w p) refl read
 
 -- moved twice
 pub twice_spans : (k l j m : ℕ) (f : ℕ → ℕ) → ((x : ℕ) → shifted j m (shifted k l x) ≡ f x) → (bs : Row Span) →

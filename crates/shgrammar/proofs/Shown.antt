@@ -269,10 +269,10 @@ unfolding past_blanks
 blanks_still T p = place_same T _
 
 -- a token says this of the bytes after blanks
-pub shown : (position : Position) (T : List ℕ) (p : ℕ) →
+pub token_shown : (position : Position) (T : List ℕ) (p : ℕ) →
     Shows (token_at position T (past_blanks T p)) T (past_blanks T p)
 unfolding token_at stands_in raw_stands
-shown position T p =
+token_shown position T p =
     let q = past_blanks T p in
     shows_by T q _ (blanks_still T p) (λ e. some_low T _ _ refl (some_byte T q position (byte_at T q) e))
     (token_byte T q position (byte_at T q) (blanks_stop T p))
@@ -309,7 +309,7 @@ shows_in edition tokens.Word T p so = so
 pub shown_in : (edition : Edition) (position : Position) (T : List ℕ) (p : ℕ) →
     Shows (token_in edition (token_at position T (past_blanks T p))) T (past_blanks T p)
 shown_in edition position T p =
-    shows_in edition (token_at position T (past_blanks T p)) T (past_blanks T p) (shown position T p)
+    shows_in edition (token_at position T (past_blanks T p)) T (past_blanks T p) (token_shown position T p)
 
 -- what a token says of them is a fact: it has one value at most
 pub shows_prop : (token : Token) (T : List ℕ) (p : ℕ) → IsProp (Shows token T p)

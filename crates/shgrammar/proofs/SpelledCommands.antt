@@ -25,8 +25,8 @@ use Rattle.shgrammar.proofs.Spelling.{Passing, pass_give, pass_stop, pass_so, pa
 -- ---- rows that grow at their end
 
 -- where a row is two rows, the one after the other, so it is with more in front of it and of the first
-pub between : (a x b c : Tokens) → x ≡ b ++ c → a ++ x ≡ (a ++ b) ++ c
-between a x b c is = ap (λ z. a ++ z) is ∙ sym (append_assoc a b c)
+pub append_between : (a x b c : Tokens) → x ≡ b ++ c → a ++ x ≡ (a ++ b) ++ c
+append_between a x b c is = ap (λ z. a ++ z) is ∙ sym (append_assoc a b c)
 
 module _ (B : List ℕ) where
   -- with one more at its end a row spells what it spelled, and then that
@@ -34,7 +34,8 @@ module _ (B : List ℕ) where
       spell_items (shape_of_items B (items_of (is ++ i ∷ []))) ≡ spell_items (shape_of_items B (items_of is))
       ++ spell_item (shape_of_item B i)
   items_last [] i = append-nil _
-  items_last (j ∷ is) i = between (spell_item (shape_of_item B j)) _ (spell_items (shape_of_items B (items_of is)))
+  items_last (j ∷ is) i = append_between (spell_item (shape_of_item B j)) _
+      (spell_items (shape_of_items B (items_of is)))
       (spell_item (shape_of_item B i)) (items_last is i)
 
   -- with one more at its end a row of commands, or of pipelines, spells what it spelled, and then that
@@ -43,7 +44,7 @@ module _ (B : List ℕ) where
       ≡ spell_pipes (shape_of_pipes B (pipeline_parts_of ps))
       ++ (codes "|" ∷ spell_command (shape_of_command B p.command))
   pipes_last [] p = ap (λ z. codes "|" ∷ z) (append-nil _)
-  pipes_last (q ∷ ps) p = between (codes "|" ∷ spell_command (shape_of_command B q.command)) _
+  pipes_last (q ∷ ps) p = append_between (codes "|" ∷ spell_command (shape_of_command B q.command)) _
       (spell_pipes (shape_of_pipes B (pipeline_parts_of ps))) (codes "|" ∷ spell_command (shape_of_command B p.command))
       (pipes_last ps p)
 
@@ -53,7 +54,7 @@ module _ (B : List ℕ) where
       ++ (and_or_text p.operator ∷ spell_pipeline (shape_of_pipeline B p.pipeline))
   joined_last [] p = ap (λ z. and_or_text p.operator ∷ z) (append-nil _)
   joined_last (q ∷ ps) p =
-      between (and_or_text q.operator ∷ spell_pipeline (shape_of_pipeline B q.pipeline)) _
+      append_between (and_or_text q.operator ∷ spell_pipeline (shape_of_pipeline B q.pipeline)) _
       (spell_and_or_parts (shape_of_and_or_parts B (and_or_parts_of ps)))
       (and_or_text p.operator ∷ spell_pipeline (shape_of_pipeline B p.pipeline)) (joined_last ps p)
 
@@ -79,13 +80,13 @@ module _ (B : List ℕ) where
 
 -- what may be opened passes the tokens that its shape spells
 module _ (B : List ℕ) (g : Given) (stands : g.text ≡ drop g.offset B) where
-  pub record Fine (inner : Inner) : Type 0 where
+  pub record InnerSpells (inner : Inner) : Type 0 where
     pub compound : (o : Opener) (s : State) → Passing g (inner.compound o) (IsBare B) s
     pub function : (name : Span) (s : State) →
         Passing g (inner.function name) (λ c k. text_at B name ∷ k ≡ spell_command (shape_of_command B c.0)) s
 
 module _ {B : List ℕ} {g : Given} {stands : g.text ≡ drop g.offset B} {inner : Inner}
-    (fine : Fine B g stands inner) where
+    (fine : InnerSpells B g stands inner) where
   -- ---- simple commands
 
   -- Each row: the tokens passed are those that the shape of what it gives spells; a turn passes what it adds.

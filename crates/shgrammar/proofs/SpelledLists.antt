@@ -32,7 +32,7 @@ use Rattle.shgrammar.specs.declared.edition.Edition.{Edition}
 use Rattle.shgrammar.specs.declared.token.Token.{Token}
 use Rattle.std.proofs.lemmas.Bool.{or_parts}
 use Rattle.shgrammar.proofs.Spelling.{Passing, held_if, pass_give, pass_stop, pass_so, pass_then, Silent, pass_on, pass_last, pass_see, pass_move, pass_pushed, pass_in_level, pass_change, OneText, pass_text, pass_pick, Grows, grows_none, pass_many, silent_next, silent_comment, silent_newline, silent_semicolon, silent_linebreak, silent_bracket, pass_ender, pass_unexpected, pass_word}
-use Rattle.shgrammar.proofs.SpelledCommands.{between, Spells, spelled_items, IsBare, Fine, pass_item, pass_compound_by, pass_entry}
+use Rattle.shgrammar.proofs.SpelledCommands.{append_between, Spells, spelled_items, IsBare, InnerSpells, pass_item, pass_compound_by, pass_entry}
 
 -- ---- rows that grow at their end
 
@@ -42,7 +42,7 @@ module _ (B : List ℕ) where
       spell_branches (shape_of_branches B (branches_of (bs ++ b ∷ [])))
       ≡ spell_branches (shape_of_branches B (branches_of bs)) ++ (codes "elif" ∷ spell_branch (shape_of_branch B b))
   branches_last [] b = ap (λ z. codes "elif" ∷ z) (append-nil _)
-  branches_last (c ∷ bs) b = between (codes "elif" ∷ spell_branch (shape_of_branch B c)) _
+  branches_last (c ∷ bs) b = append_between (codes "elif" ∷ spell_branch (shape_of_branch B c)) _
       (spell_branches (shape_of_branches B (branches_of bs))) (codes "elif" ∷ spell_branch (shape_of_branch B b))
       (branches_last bs b)
 
@@ -50,7 +50,8 @@ module _ (B : List ℕ) where
       spelling (shape_of B (entries_of (es ++ ls))) ≡ spelling (shape_of B (entries_of es))
       ++ spelling (shape_of B (entries_of ls))
   entries_joined [] ls = refl
-  entries_joined (e ∷ es) ls = between (spell_entry (shape_of_entry B e)) _ (spelling (shape_of B (entries_of es)))
+  entries_joined (e ∷ es) ls = append_between (spell_entry (shape_of_entry B e)) _
+      (spelling (shape_of B (entries_of es)))
       (spelling (shape_of B (entries_of ls))) (entries_joined es ls)
 
   entries_last : (es : Row AnEntry) (e : AnEntry) →
@@ -62,7 +63,7 @@ module _ (B : List ℕ) where
       spell_patterns (shape_of_patterns B (patterns_of (ws ++ w ∷ [])))
       ≡ spell_patterns (shape_of_patterns B (patterns_of ws)) ++ (codes "|" ∷ spell_word (shape_of_word B w))
   patterns_last [] w = ap (λ z. codes "|" ∷ z) (append-nil _)
-  patterns_last (v ∷ ws) w = between (codes "|" ∷ spell_word (shape_of_word B v)) _
+  patterns_last (v ∷ ws) w = append_between (codes "|" ∷ spell_word (shape_of_word B v)) _
       (spell_patterns (shape_of_patterns B (patterns_of ws))) (codes "|" ∷ spell_word (shape_of_word B w))
       (patterns_last ws w)
 
@@ -76,7 +77,8 @@ module _ (B : List ℕ) where
       spell_cases (shape_of_cases B (cases_of (cs ++ c ∷ []))) ≡ spell_cases (shape_of_cases B (cases_of cs))
       ++ spell_case (shape_of_case B c)
   cases_last [] c = append-nil _
-  cases_last (d ∷ cs) c = between (spell_case (shape_of_case B d)) _ (spell_cases (shape_of_cases B (cases_of cs)))
+  cases_last (d ∷ cs) c = append_between (spell_case (shape_of_case B d)) _
+      (spell_cases (shape_of_cases B (cases_of cs)))
       (spell_case (shape_of_case B c)) (cases_last cs c)
 
   -- a comment is no token
@@ -86,7 +88,7 @@ module _ (B : List ℕ) where
   remarks_spelled (c ∷ cs) es = remarks_spelled cs es
 
 module _ {B : List ℕ} {g : Given} {stands : g.text ≡ drop g.offset B} {inner : Inner}
-    (fine : Fine B g stands inner) where
+    (fine : InnerSpells B g stands inner) where
   -- ---- lists
 
   -- Each turn adds the tokens that it passes to those that the list so far spells.
@@ -494,7 +496,8 @@ module _ {B : List ℕ} {g : Given} {stands : g.text ≡ drop g.offset B} {inner
       (λ l k so. so ∙ sym (bodies_spelled l.1 l.0.0))
 
 -- what may be opened passes the tokens that its shape spells, by how many more may be
-pass_level : (B : List ℕ) (g : Given) (stands : g.text ≡ drop g.offset B) (room : ℕ) → Fine B g stands (level room)
+pass_level : (B : List ℕ) (g : Given) (stands : g.text ≡ drop g.offset B) (room : ℕ) →
+    InnerSpells B g stands (level room)
 unfolding level
 pass_level B g stands zero = record {
   compound = λ o s. pass_on g (pass_see g) (λ p t. pass_stop g);

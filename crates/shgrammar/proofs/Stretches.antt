@@ -4,7 +4,7 @@ use Rattle.std.proofs.Math.Seq.{drop-length}
 use Rattle.std.proofs.lemmas.Option.{slice_get_within, slice_get_past, get_or_from_slice_get}
 use Rattle.std.proofs.lemmas.Bool.{eqb-true}
 use Rattle.std.proofs.lemmas.List.{drop_more}
-use Rattle.shgrammar.specs.Characters.{newline_char}
+use Rattle.shgrammar.specs.Characters.{backslash, newline_char}
 use Rattle.shgrammar.specs.Standing.{raw_stands, raw_in, passes, is_byte, count_front, raw_past, before_blanks, continues}
 use Rattle.shgrammar.specs.Bytes.{stands, stands_in, past, past_below, ends_word, count_joined, past_continuations, byte_at, past_byte}
 use Rattle.shgrammar.specs.Classes.{is_blank}
@@ -99,12 +99,12 @@ alone false n = refl
 
 -- how many bytes from p on are continuations, by the two at p
 joined_at : (T : List ℕ) (p : ℕ) →
-    count_joined (drop p T) ≡ cond (is_byte (slice_get T p) 92 && is_byte (slice_get T (p + 1)) newline_char)
+    count_joined (drop p T) ≡ cond (is_byte (slice_get T p) backslash && is_byte (slice_get T (p + 1)) newline_char)
     (2 + count_joined (drop (p + 2) T)) 0
 unfolding count_joined
 joined_at [] zero = refl
 joined_at [] (suc p) = refl
-joined_at (b ∷ []) zero = alone (b == 92) 2
+joined_at (b ∷ []) zero = alone (b == backslash) 2
 joined_at (b ∷ c ∷ T) zero = refl
 joined_at (b ∷ T) (suc p) =
     let one : suc p + 1 ≡ suc (p + 1) = omega arith in
@@ -227,16 +227,16 @@ word_whole T p word i e = rw (e, drop-length word) refl
 -- ---- the same where no backslash stands
 
 -- no continuation stands there, and what stands there is read
-pub raw_stays : (T : List ℕ) (p : ℕ) → raw_stands T p 92 ≡ false → past_continuations T p ≡ p
+pub raw_stays : (T : List ℕ) (p : ℕ) → raw_stands T p backslash ≡ false → past_continuations T p ≡ p
 unfolding continues
 raw_stays T p e = joined_none T p (rw e refl)
 
-raw_letter : (T : List ℕ) (p c : ℕ) → raw_stands T p 92 ≡ false → stands T p c ≡ raw_stands T p c
+raw_letter : (T : List ℕ) (p c : ℕ) → raw_stands T p backslash ≡ false → stands T p c ≡ raw_stands T p c
 unfolding stands raw_stands
 raw_letter T p c e = ap (λ q. is_byte (slice_get T q) c) (raw_stays T p e)
 
 -- the same by whether that byte stands there
-pub letter_more : (T : List ℕ) (p : ℕ) (word : List ℕ) (i : ℕ) → i < length word → raw_stands T p 92 ≡ false →
+pub letter_more : (T : List ℕ) (p : ℕ) (word : List ℕ) (i : ℕ) → i < length word → raw_stands T p backslash ≡ false →
     raw_stands T p (get_or word i 0) ≡ true
     → is_word_at T p (drop i word) ≡ is_word_at T (p + 1) (drop (i + 1) word)
 unfolding past_byte
@@ -244,7 +244,7 @@ letter_more T p word i lt e is =
     word_more T p word i lt (raw_letter T p _ e ∙ is)
     ∙ ap (λ q. is_word_at T (q + 1) (drop (i + 1) word)) (raw_stays T p e)
 
-pub letter_other : (T : List ℕ) (p : ℕ) (word : List ℕ) (i : ℕ) → i < length word → raw_stands T p 92 ≡ false →
+pub letter_other : (T : List ℕ) (p : ℕ) (word : List ℕ) (i : ℕ) → i < length word → raw_stands T p backslash ≡ false →
     raw_stands T p (get_or word i 0) ≡ false
     → is_word_at T p (drop i word) ≡ false
 letter_other T p word i lt e other = word_other T p word i lt (raw_letter T p _ e ∙ other)

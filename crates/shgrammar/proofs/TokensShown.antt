@@ -129,11 +129,11 @@ module _ (g : Given) where
   -- Each row of a command hands on the token after it; one that reads nothing hands on the one it was given.
 
   -- what may be opened hands on the token that begins after it
-  pub record Fine (inner : Inner) : Type 0 where
+  pub record InnerHandsOn (inner : Inner) : Type 0 where
     pub compound : (o : Opener) (s : State) → N (inner.compound o) HandsOn s
     pub function : (name : Span) (s : State) → N (inner.function name) HandsOn s
 
-  module _ (inner : Inner) (fine : Fine inner) where
+  module _ (inner : Inner) (fine : InnerHandsOn inner) where
     -- the token after the items so far begins here
     abbrev ItemsShown : ItemsSoFar → State → Type 0
     ItemsShown i t = Begins i.next t
@@ -566,7 +566,7 @@ module _ (g : Given) where
         (λ b w good. gives good))))
 
   -- by how many more may be opened
-  pub shown_level : (room : ℕ) → Fine (level room)
+  pub shown_level : (room : ℕ) → InnerHandsOn (level room)
   unfolding level
   shown_level zero = record {
     compound = λ o s. after (λ p t. record { told = tt });

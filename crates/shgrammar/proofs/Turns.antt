@@ -28,14 +28,15 @@ same_next g s f h same (Ok (done b, t)) = refl
 same_next g s f h same (Ok (again b, t)) = on_true (leads_on g s t) _ _ _ (λ less. same b t (ltb-true _ _ less))
 
 -- with enough turns, how many they are does not matter
-pub enough : {A : Type 0} (g : Given) (f : A → State → Read (Step A)) (n m : ℕ) (a : A) (s : State) →
+pub enough_turns : {A : Type 0} (g : Given) (f : A → State → Read (Step A)) (n m : ℕ) (a : A) (s : State) →
     length g.text - s.at < n → length g.text - s.at < m
     → turns_below g f n a s ≡ turns_below g f m a s
 unfolding turns_below
-enough g f zero m a s low_n low_m = absurd (omega arith)
-enough g f (suc n) zero a s low_n low_m = absurd (omega arith)
-enough g f (suc n) (suc m) a s low_n low_m =
-    same_next g s (turns_below g f n) (turns_below g f m) (λ b t less. enough g f n m b t (omega arith) (omega arith))
+enough_turns g f zero m a s low_n low_m = absurd (omega arith)
+enough_turns g f (suc n) zero a s low_n low_m = absurd (omega arith)
+enough_turns g f (suc n) (suc m) a s low_n low_m =
+    same_next g s (turns_below g f n) (turns_below g f m)
+    (λ b t less. enough_turns g f n m b t (omega arith) (omega arith))
     (f a s)
 
 -- a turn that leads on
@@ -44,7 +45,7 @@ pub turns_on : {A : Type 0} (g : Given) (f : A → State → Read (Step A)) (a b
 unfolding turns turns_below
 turns_on g f a b s t turn on =
     let less = ltb-true _ _ on in
-    rw (turn, on) (enough g f (length g.text - s.at) (suc (length g.text - t.at)) b t less (omega arith))
+    rw (turn, on) (enough_turns g f (length g.text - s.at) (suc (length g.text - t.at)) b t less (omega arith))
 
 -- a turn that does not
 pub turns_rest : {A : Type 0} (g : Given) (f : A → State → Read (Step A)) (a b : A) (s t : State) →

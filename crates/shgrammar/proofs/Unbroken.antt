@@ -1,7 +1,7 @@
 -- A stretch of bytes of a class where no continuation stands: what is read there is what stands there.
 use Rattle.std.proofs.Common.{◌≡◌, ℕ, zero, suc, ◌+◌, ◌-◌, ◌<◌, ◌≤◌, ◌==◌, Bool, true, false, ◌&&◌, Option, None, Some, slice_get, List, length, refl, sym, ap, ◌∙◌, arith}
 use Rattle.std.proofs.lemmas.Bool.{eqb-true}
-use Rattle.shgrammar.specs.Characters.{newline_char}
+use Rattle.shgrammar.specs.Characters.{backslash, newline_char}
 use Rattle.shgrammar.specs.declared.class.Class.{Class}
 use Rattle.shgrammar.specs.declared.class.Class.TheVariants.{Blank, Digit, Name, Tab}
 use Rattle.shgrammar.specs.Standing.{passes, is_byte, raw_stands, raw_in, raw_past, continues}
@@ -11,23 +11,24 @@ use Rattle.shgrammar.proofs.Stretches.{raw_more, raw_none, joined_none, passes_l
 use Rattle.shgrammar.proofs.Places.{place_same, stands_in_past, raw_past_stops}
 
 -- a byte of a set without the backslash is none
-no_backslash : (test : ℕ → Bool) (b : ℕ) (x : Bool) → (b == 92) ≡ x → test 92 ≡ false → test b ≡ true → x ≡ false
+no_backslash : (test : ℕ → Bool) (b : ℕ) (x : Bool) → (b == backslash) ≡ x → test backslash ≡ false → test b ≡ true →
+    x ≡ false
 no_backslash test b true same other passed =
-    let contrary : true ≡ false = sym passed ∙ ap test (eqb-true b 92 same) ∙ other in
+    let contrary : true ≡ false = sym passed ∙ ap test (eqb-true b backslash same) ∙ other in
     absurd cc
 no_backslash test b false same other passed = refl
 
 -- so such a byte begins no continuation
-no_continuation : (test : ℕ → Bool) (a : Option ℕ) (next : Bool) → test 92 ≡ false → passes test a ≡ true →
-    (is_byte a 92 && next) ≡ false
+no_continuation : (test : ℕ → Bool) (a : Option ℕ) (next : Bool) → test backslash ≡ false → passes test a ≡ true →
+    (is_byte a backslash && next) ≡ false
 no_continuation test None next other passed = absurd cc
-no_continuation test (Some b) next other passed = rw (no_backslash test b (b == 92) refl other passed) refl
+no_continuation test (Some b) next other passed = rw (no_backslash test b (b == backslash) refl other passed) refl
 
 -- no continuation stands where such a byte does
-pub stays : (test : ℕ → Bool) (T : List ℕ) (p : ℕ) → test 92 ≡ false → raw_in test T p ≡ true →
+pub unbroken_at : (test : ℕ → Bool) (T : List ℕ) (p : ℕ) → test backslash ≡ false → raw_in test T p ≡ true →
     past_continuations T p ≡ p
 unfolding raw_in
-stays test T p other passed = joined_none T p
+unbroken_at test T p other passed = joined_none T p
     (unfold continues raw_stands in
     no_continuation test (slice_get T p) (is_byte (slice_get T (p + 1)) newline_char) other passed)
 
@@ -36,17 +37,17 @@ raw_in_low : (test : ℕ → Bool) (T : List ℕ) (p : ℕ) → raw_in test T p 
 raw_in_low test T p passed = passes_low test T p (slice_get T p) refl (unfold raw_in in passed)
 
 -- one more byte of the stretch, or its end
-turn : (test : ℕ → Bool) (T : List ℕ) (p : ℕ) (x : Bool) → raw_in test T p ≡ x → test 92 ≡ false
+turn : (test : ℕ → Bool) (T : List ℕ) (p : ℕ) (x : Bool) → raw_in test T p ≡ x → test backslash ≡ false
     → (raw_in test T p ≡ true → past test T (p + 1) ≡ past test T (raw_past test T (p + 1))) →
     past test T p ≡ past test T (raw_past test T p)
 unfolding stands_in past_byte raw_in
 turn test T p true is other rest =
-    let here : past_continuations T p ≡ p = stays test T p other is in
+    let here : past_continuations T p ≡ p = unbroken_at test T p other is in
     past_more test T p (rw here is) ∙ rw here (rest is) ∙ ap (past test T) (sym (raw_more test T p is))
 turn test T p false is other rest = ap (past test T) (sym (raw_none test T p is))
 
 -- by how many bytes are left
-on_from : (test : ℕ → Bool) (T : List ℕ) (n p : ℕ) → length T - p ≤ n → test 92 ≡ false →
+on_from : (test : ℕ → Bool) (T : List ℕ) (n p : ℕ) → length T - p ≤ n → test backslash ≡ false →
     past test T p ≡ past test T (raw_past test T p)
 on_from test T zero p low other =
     turn test T p (raw_in test T p) refl other (λ passed. absurd (omega (arith, low, raw_in_low test T p passed)))
@@ -55,11 +56,12 @@ on_from test T (suc n) p low other =
     (λ passed. on_from test T n (p + 1) (omega (arith, low, raw_in_low test T p passed)) other)
 
 -- the stretch goes on where its bytes as they stand end
-pub past_on : (test : ℕ → Bool) (T : List ℕ) (p : ℕ) → test 92 ≡ false → past test T p ≡ past test T (raw_past test T p)
+pub past_on : (test : ℕ → Bool) (T : List ℕ) (p : ℕ) → test backslash ≡ false →
+    past test T p ≡ past test T (raw_past test T p)
 past_on test T p other = on_from test T (length T - p) p (omega arith) other
 
 -- no class has the backslash
-no_class : (class : Class) → in_class class 92 ≡ false
+no_class : (class : Class) → in_class class backslash ≡ false
 no_class Blank = refl
 no_class Digit = refl
 no_class Name = refl

@@ -7,7 +7,7 @@ use Rattle.std.proofs.lemmas.Bool.Decides.{nat_tests}
 use Rattle.std.proofs.lemmas.Option.{slice_get_within, slice_get-get_or, slice_get_past}
 use Rattle.std.proofs.lemmas.List.{append_assoc, drop_more, append-nil, drop_all, length-drop}
 use Rattle.shast.specs.Shape.{bare}
-use Rattle.shgrammar.specs.Characters.{apostrophe, backslash, dollar_sign, left_brace, left_parenthesis, newline_char, quotation_mark}
+use Rattle.shgrammar.specs.Characters.{apostrophe, backslash, dollar_sign, grave_accent, left_brace, left_parenthesis, newline_char, quotation_mark}
 use Rattle.shgrammar.specs.Standing.{is_byte, continues, raw_stands}
 use Rattle.shgrammar.specs.Bytes.{byte_at, count_joined, past_continuations, stands}
 use Rattle.shgrammar.specs.HereDocuments.{Quoting, after_quote, byte_left, dollar_left, escape_left, is_live, is_quote, left_before, stays_before, unquoted}
@@ -28,9 +28,9 @@ pub escape_dropped : (q : Quoting) (text : List ℕ) (c : ℕ) (left : Option (L
 escape_dropped q text c left is = rw is refl
 
 pub escape_both : (q : Quoting) (text : List ℕ) (c : ℕ) (left : Option (List ℕ)) → (c == newline_char) ≡ false →
-    stays_before q c ≡ true → left_of text (escape_left q c left) ≡ left_of ((text ++ 92 ∷ []) ++ c ∷ []) left
+    stays_before q c ≡ true → left_of text (escape_left q c left) ≡ left_of ((text ++ backslash ∷ []) ++ c ∷ []) left
 escape_both q text c left other is =
-    rw (other, is) (push_left text 92 (left_before c left) ∙ push_left (text ++ 92 ∷ []) c left)
+    rw (other, is) (push_left text backslash (left_before c left) ∙ push_left (text ++ backslash ∷ []) c left)
 
 pub escape_one : (q : Quoting) (text : List ℕ) (c : ℕ) (left : Option (List ℕ)) → (c == newline_char) ≡ false →
     stays_before q c ≡ false → left_of text (escape_left q c left) ≡ left_of (text ++ c ∷ []) left
@@ -88,23 +88,24 @@ rest_stands word p c = ap (λ b. is_byte b c) (rest_byte word p)
 
 -- the second `$` of `$$` is left, whatever follows it
 pub dollar_second : (text bs : List ℕ) (left : Bool → Option (List ℕ)) →
-    left_of text (dollar_left true bs left) ≡ left_of (text ++ 36 ∷ []) (left false)
-dollar_second text bs left = push_left text 36 (left false)
+    left_of text (dollar_left true bs left) ≡ left_of (text ++ dollar_sign ∷ []) (left false)
+dollar_second text bs left = push_left text dollar_sign (left false)
 
 -- a `$` that opens a construct leaves nothing, not even the text before it
 pub dollar_opens : (text word : List ℕ) (p : ℕ) (left : Bool → Option (List ℕ)) →
     (is_byte (byte_at word p) left_parenthesis || is_byte (byte_at word p) left_brace) ≡ true →
     left_of text (dollar_left false (drop p word) left) ≡ None
-dollar_opens text word p left opens = rw (rest_stands word p 40, rest_stands word p 123, opens) refl
+dollar_opens text word p left opens =
+    rw (rest_stands word p left_parenthesis, rest_stands word p left_brace, opens) refl
 
 -- another `$` is left, and if one follows it that is the second of `$$`
 pub dollar_on : (text word : List ℕ) (p : ℕ) (left : Bool → Option (List ℕ)) →
     (is_byte (byte_at word p) left_parenthesis || is_byte (byte_at word p) left_brace) ≡ false
     → left_of text (dollar_left false (drop p word) left)
-    ≡ left_of (text ++ 36 ∷ []) (left (is_byte (byte_at word p) dollar_sign))
+    ≡ left_of (text ++ dollar_sign ∷ []) (left (is_byte (byte_at word p) dollar_sign))
 dollar_on text word p left other =
-    rw (rest_stands word p 40, rest_stands word p 123, other, rest_stands word p 36)
-    (push_left text 36 (left (is_byte (byte_at word p) dollar_sign)))
+    rw (rest_stands word p left_parenthesis, rest_stands word p left_brace, other, rest_stands word p dollar_sign)
+    (push_left text dollar_sign (left (is_byte (byte_at word p) dollar_sign)))
 
 -- ---- another byte
 
@@ -114,14 +115,15 @@ module _ (q : Quoting) (second : Bool) (text bs : List ℕ) (b : ℕ) (left : Qu
       left_of text (byte_left q second b bs left) ≡ left_of text (left (after_quote q b) false)
   byte_quote is = rw is refl
 
-  pub byte_backquote : is_quote q b ≡ false → is_live q 96 b ≡ true → left_of text (byte_left q second b bs left) ≡ None
+  pub byte_backquote : is_quote q b ≡ false → is_live q grave_accent b ≡ true →
+      left_of text (byte_left q second b bs left) ≡ None
   byte_backquote other is = rw (other, is) refl
 
-  pub byte_dollar : is_quote q b ≡ false → is_live q 96 b ≡ false → is_live q 36 b ≡ true →
+  pub byte_dollar : is_quote q b ≡ false → is_live q grave_accent b ≡ false → is_live q dollar_sign b ≡ true →
       left_of text (byte_left q second b bs left) ≡ left_of text (dollar_left second bs (left q))
   byte_dollar other tick is = rw (other, tick, is) refl
 
-  pub byte_other : is_quote q b ≡ false → is_live q 96 b ≡ false → is_live q 36 b ≡ false →
+  pub byte_other : is_quote q b ≡ false → is_live q grave_accent b ≡ false → is_live q dollar_sign b ≡ false →
       left_of text (byte_left q second b bs left) ≡ left_of (text ++ b ∷ []) (left q second)
   byte_other other tick none = rw (other, tick, none) (push_left text b (left q second))
 
@@ -134,15 +136,15 @@ second_false false b e f = absurd cc
 
 -- a byte that is the last one, or no backslash that quotes, is taken alone
 pub unquoted_byte : (q : Quoting) (second : Bool) (b : ℕ) (bs : List ℕ) →
-    (nat_lt 0 (length bs) && is_live q 92 b) ≡ false →
+    (nat_lt 0 (length bs) && is_live q backslash b) ≡ false →
     unquoted q second (b ∷ bs) ≡ byte_left q second b bs (λ r s. unquoted r s bs)
 unfolding unquoted
 unquoted_byte q second b [] other = refl
 unquoted_byte q second b (c ∷ bs) other =
-    rw (second_false (nat_lt 0 (length (c ∷ bs))) (is_live q 92 b) other (lt-ltb _ _ (omega arith))) refl
+    rw (second_false (nat_lt 0 (length (c ∷ bs))) (is_live q backslash b) other (lt-ltb _ _ (omega arith))) refl
 
 -- a backslash that quotes is taken with the byte after it
-pub unquoted_escape : (q : Quoting) (second : Bool) (b c : ℕ) (bs : List ℕ) → is_live q 92 b ≡ true →
+pub unquoted_escape : (q : Quoting) (second : Bool) (b c : ℕ) (bs : List ℕ) → is_live q backslash b ≡ true →
     unquoted q second (b ∷ c ∷ bs) ≡ escape_left q c (unquoted q second bs)
 unfolding unquoted
 unquoted_escape q second b c bs is = rw is refl
@@ -161,7 +163,7 @@ pub take_byte : (q : Quoting) (second : Bool) (text word : List ℕ) (at : ℕ) 
 take_byte q second text word at lt other =
     ap (λ l. left_of text (unquoted q second l)) (drop_more word at 0 lt)
     ∙ ap (left_of text) (unquoted_byte q second (get_or word at 0) (drop (at + 1) word)
-    (ap (λ b. b && is_live q 92 (get_or word at 0)) (longer word at lt) ∙ other))
+    (ap (λ b. b && is_live q backslash (get_or word at 0)) (longer word at lt) ∙ other))
 
 pub take_escape : (q : Quoting) (second : Bool) (text word : List ℕ) (at : ℕ) → at < length word →
     escapes q word at ≡ true

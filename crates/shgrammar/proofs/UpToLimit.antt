@@ -12,7 +12,7 @@ use Rattle.shgrammar.specs.Form.{Form, Telling, a_level, both, does, ends_as, gi
 use Rattle.shgrammar.specs.Commands.{pick}
 use Rattle.shgrammar.proofs.Holds.{Tells, Turned, no_form_goes_back, tells_ending, tells_level, tells_so, tells_then, tells_token, tells_until, tells_with_bytes, tells_inside, holds_and}
 use Rattle.shgrammar.proofs.Turns.{Stepped}
-use Rattle.shgrammar.proofs.BodiesHeld.{HoldsWithin, held, unless_above}
+use Rattle.shgrammar.proofs.BodiesInLimit.{HoldsWithin, bodies_in_limit, unless_above}
 
 -- P holds of what r reads from s on, with its tree, unless that ends above the limit
 pub record UpTo (g : Given) (limit : ℕ) {X : Type 0} (r : Form X) (P : X → Type 0) (s : State) : Type 0 where
@@ -162,7 +162,7 @@ module _ {g : Given} {limit : ℕ} where
   pub in_level : {X : Type 0} {P : X → Type 0} {r : Form X} {s : State} → UpTo g limit r P (own_level s) →
       UpTo g limit (a_level r) (λ x. P x.0 × All (IsSpanWithin limit) x.1) s
   in_level {P = P} {r = r} {s = s} one =
-      let bodies = held g limit r (own_level s) (All-nil (IsSpanWithin limit)) in
+      let bodies = bodies_in_limit g limit r (own_level s) (All-nil (IsSpanWithin limit)) in
       record {
         told = tells_level Whole g {P = λ a t. (g.offset + t.at ≤ limit → P a)
             × (g.offset + t.at ≤ limit → HoldsWithin g limit t)}

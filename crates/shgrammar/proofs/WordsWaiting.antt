@@ -17,7 +17,7 @@ use Rattle.shgrammar.specs.Words.{WordSoFar, word_so_far, opened, piece_row, a_p
 use Rattle.shgrammar.specs.Substitutions.{a_substitution, one_substitution}
 use Rattle.shgrammar.specs.Levels.{level}
 use Rattle.shgrammar.proofs.OneOutcome.{computed_is_only}
-use Rattle.shgrammar.proofs.Anywhere.{word_told}
+use Rattle.shgrammar.proofs.WordsAnywhere.{word_told}
 
 -- a place, where that waits which waits at t
 abbrev pub place_of : State → ℕ → State

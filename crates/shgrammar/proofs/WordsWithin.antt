@@ -29,7 +29,7 @@ use Rattle.shgrammar.proofs.Stretches.{place_low}
 use Rattle.shgrammar.proofs.Places.{after_low, after_high, stands_low, not_end_low, next_of_low, parameter_low, parameter_high, quote_clear, next_escaped_low}
 use Rattle.shgrammar.proofs.Turns.{turns_fault, many_again, many_done}
 use Rattle.shgrammar.proofs.Holds.{tells_level, Holds, holds_then, Tells, Turned, tells_then, tells_many, tells_after, tells_seen, tells_ending, AtOrAfter, no_form_goes_back, tells_inside}
-use Rattle.shgrammar.proofs.TokensShown.{Begins, Fine, paren_here, shown_level, shown_lines, shown_next}
+use Rattle.shgrammar.proofs.TokensShown.{Begins, InnerHandsOn, paren_here, shown_level, shown_lines, shown_next}
 use Rattle.shgrammar.proofs.Ahead.{past_byte_is}
 use Rattle.shgrammar.proofs.OneOutcome.{computed_is_only}
 use Rattle.shgrammar.specs.Tokens.{is_later}
@@ -156,7 +156,7 @@ module _ (g : Given) where
   Last mode t = (t.at ≤ length T) × (mode ≡ Plain → ends_word T t.at ≡ true)
 
   -- what may be opened ends within the text, and not before it begins
-  pub record Stays (inner : Inner) : Type 0 where
+  pub record InnerWithin (inner : Inner) : Type 0 where
     pub construct : (mode : Mode) (b : ℕ) (ss : Row ASubst) (s : State) → s.at ≤ length T →
         Holds (λ x t. (s.at ≤ t.at) × (t.at ≤ length T)) (does (inner.construct mode b ss) Whole g s)
     pub substitution : (b : ℕ) (ss : Row ASubst) (s : State) →
@@ -168,112 +168,113 @@ module _ (g : Given) where
   Closes Arith p = past_continuations T (past_byte T p) < length T
   Closes _ p = past_continuations T p < length T
 
-  -- which bytes there are where this piece begins
-  abbrev Needs : Mode → ℕ → Piece → Type 0
-  Needs mode p pieces.Closer = Closes mode p
-  Needs mode p pieces.Missing = Unit {0}
-  Needs mode p pieces.LoneBackslash = Unit {0}
-  Needs mode p pieces.Escape = past_continuations T p + 1 < length T
-  Needs mode p pieces.Single = past_continuations T p < length T
-  Needs mode p pieces.DollarSingle = past_continuations T (past_byte T p) < length T
-  Needs mode p pieces.Double = past_continuations T p < length T
-  Needs mode p pieces.Backquote = past_continuations T p < length T
-  Needs mode p pieces.Pid = past_continuations T (past_byte T p) < length T
-  Needs mode p pieces.Subst = Unit {0}
-  Needs mode p pieces.Arith = past_continuations T (past_byte T (past_byte T p)) < length T
-  Needs mode p pieces.Param = past_continuations T (past_byte T p) < length T
-  Needs mode p pieces.Open = past_continuations T p < length T
-  Needs mode p pieces.Close = past_continuations T p < length T
-  Needs mode p pieces.BadClose = Unit {0}
-  Needs mode p pieces.Ordinary = past_continuations T p < length T
+  -- the bytes that this piece begins with are within the text, and so is what closes where it does
+  abbrev PieceWithin : Mode → ℕ → Piece → Type 0
+  PieceWithin mode p pieces.Closer = Closes mode p
+  PieceWithin mode p pieces.Missing = Unit {0}
+  PieceWithin mode p pieces.LoneBackslash = Unit {0}
+  PieceWithin mode p pieces.Escape = past_continuations T p + 1 < length T
+  PieceWithin mode p pieces.Single = past_continuations T p < length T
+  PieceWithin mode p pieces.DollarSingle = past_continuations T (past_byte T p) < length T
+  PieceWithin mode p pieces.Double = past_continuations T p < length T
+  PieceWithin mode p pieces.Backquote = past_continuations T p < length T
+  PieceWithin mode p pieces.Pid = past_continuations T (past_byte T p) < length T
+  PieceWithin mode p pieces.Subst = Unit {0}
+  PieceWithin mode p pieces.Arith = past_continuations T (past_byte T (past_byte T p)) < length T
+  PieceWithin mode p pieces.Param = past_continuations T (past_byte T p) < length T
+  PieceWithin mode p pieces.Open = past_continuations T p < length T
+  PieceWithin mode p pieces.Close = past_continuations T p < length T
+  PieceWithin mode p pieces.BadClose = Unit {0}
+  PieceWithin mode p pieces.Ordinary = past_continuations T p < length T
 
   module _ (mode : Mode) (n p : ℕ) where
-    -- what a piece needs is there: at a `)` in arithmetic, at the end, and at a `$`
-    bracket_needs : (m : ℕ) (two : Bool) → stands T (past_byte T p) right_parenthesis ≡ two →
+    -- so they are for the piece at a `)` in arithmetic, at the end, and at a `$`
+    bracket_within : (m : ℕ) (two : Bool) → stands T (past_byte T p) right_parenthesis ≡ two →
         past_continuations T p < length T →
-        Needs Arith p (bracket_by m two)
-    bracket_needs zero true e lt = stands_low T (past_byte T p) right_parenthesis e
-    bracket_needs zero false e lt = tt
-    bracket_needs (suc m) two e lt = lt
+        PieceWithin Arith p (bracket_by m two)
+    bracket_within zero true e lt = stands_low T (past_byte T p) right_parenthesis e
+    bracket_within zero false e lt = tt
+    bracket_within (suc m) two e lt = lt
 
-    end_needs : (mode : Mode) → byte_at T p ≡ None → Needs mode p (end_by mode)
+    end_within : (mode : Mode) → byte_at T p ≡ None → PieceWithin mode p (end_by mode)
     unfolding ends_word
-    end_needs Plain is = rw is refl
-    end_needs Double is = tt
-    end_needs Brace is = tt
-    end_needs DoubleBrace is = tt
-    end_needs Arith is = tt
+    end_within Plain is = rw is refl
+    end_within Double is = tt
+    end_within Brace is = tt
+    end_within DoubleBrace is = tt
+    end_within Arith is = tt
 
-    dollar_needs : (x : Option ℕ) → byte_at T (past_byte T p) ≡ x → past_continuations T p < length T →
-        Needs mode p (dollar_by T (past_byte T p) x)
-    dollar_needs None is lt = lt
-    dollar_needs (Some v) is lt =
+    dollar_within : (x : Option ℕ) → byte_at T (past_byte T p) ≡ x → past_continuations T p < length T →
+        PieceWithin mode p (dollar_by T (past_byte T p) x)
+    dollar_within None is lt = lt
+    dollar_within (Some v) is lt =
         let next = slice_get_within T (past_continuations T (past_byte T p)) v is in
-        cond_both (v == dollar_sign) _ _ (Needs mode p) (λ e. next)
-        (λ e. cond_both (v == left_parenthesis) _ _ (Needs mode p)
-        (λ f. cond_both (stands T (past_byte T (past_byte T p)) left_parenthesis) _ _ (Needs mode p)
+        cond_both (v == dollar_sign) _ _ (PieceWithin mode p) (λ e. next)
+        (λ e. cond_both (v == left_parenthesis) _ _ (PieceWithin mode p)
+        (λ f. cond_both (stands T (past_byte T (past_byte T p)) left_parenthesis) _ _ (PieceWithin mode p)
         (λ d. stands_low T (past_byte T (past_byte T p)) left_parenthesis d) (λ d. tt))
-        (λ f. cond_both (v == left_brace) _ _ (Needs mode p) (λ d. next)
-        (λ d. cond_both (v == apostrophe) _ _ (Needs mode p) (λ z. next) (λ z. lt))))
+        (λ f. cond_both (v == left_brace) _ _ (PieceWithin mode p) (λ d. next)
+        (λ d. cond_both (v == apostrophe) _ _ (PieceWithin mode p) (λ z. next) (λ z. lt))))
 
     -- so it is at another byte, and by the byte that is read, or none
-    byte_needs : (mode : Mode) (v : ℕ) → byte_at T p ≡ Some v → past_continuations T p < length T →
-        Needs mode p (byte_by T p mode n v)
+    byte_within : (mode : Mode) (v : ℕ) → byte_at T p ≡ Some v → past_continuations T p < length T →
+        PieceWithin mode p (byte_by T p mode n v)
     unfolding ends_word
-    byte_needs Plain v is lt =
-        cond_both (ends (Some v)) _ _ (Needs Plain p) (λ e. rw is e)
-        (λ e. cond_both (v == apostrophe) _ _ (Needs Plain p) (λ f. lt)
-        (λ f. cond_both (v == quotation_mark) _ _ (Needs Plain p) (λ d. lt) (λ d. lt)))
-    byte_needs Double v is lt = cond_both (v == quotation_mark) _ _ (Needs Double p) (λ e. lt) (λ e. lt)
-    byte_needs Brace v is lt =
-        cond_both (v == right_brace) _ _ (Needs Brace p) (λ e. lt)
-        (λ e. cond_both (v == apostrophe) _ _ (Needs Brace p) (λ f. lt)
-        (λ f. cond_both (v == quotation_mark) _ _ (Needs Brace p) (λ d. lt) (λ d. lt)))
-    byte_needs DoubleBrace v is lt =
-        cond_both (v == right_brace) _ _ (Needs DoubleBrace p) (λ e. lt)
-        (λ e. cond_both (v == quotation_mark) _ _ (Needs DoubleBrace p) (λ f. lt) (λ f. lt))
-    byte_needs Arith v is lt =
-        cond_both (v == right_parenthesis) _ _ (Needs Arith p)
-        (λ e. bracket_needs n (stands T (past_byte T p) right_parenthesis) refl lt)
-        (λ e. cond_both (v == left_parenthesis) _ _ (Needs Arith p) (λ f. lt) (λ f. lt))
+    byte_within Plain v is lt =
+        cond_both (ends (Some v)) _ _ (PieceWithin Plain p) (λ e. rw is e)
+        (λ e. cond_both (v == apostrophe) _ _ (PieceWithin Plain p) (λ f. lt)
+        (λ f. cond_both (v == quotation_mark) _ _ (PieceWithin Plain p) (λ d. lt) (λ d. lt)))
+    byte_within Double v is lt = cond_both (v == quotation_mark) _ _ (PieceWithin Double p) (λ e. lt) (λ e. lt)
+    byte_within Brace v is lt =
+        cond_both (v == right_brace) _ _ (PieceWithin Brace p) (λ e. lt)
+        (λ e. cond_both (v == apostrophe) _ _ (PieceWithin Brace p) (λ f. lt)
+        (λ f. cond_both (v == quotation_mark) _ _ (PieceWithin Brace p) (λ d. lt) (λ d. lt)))
+    byte_within DoubleBrace v is lt =
+        cond_both (v == right_brace) _ _ (PieceWithin DoubleBrace p) (λ e. lt)
+        (λ e. cond_both (v == quotation_mark) _ _ (PieceWithin DoubleBrace p) (λ f. lt) (λ f. lt))
+    byte_within Arith v is lt =
+        cond_both (v == right_parenthesis) _ _ (PieceWithin Arith p)
+        (λ e. bracket_within n (stands T (past_byte T p) right_parenthesis) refl lt)
+        (λ e. cond_both (v == left_parenthesis) _ _ (PieceWithin Arith p) (λ f. lt) (λ f. lt))
 
-    needs_by : (x : Option ℕ) → byte_at T p ≡ x → Needs mode p (piece_by T p mode n x)
+    piece_within_by : (x : Option ℕ) → byte_at T p ≡ x → PieceWithin mode p (piece_by T p mode n x)
     unfolding dollar_at
-    needs_by None is = end_needs mode is
-    needs_by (Some v) is =
+    piece_within_by None is = end_within mode is
+    piece_within_by (Some v) is =
         let lt = slice_get_within T (past_continuations T p) v is in
-        cond_both (v == backslash) _ _ (Needs mode p)
-        (λ e. cond_both (at_end T (past_byte T p)) _ _ (Needs mode p) (λ f. tt)
+        cond_both (v == backslash) _ _ (PieceWithin mode p)
+        (λ e. cond_both (at_end T (past_byte T p)) _ _ (PieceWithin mode p) (λ f. tt)
         (λ f. omega (arith, not_end_low T (past_byte T p) f, past_byte_is T p)))
-        (λ e. cond_both (v == grave_accent) _ _ (Needs mode p) (λ f. lt)
-        (λ f. cond_both (v == dollar_sign) _ _ (Needs mode p) (λ d. dollar_needs (byte_at T (past_byte T p)) refl lt)
-        (λ d. byte_needs mode v is lt)))
+        (λ e. cond_both (v == grave_accent) _ _ (PieceWithin mode p) (λ f. lt)
+        (λ f. cond_both (v == dollar_sign) _ _ (PieceWithin mode p)
+        (λ d. dollar_within (byte_at T (past_byte T p)) refl lt)
+        (λ d. byte_within mode v is lt)))
 
     -- and so for the piece that begins at p
-    needs : Needs mode p (piece_at T mode n p)
+    piece_within : PieceWithin mode p (piece_at T mode n p)
     unfolding piece_at
-    needs = needs_by (byte_at T p) refl
+    piece_within = piece_within_by (byte_at T p) refl
 
     -- and so does the piece that the edition has
-    needs_known : (x : Piece) → Needs mode p x → Needs mode p (piece_in g.edition mode x)
-    needs_known pieces.DollarSingle so =
-        cond_both (is_later g.edition && quotes_singly mode) _ _ (Needs mode p) (λ e. so)
+    edition_within : (x : Piece) → PieceWithin mode p x → PieceWithin mode p (piece_in g.edition mode x)
+    edition_within pieces.DollarSingle so =
+        cond_both (is_later g.edition && quotes_singly mode) _ _ (PieceWithin mode p) (λ e. so)
         (λ e. omega (arith, so, place_low T (past_byte T p), past_byte_is T p))
-    needs_known pieces.Closer so = so
-    needs_known pieces.Missing so = so
-    needs_known pieces.LoneBackslash so = so
-    needs_known pieces.Escape so = so
-    needs_known pieces.Single so = so
-    needs_known pieces.Double so = so
-    needs_known pieces.Backquote so = so
-    needs_known pieces.Pid so = so
-    needs_known pieces.Subst so = so
-    needs_known pieces.Arith so = so
-    needs_known pieces.Param so = so
-    needs_known pieces.Open so = so
-    needs_known pieces.Close so = so
-    needs_known pieces.BadClose so = so
-    needs_known pieces.Ordinary so = so
+    edition_within pieces.Closer so = so
+    edition_within pieces.Missing so = so
+    edition_within pieces.LoneBackslash so = so
+    edition_within pieces.Escape so = so
+    edition_within pieces.Single so = so
+    edition_within pieces.Double so = so
+    edition_within pieces.Backquote so = so
+    edition_within pieces.Pid so = so
+    edition_within pieces.Subst so = so
+    edition_within pieces.Arith so = so
+    edition_within pieces.Param so = so
+    edition_within pieces.Open so = so
+    edition_within pieces.Close so = so
+    edition_within pieces.BadClose so = so
+    edition_within pieces.Ordinary so = so
 
   -- what closes a construct ends within the text; what closes a word stands where words end
   closer_last : (mode : Mode) (p : ℕ) → p ≤ length T → Closes mode p → (past_closer T mode p ≤ length T)
@@ -284,7 +285,7 @@ module _ (g : Given) where
   closer_last DoubleBrace p le so = (after_high T p so, λ e. absurd cc)
   closer_last Arith p le so = (after_high T (past_byte T p) so, λ e. absurd cc)
 
-  module _ (inner : Inner) (stays : Stays inner) (mode : Mode) (b : ℕ) (c : WordSoFar) (s : State)
+  module _ (inner : Inner) (stays : InnerWithin inner) (mode : Mode) (b : ℕ) (c : WordSoFar) (s : State)
       (le : s.at ≤ length T) where
     -- a turn moves on within the text, or the construct, or word, ends there
     abbrev Turn : Step WordSoFar → State → Type 0
@@ -302,7 +303,7 @@ module _ (g : Given) where
         (stays.construct m k c.substs r within) (λ x t so. (omega (arith, on, so.0), so.1))
 
     -- by the kind of the piece
-    row : (x : Piece) → Needs mode p x → Holds Turn (does (piece_row inner mode b c x) Whole g s)
+    row : (x : Piece) → PieceWithin mode p x → Holds Turn (does (piece_row inner mode b c x) Whole g s)
     row pieces.Closer so = closer_last mode p le so
     row pieces.Missing so = tt
     row pieces.LoneBackslash so = tt
@@ -340,11 +341,11 @@ module _ (g : Given) where
     piece_turn : Holds Turn (does (a_piece inner mode b c) Whole g s)
     unfolding a_piece
     piece_turn = row (piece_in g.edition mode (piece_at T mode c.nested p))
-        (needs_known mode c.nested p (piece_at T mode c.nested p) (needs mode c.nested p))
+        (edition_within mode c.nested p (piece_at T mode c.nested p) (piece_within mode c.nested p))
 
   -- ---- constructs in constructs, and words
 
-  module _ (inner : Inner) (stays : Stays inner) (mode : Mode) (b : ℕ) (ss : Row ASubst) (s : State)
+  module _ (inner : Inner) (stays : InnerWithin inner) (mode : Mode) (b : ℕ) (ss : Row ASubst) (s : State)
       (le : s.at ≤ length T) where
     -- pieces up to what closes them end within the text; those of a word, where a word may end
     pub contents_end : Holds (λ x t. Last mode t) (does (contents inner mode b ss) Whole g s)
@@ -367,7 +368,7 @@ module _ (g : Given) where
 
   -- ---- substitutions
 
-  module _ (inner : Inner) (fine : Fine g inner) where
+  module _ (inner : Inner) (fine : InnerHandsOn g inner) where
     -- nothing moves where nothing waits
     still : (s : State) → Tells Whole g nothing_waits (λ x t. t ≡ s) s
     unfolding nothing_waits
@@ -415,7 +416,7 @@ module _ (g : Given) where
         holds_also (Err f) one two = tt
 
   -- so it is with each number of constructs that may be opened
-  pub stays_in : (room : ℕ) → Stays (level room)
+  pub stays_in : (room : ℕ) → InnerWithin (level room)
   unfolding level
   stays_in zero = record { construct = λ mode b ss s le. tt; substitution = λ b ss s. tt }
   stays_in (suc room) =

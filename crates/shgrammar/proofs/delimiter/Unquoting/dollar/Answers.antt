@@ -31,5 +31,5 @@ returns-clause-left c =
     ∙ ap (λ (x : Option ℕ). is_byte x dollar_sign) c.byte_at-following.ensures) in
     ap (λ (b : Bool). left_of text (dollar_left b (drop c.args.next word) left)) c.if-self.false
     ∙ dollar_on text word c.args.next left found
-    ∙ ap (λ (b : Bool). left_of (text ++ 36 ∷ []) (left b)) second
+    ∙ ap (λ (b : Bool). left_of (text ++ dollar_sign ∷ []) (left b)) second
     ∙ ap (λ (t : List ℕ). left_of t (left c.is_byte-self.result)) (sym c.in_ok-push-2.ensures.items)

@@ -25,7 +25,7 @@ use Rattle.shgrammar.proofs.Holds.{Holds, holds_then, holds_so}
 use Rattle.shgrammar.proofs.Alike.{SameStep, SameHeld}
 use Rattle.shgrammar.proofs.SameBytes.{Kept, Here, here, here_byte, here_after, here_stands, byte_other}
 use Rattle.shgrammar.proofs.Ahead.{past_byte_is}
-use Rattle.shgrammar.proofs.Inside.{there_at, clear, before, high, taken_two, same_taken, same_end, parameter_in, rest_in, there, at, Ends, quote_in, backquotes_in, Turned, Looped, Goal, looped, dollar_single_in}
+use Rattle.shgrammar.proofs.EndsByLimit.{there_at, in_if_clear, in_before, in_high, taken_two, same_taken, same_end, parameter_in, rest_in, there, at, Ends, quote_in, backquotes_in, Turned, Looped, Goal, looped, dollar_single_in}
 use Rattle.shgrammar.specs.declared.edition.Edition.{Edition}
 use Rattle.shgrammar.specs.Tokens.{is_later}
 
@@ -76,13 +76,13 @@ module _ {edition : Edition} {T U : List ℕ} {a L : ℕ} {to : ℕ → ℕ} (K 
       × ((does (r zs) Whole h (over s) ≡ Ok (y, over t)) × SameSubsts x y))
 
   -- what may be opened in a word holds the same elsewhere
-  pub record Local (inner : Inner) : Type 0 where
+  pub record InnerOfPieces (inner : Inner) : Type 0 where
     pub construct : (mode : Mode) → Closed mode → (b b2 : ℕ) (ss : Row ASubst) (s : State) → a ≤ s.at →
         Holds (Holding (inner.construct mode b2) ss s) (does (inner.construct mode b ss) Whole g s)
     pub substitution : (b b2 : ℕ) (ss : Row ASubst) (s : State) → a ≤ s.at →
         Holds (Holding (inner.substitution b2) ss s) (does (inner.substitution b ss) Whole g s)
 
-  module _ (inner : Inner) (local : Local inner) where
+  module _ (inner : Inner) (local : InnerOfPieces inner) where
     -- a construct as a piece
     abbrev Opens : Mode → ℕ → WordSoFar → State → Step WordSoFar → State → Type 0
     Opens mode b2 c s x t = t.at ≤ L → Inside s.at
@@ -108,7 +108,7 @@ module _ {edition : Edition} {T U : List ℕ} {a L : ℕ} {to : ℕ → ℕ} (K 
 
   -- neither is past the limit
   pub from_high : (mode : Mode) (p : ℕ) → From mode p → p ≤ L
-  from_high mode p from = ⊎_elim (λ i. high K i) (λ e. omega (arith, e.1)) from
+  from_high mode p from = ⊎_elim (λ i. in_high K i) (λ e. omega (arith, e.1)) from
 
   pub last_high : (mode : Mode) (p : ℕ) → Last mode p → p ≤ L
   last_high mode p last = last.0
@@ -156,7 +156,7 @@ module _ {edition : Edition} {T U : List ℕ} {a L : ℕ} {to : ℕ → ℕ} (K 
         let three : (b == dollar_sign) ≡ false = grind (arith, nat_tests) in
         rw (one, two, three, e) refl
 
-    module _ (inner : Inner) (local : Local inner) (mode : Mode) (b b2 : ℕ) (c : WordSoFar) (s : State)
+    module _ (inner : Inner) (local : InnerOfPieces inner) (mode : Mode) (b b2 : ℕ) (c : WordSoFar) (s : State)
         (from : a ≤ s.at) where
       -- where the piece begins, the place after its first byte, and how many brackets are open
       abbrev p : ℕ
@@ -217,7 +217,7 @@ module _ {edition : Edition} {T U : List ℕ} {a L : ℕ} {to : ℕ → ℕ} (K 
           → ((d : WordSoFar) → does (piece_row inner mode b2 d x) Whole h (over s)
           ≡ Ok (again (w d), there_at K o o2 (past_byte U (to p)) s)) → Turn (again (w c)) (placed q s)
       one_byte_row e lt w same x told row goal =
-          let i = clear K p from (omega (arith, goal.0, past_byte_is T p)) e in
+          let i = in_if_clear K p from (omega (arith, goal.0, past_byte_is T p)) e in
           let next = goal.1 (leads_byte lt) in (
             inl i,
             λ d so. row_there x (told i next) d so (SameStep Agree (again (w c))) (placed q s)
@@ -320,7 +320,7 @@ module _ {edition : Edition} {T U : List ℕ} {a L : ℕ} {to : ℕ → ℕ} (K 
       -- text in double quotes, and an arithmetic expansion
       string : (Inside p → Told pieces.Double) → Again pieces.Double
       string told = open_row pieces.Double Double tt _ (o2 + past_continuations U (to p)) q q_low
-          (λ i. let j = before K p from i in (j, (told j, λ d. rw (here_after K j) refl)))
+          (λ i. let j = in_before K p from i in (j, (told j, λ d. rw (here_after K j) refl)))
 
       q2_low : a ≤ past_byte T q
       q2_low = omega (arith, q_low, after_low T q)
@@ -329,9 +329,9 @@ module _ {edition : Edition} {T U : List ℕ} {a L : ℕ} {to : ℕ → ℕ} (K 
       arithmetic told =
           open_row pieces.Arith Arith tt _ (o2 + past_continuations U (to p)) (past_byte T (past_byte T q))
           (omega (arith, q2_low, after_low T (past_byte T q)))
-          (λ i. let l = before K (past_byte T q) q2_low i in
-          let k = before K q q_low l in
-          let j = before K p from k in
+          (λ i. let l = in_before K (past_byte T q) q2_low i in
+          let k = in_before K q q_low l in
+          let j = in_before K p from k in
           (j, (told j k l, λ d. rw (here_after K j, here_after K k, here_after K l) refl)))
 
       -- the rest of a parameter expansion ends no word
@@ -354,8 +354,8 @@ module _ {edition : Edition} {T U : List ℕ} {a L : ℕ} {to : ℕ → ℕ} (K 
           open_row pieces.Param (rest_mode T mode r) (rest_closed r) _ (o2 + past_continuations U (to p)) r
           (omega (arith, q2_low, parameter_low T (past_byte T q)))
           (λ i. let w = parameter_in K (past_byte T q) q2_low i in
-          let k = before K q q_low w.0 in
-          let j = before K p from k in
+          let k = in_before K q q_low w.0 in
+          let j = in_before K p from k in
           (j, (told j k, λ d. rw (here_after K j, here_after K k, w.1, rest_in K mode r i) refl)))
 
       -- a substitution, from just after its opener on
@@ -368,8 +368,8 @@ module _ {edition : Edition} {T U : List ℕ} {a L : ℕ} {to : ℕ → ℕ} (K 
           (λ x t. Ok (again (word_so_far c.nested x), t))
           (local.substitution (o + past_continuations T p) k2 c.substs inside q2_low)
           (λ x t holding goal. let w = holding goal.0 in
-          let k = before K q q_low w.0 in
-          let j = before K p from k in (
+          let k = in_before K q q_low w.0 in
+          let j = in_before K p from k in (
             inl j,
             λ d so. let v = w.1 d.substs so.1 in
                 row_there pieces.Subst (told j k w.0) d so (SameStep Agree (again (word_so_far c.nested x))) t
@@ -379,8 +379,8 @@ module _ {edition : Edition} {T U : List ℕ} {a L : ℕ} {to : ℕ → ℕ} (K 
       -- `$$`
       twice : is_byte (byte_at T q) backslash ≡ false → (Inside p → Inside q → Told pieces.Pid) → Again pieces.Pid
       twice e told goal =
-          let j = clear K q q_low (omega (arith, goal.0, past_byte_is T q)) e in
-          let i = before K p from j in (
+          let j = in_if_clear K q q_low (omega (arith, goal.0, past_byte_is T q)) e in
+          let i = in_before K p from j in (
             inl i,
             λ d so. row_there pieces.Pid (told i j) d so (SameStep Agree (again c)) (placed (past_byte T q) s)
                 (again d, (rw (here_after K i, here_after K j) refl, so)),
@@ -391,7 +391,7 @@ module _ {edition : Edition} {T U : List ℕ} {a L : ℕ} {to : ℕ → ℕ} (K 
           (Inside p → Told pieces.Closer) → Again pieces.Closer
       closer one e told goal =
           let le = goal.0 in
-          let i = clear K p from (omega (arith, le, one T p, past_byte_is T p)) e in (
+          let i = in_if_clear K p from (omega (arith, le, one T p, past_byte_is T p)) e in (
             inl i,
             λ d so. row_there pieces.Closer (told i) d so (SameStep Agree (done c))
                 (placed (past_closer T mode p) s) (done d, (rw (one U (to p), one T p, here_after K i) refl, so)),
@@ -402,8 +402,8 @@ module _ {edition : Edition} {T U : List ℕ} {a L : ℕ} {to : ℕ → ℕ} (K 
           is_byte (byte_at T q) backslash ≡ false → (Inside p → Inside q → Told pieces.Closer) → Again pieces.Closer
       closer_two two e told goal =
           let le = goal.0 in
-          let j = clear K q q_low (omega (arith, le, two T p, past_byte_is T q)) e in
-          let i = before K p from j in (
+          let j = in_if_clear K q q_low (omega (arith, le, two T p, past_byte_is T q)) e in
+          let i = in_before K p from j in (
             inl i,
             λ d so. row_there pieces.Closer (told i j) d so (SameStep Agree (done c))
                 (placed (past_closer T mode p) s)
@@ -480,7 +480,8 @@ module _ {edition : Edition} {T U : List ℕ} {a L : ℕ} {to : ℕ → ℕ} (K 
 
     -- ---- by the mode
 
-    module _ (inner : Inner) (local : Local inner) (b b2 : ℕ) (c : WordSoFar) (s : State) (from : a ≤ s.at) where
+    module _ (inner : Inner) (local : InnerOfPieces inner) (b b2 : ℕ) (c : WordSoFar) (s : State)
+        (from : a ≤ s.at) where
       -- the same, in each mode
       abbrev AgainIn : Mode → Piece → Type 0
       AgainIn mode x = Again inner local mode b b2 c s from x
@@ -587,7 +588,7 @@ module _ {edition : Edition} {T U : List ℕ} {a L : ℕ} {to : ℕ → ℕ} (K 
 
     -- ---- constructs in constructs
 
-    module _ (inner : Inner) (local : Local inner) where
+    module _ (inner : Inner) (local : InnerOfPieces inner) where
       -- the pieces of a construct, or of a word
       pieces_in : (mode : Mode) (b b2 : ℕ) (c : WordSoFar) (s : State) → a ≤ s.at
           → Holds (Looped K o o2 Agree (a_piece inner mode b) (a_piece inner mode b2) (From mode) (Last mode) c s)

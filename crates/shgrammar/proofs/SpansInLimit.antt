@@ -32,11 +32,11 @@ use Rattle.shgrammar.proofs.Holds.{Holds}
 use Rattle.shgrammar.proofs.Turns.{Stepped}
 use Rattle.shgrammar.proofs.UpToLimit.{UpTo, adds, after, bare_token, ending, first, first_on, follows, gives, in_level, in_subst, picks, pushes, repeats, sees, stands, step_so, stops, unless}
 use Rattle.shgrammar.proofs.EachSpan.{AreIn, BranchIn, CaseIn, CommandIn, ElseIn, EntriesIn, EntryIn, ForWordsIn, FormIn, ItemIn, SubstIn, WordIn, all_within, all_within_more, bodies_in, branches_in, cases_in, commands_end_low, entries_in, have_items, items_in, spans_in, words_in}
-use Rattle.shgrammar.proofs.ListsEverywhere.{Fine, ItemsIn, JoinIn, ListIn, PartedIn, SomeItems, compound_in_by, contents_in, linebreak_in, lines_in, list_in, on_line_in, one_item_in, stopped, word_in}
+use Rattle.shgrammar.proofs.SpansOfLists.{InnerInLimit, ItemsIn, JoinIn, ListIn, PartedIn, SomeItems, compound_in_by, contents_in, linebreak_in, lines_in, list_in, on_line_in, one_item_in, stopped, word_in}
 use Rattle.shgrammar.specs.declared.edition.Edition.{Edition}
 
 module _ {g : Given} {limit : ℕ} where
-  module _ {inner : Inner} (fine : Fine g limit inner) where
+  module _ {inner : Inner} (fine : InnerInLimit g limit inner) where
     -- ---- compound commands
 
     -- what ends by the limit has no span above it: a reserved word or a bracket, a closer, a branch
@@ -343,7 +343,7 @@ module _ {g : Given} {limit : ℕ} where
 
 module _ (g : Given) (limit : ℕ) where
   -- no span in what may be opened goes past the limit, by how many more may be
-  pub level_in : (room : ℕ) → Fine g limit (level room)
+  pub level_in : (room : ℕ) → InnerInLimit g limit (level room)
   unfolding level
   level_in zero = record {
     construct = λ mode b ss s so. stops;

@@ -17,10 +17,10 @@ use Rattle.shgrammar.proofs.Turns.{turns_on, turns_rest, turns_done, turns_fault
 use Rattle.shgrammar.proofs.Holds.{Holds, Tells, Turned, tells_so, tells_then, tells_when, tells_token, tells_loop, tells_ending, tells_change, tells_with_bytes, tells_level, change_low, AtOrAfter, no_form_goes_back, move_low, tells_inside}
 use Rattle.shgrammar.proofs.Alike.{SameStep}
 use Rattle.shgrammar.proofs.Ahead.{ListEnds}
-use Rattle.shgrammar.proofs.Asked.{Good, apart, high, moves, on, same_raw}
-use Rattle.shgrammar.proofs.Inside.{same_leads}
+use Rattle.shgrammar.proofs.Asked.{Good, to_apart, good_high, moves, same_raw}
+use Rattle.shgrammar.proofs.EndsByLimit.{same_leads}
 use Rattle.shgrammar.proofs.Places.{next_newline_low}
-use Rattle.shgrammar.proofs.Delimiters.{between, bodies_low}
+use Rattle.shgrammar.proofs.Delimiters.{delimiter_between, bodies_low}
 use Rattle.shgrammar.proofs.Shifted.{shifted, from_to, state_from}
 use Rattle.shgrammar.proofs.BodiesThere.{move_span, move_waiting, moved_to, bodies_over, waits_over, change_good}
 use Rattle.shgrammar.proofs.Spelling.{raw_at}
@@ -60,8 +60,8 @@ module _ {edition : Edition} {T U : List ℕ} {a M : ℕ} {to : ℕ → ℕ} {li
   -- the span of two places, in the other text
   span_there : (p q : ℕ) → a ≤ p → p ≤ q → move_span E o o2 (span o p q) ≡ span o2 (to p) (to q)
   span_there p q from le =
-      let one : to p ≡ to a + (p - a) = apart E a p (omega arith) from in
-      let two : to q ≡ to a + (q - a) = apart E a q (omega arith) (omega (arith, from, le)) in
+      let one : to p ≡ to a + (p - a) = to_apart E a p (omega arith) from in
+      let two : to q ≡ to a + (q - a) = to_apart E a q (omega arith) (omega (arith, from, le)) in
       let first : shifted (o + a) (o2 + to a) (o + p) ≡ o2 + to p = omega (arith, one, from) in
       let last : shifted (o + a) (o2 + to a) (o + q) ≡ o2 + to q = omega (arith, two, from, le) in
       ap (λ (x : ℕ). from_to x (shifted (o + a) (o2 + to a) (o + q))) first ∙ ap (λ (x : ℕ). from_to (o2 + to p) x) last
@@ -83,7 +83,7 @@ module _ {edition : Edition} {T U : List ℕ} {a M : ℕ} {to : ℕ → ℕ} {li
       → SameBodies x.0
   one_same w ws bodies p x from high_x more None found read same = absurd cc
   one_same w ws bodies p x from high_x more (Some q) found read same =
-      let one = between T w false p q found in
+      let one = delimiter_between T w false p q found in
       let onward = bodies_low g ws (bodies ++ span o p q ∷ []) (past_line T q) x read in
       let le : q ≤ past_line T q = omega (arith, one.1, next_newline_low T q) in
       more (bodies ++ span o p q ∷ []) (past_line T q) (omega (arith, from, one.0, le)) read
@@ -116,22 +116,23 @@ module _ {edition : Edition} {T U : List ℕ} {a M : ℕ} {to : ℕ → ℕ} {li
       state_same s t from high_t (bodies_from g s.waiting s.bodies s.at) refl is same
 
   -- all this holds of each form
-  pub good : {X : Type 0} (r : Form X) (s : State) → a ≤ s.at → Tells Whole g r (Back s) s
-  good (give x) s from = record { told = (from, λ e. e, λ e same. same) }
-  good (see l) s from = record { told = (from, λ e. e, λ e same. same) }
-  good (move m) s from = record {
+  pub each_form_back : {X : Type 0} (r : Form X) (s : State) → a ≤ s.at → Tells Whole g r (Back s) s
+  each_form_back (give x) s from = record { told = (from, λ e. e, λ e same. same) }
+  each_form_back (see l) s from = record { told = (from, λ e. e, λ e same. same) }
+  each_form_back (move m) s from = record {
     told =
         (omega (arith, from, move_low m T s.at), λ e. (moves E m s.at from e).0, λ e same. same);
   }
-  good (push xs x) s from = record { told = (from, λ e. e, λ e same. same) }
-  good (stop kind at) s from = record { told = tt }
-  good (both r q) s from = tells_then Whole g (good r s from)
-      (λ x t one. tells_so Whole g (good (q x) t one.0)
+  each_form_back (push xs x) s from = record { told = (from, λ e. e, λ e same. same) }
+  each_form_back (stop kind at) s from = record { told = tt }
+  each_form_back (both r q) s from = tells_then Whole g (each_form_back r s from)
+      (λ x t one. tells_so Whole g (each_form_back (q x) t one.0)
       (λ y u two. (two.0, λ e. one.1 (two.1 e), λ e same. two.2 e (one.2 (two.1 e) same))))
-  good (when l r q) s from = tells_when Whole g (good r s from) (good q s from)
-  good (token how r) s from = tells_token Whole g (good r s from) (λ x t one. one)
-  good {X = X} (loop turn b) s from =
-      tells_loop Whole g turn (Back s) (λ c t one. tells_so Whole g (good (turn c) t one.0) (turned t one)) b s
+  each_form_back (when l r q) s from = tells_when Whole g (each_form_back r s from) (each_form_back q s from)
+  each_form_back (token how r) s from = tells_token Whole g (each_form_back r s from) (λ x t one. one)
+  each_form_back {X = X} (loop turn b) s from =
+      tells_loop Whole g turn (Back s)
+      (λ c t one. tells_so Whole g (each_form_back (turn c) t one.0) (turned t one)) b s
       (from, λ e. e, λ e same. same)
     where
       turned : (t : State) → (a ≤ t.at) × (G t.at → G s.at) × (G t.at → SameBodies s.bodies → SameBodies t.bodies) →
@@ -140,16 +141,17 @@ module _ {edition : Edition} {T U : List ℕ} {a M : ℕ} {to : ℕ → ℕ} {li
           Turned Whole g (Back s) c u
       turned t one (again c) u two = (two.0, λ e. one.1 (two.1 e), λ e same. two.2 e (one.2 (two.1 e) same))
       turned t one (done c) u two = (two.0, λ e. one.1 (two.1 e), λ e same. two.2 e (one.2 (two.1 e) same))
-  good (ends_as kind at r) s from = tells_ending Whole g (good r s from)
-  good (change c) s from = tells_change Whole g
+  each_form_back (ends_as kind at r) s from = tells_ending Whole g (each_form_back r s from)
+  each_form_back (change c) s from = tells_change Whole g
       (λ t is. (
         omega (arith, from, change_low c g s t is),
         λ e. change_good E o c s t from is e,
-        λ e same. change_same c s t from is (high E e) same,
+        λ e same. change_same c s t from is (good_high E e) same,
       ))
-  good (with_bytes r) s from = tells_with_bytes Whole g (good r s from) (λ x t one. one)
-  good (a_level r) s from = tells_level Whole g (good r (own_level s) from) (λ x t one. (one.0, one.1, λ e same. same))
-  good (in_substitution r) s from = tells_inside Whole g (good r s from)
+  each_form_back (with_bytes r) s from = tells_with_bytes Whole g (each_form_back r s from) (λ x t one. one)
+  each_form_back (a_level r) s from =
+      tells_level Whole g (each_form_back r (own_level s) from) (λ x t one. (one.0, one.1, λ e same. same))
+  each_form_back (in_substitution r) s from = tells_inside Whole g (each_form_back r s from)
 
   -- ---- what is read there
 
@@ -231,7 +233,8 @@ module _ {edition : Edition} {T U : List ℕ} {a M : ℕ} {to : ℕ → ℕ} {li
 
     then_by : (x : Read X) → Holds (Back s) x → Holds (Found S q s) x →
         Holds (Found R (both q k) s) (x ▸ λ b t. does (f b) Whole g t)
-    then_by (Ok (x, t)) back one = then_last x t back.0 one (does (f x) Whole g t) refl (good (f x) t back.0).told
+    then_by (Ok (x, t)) back one =
+        then_last x t back.0 one (does (f x) Whole g t) refl (each_form_back (f x) t back.0).told
     then_by (Err e) back one = tt
 
   -- one form and then another
@@ -240,7 +243,7 @@ module _ {edition : Edition} {T U : List ℕ} {a M : ℕ} {to : ℕ → ℕ} {li
       → Goes R (both r f) (both q k)
   go_then {r = r} first rest = record {
     go =
-        λ s from. then_by first rest s from (does r Whole g s) (good r s from).told (first.go s from);
+        λ s from. then_by first rest s from (does r Whole g s) (each_form_back r s from).told (first.go s from);
   }
 
   -- what follows
@@ -288,7 +291,7 @@ module _ {edition : Edition} {T U : List ℕ} {a M : ℕ} {to : ℕ → ℕ} {li
         there,
         (
           ap (λ (v : Read Y). ◌▸◌ {Y = Y × Span} v (λ b u. Ok ((b, span o2 (to s.at) u.at), u))) w.1.0,
-          (w.1.1, same_texts s.at t.at from back.0 (high E e)),
+          (w.1.1, same_texts s.at t.at from back.0 (good_high E e)),
         ),
       )
   token_by S how q s from (Err f) back one = tt
@@ -296,7 +299,10 @@ module _ {edition : Edition} {T U : List ℕ} {a M : ℕ} {to : ℕ → ℕ} {li
   pub go_token : {X Y : Type 0} {S : X → Y → Type 0} {how : Telling} {r : Form X} {q : Form Y} → Goes S r q →
       Goes (WithText S) (token how r) (token how q)
   go_token {S = S} {how = how} {r = r} {q = q} one =
-      record { go = λ s from. token_by S how q s from (does r Whole g s) (good r s from).told (one.go s from) }
+      record {
+        go = λ s from. token_by S how q s from (does r Whole g s) (each_form_back r s from).told
+            (one.go s from);
+      }
 
   -- a token, where it stands
   abbrev pub WithSpan : {X Y : Type 0} → (X → Y → Type 0) → X × Span → Y × Span → Type 0
@@ -336,7 +342,7 @@ module _ {edition : Edition} {T U : List ℕ} {a M : ℕ} {to : ℕ → ℕ} {li
         there,
         (
           ap (λ (v : Read Y). ◌▸◌ {Y = Y × Spelled} v (λ b u. Ok ((b, raw U (to s.at) u.at), u))) w.1.0,
-          (w.1.1, sym (same_raw E s.at t.at from back.0 (high E e))),
+          (w.1.1, sym (same_raw E s.at t.at from back.0 (good_high E e))),
         ),
       )
   bytes_by S q s from (Err f) back one = tt
@@ -344,7 +350,7 @@ module _ {edition : Edition} {T U : List ℕ} {a M : ℕ} {to : ℕ → ℕ} {li
   pub go_with_bytes : {X Y : Type 0} {S : X → Y → Type 0} {r : Form X} {q : Form Y} → Goes S r q →
       Goes (WithBytes S) (with_bytes r) (with_bytes q)
   go_with_bytes {S = S} {r = r} {q = q} one =
-      record { go = λ s from. bytes_by S q s from (does r Whole g s) (good r s from).told (one.go s from) }
+      record { go = λ s from. bytes_by S q s from (does r Whole g s) (each_form_back r s from).told (one.go s from) }
 
   -- ---- repetitions
 
@@ -390,7 +396,8 @@ module _ {edition : Edition} {T U : List ℕ} {a M : ℕ} {to : ℕ → ℕ} {li
       more_by b t onward on found rest (Ok (v, u)) is back =
           λ e. let here = back.1 e in
           let w = found here in
-          more_there y s t b v u (same_leads E.kept o o2 s t from onward (omega (arith, high E here)) ∙ on) w.0 w.1.0
+          more_there y s t b v u (same_leads E.kept o o2 s t from onward (omega (arith, good_high E here)) ∙ on) w.0
+          w.1.0
           w.1.1 (λ c so. subst (Holds (Looped c t)) is (rest c so) e)
       more_by b t onward on found rest (Err f) is back = tt
 
@@ -407,18 +414,19 @@ module _ {edition : Edition} {T U : List ℕ} {a M : ℕ} {to : ℕ → ℕ} {li
           led true on =
               rw (turns_on g one x b s t is on)
               (more_by b t onward on found (λ c so. rest b c t back.0 (ltb-true _ _ on) so) (turns g one b t) refl
-              (good (loop turn b) t back.0).told)
+              (each_form_back (loop turn b) t back.0).told)
           led false on =
               rw (turns_rest g one x b s t is on)
               (λ e. let w = found e in rest_there y s t b
-              (same_leads E.kept o o2 s t from onward (omega (arith, high E e)) ∙ on) w.0 w.1.0 w.1.1)
+              (same_leads E.kept o o2 s t from onward (omega (arith, good_high E e)) ∙ on) w.0 w.1.0 w.1.1)
 
     -- by how many bytes are left
     all_turns : (n : ℕ) (x : A) (y : C) (s : State) → length T - s.at < n → a ≤ s.at → S x y →
         Holds (Looped y s) (turns g one x s)
     all_turns zero x y s few from so = absurd (omega (arith, few))
     all_turns (suc n) x y s few from so =
-        turn_by x y s from (one x s) refl (good (turn x) s from).told (no_form_goes_back (turn x) Whole g s).told
+        turn_by x y s from (one x s) refl (each_form_back (turn x) s from).told
+        (no_form_goes_back (turn x) Whole g s).told
         ((each x y so).go s from) (λ b c t on less same. all_turns n b c t (omega (arith, less, few)) on same)
 
     -- a repetition

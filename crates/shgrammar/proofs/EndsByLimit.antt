@@ -46,19 +46,19 @@ module _ {edition : Edition} {T U : List ℕ} {a L : ℕ} {to : ℕ → ℕ} (K 
   unfolding raw_stands
   raw_clear p e f = both_ways _ e f
 
-  pub clear : (p : ℕ) → a ≤ p → past_continuations T p < L → Clear p → In p
-  clear p from lt e = here K p from lt (λ f. absurd (raw_clear p e f))
+  pub in_if_clear : (p : ℕ) → a ≤ p → past_continuations T p < L → Clear p → In p
+  in_if_clear p from lt e = here K p from lt (λ f. absurd (raw_clear p e f))
 
   -- a byte that is read after p, and one at p
-  pub before : (p : ℕ) → a ≤ p → In (past_byte T p) → In p
-  before p from i =
+  pub in_before : (p : ℕ) → a ≤ p → In (past_byte T p) → In p
+  in_before p from i =
       let lt = i.inside in
       let le = place_low T (past_byte T p) in
       here K p from (omega (arith, lt, le, past_byte_is T p)) (λ f. omega (arith, lt, le, past_byte_is T p))
 
   -- where a byte before the limit is read, the place is not past it
-  pub high : {p : ℕ} → In p → p ≤ L
-  high {p = p} i = let lt = i.inside in let le = place_low T p in omega (arith, lt, le)
+  pub in_high : {p : ℕ} → In p → p ≤ L
+  in_high {p = p} i = let lt = i.inside in let le = place_low T p in omega (arith, lt, le)
 
   -- ---- a byte as it stands, and the one after a backslash
 
@@ -103,7 +103,7 @@ module _ {edition : Edition} {T U : List ℕ} {a L : ℕ} {to : ℕ → ℕ} (K 
       let rest = stretch_of test n (past_byte T p)
       (omega (arith, few, after_low T p, stands_in_low test T p e, place_low T p))
       (omega (arith, from, after_low T p)) (subst In more i) in
-      let start = before p from rest.0 in (
+      let start = in_before p from rest.0 in (
         start,
         past_more test U (to p) (here_stands_in K start test ∙ e) ∙ ap (past test U) (here_after K start)
             ∙ rest.1 ∙ ap to (sym more),
@@ -128,7 +128,7 @@ module _ {edition : Edition} {T U : List ℕ} {a L : ℕ} {to : ℕ → ℕ} (K 
       (λ (f : stands_in is_digit T p ≡ true). let w = stretch_in is_digit p from (rw (e, f) at i) in
       (w.0, rw (here_stands_in K w.0 is_letter, e, here_stands_in K w.0 is_digit, f) w.1))
       (λ (f : stands_in is_digit T p ≡ false). ⊎_elim
-      (λ (d : stands_in is_special T p ≡ true). let w = before p from (rw (e, f, d) at i) in (
+      (λ (d : stands_in is_special T p ≡ true). let w = in_before p from (rw (e, f, d) at i) in (
         w,
         rw (here_stands_in K w is_letter, e, here_stands_in K w is_digit, f, here_stands_in K w is_special, d)
             (here_after K w),
@@ -287,7 +287,7 @@ module _ {edition : Edition} {T U : List ℕ} {a L : ℕ} {to : ℕ → ℕ} (K 
       found f le =
           let onward = next_of_low apostrophe T (past_byte T s.at) in
           let q_in : q < L = omega (arith, le, taken_low T q) in
-          let i = clear K s.at from (omega (arith, onward, q_in, past_byte_is T s.at)) e in
+          let i = in_if_clear K s.at from (omega (arith, onward, q_in, past_byte_is T s.at)) e in
           let low_q : a ≤ past_byte T s.at = omega (arith, from, after_low T s.at) in
           let found = raw_there K (λ b. not (b == apostrophe)) (past_byte T s.at) low_q q_in in (
             i,
@@ -316,6 +316,7 @@ module _ {edition : Edition} {T U : List ℕ} {a L : ℕ} {to : ℕ → ℕ} (K 
     EscapedTurn c s x t = Turned (λ (c d : Unit {0}). Unit {0}) (escaped_turn how b)
         (escaped_turn how b2) Below UpTo c s x t
 
+    -- each turn that reaches its goal is read in the other text as well, with the same answer
     escaped_each : (c : Unit {0}) (s : State) → a ≤ s.at →
         Holds (EscapedTurn c s) (does (escaped_turn how b c) Whole g s)
     unfolding escaped_turn
@@ -371,7 +372,7 @@ module _ {edition : Edition} {T U : List ℕ} {a L : ℕ} {to : ℕ → ℕ} (K 
       (escaped_turn escapings.Backquotes b2) Below UpTo (λ p lt. omega (arith, lt)) (λ p le. le)
       (escaped_each escapings.Backquotes b b2) tt inside (omega (arith, from, after_low T s.at)))
       (λ x t ends le. let w = ends le in
-      let i = clear K s.at from (omega (arith, w.0, past_byte_is T s.at)) e in
+      let i = in_if_clear K s.at from (omega (arith, w.0, past_byte_is T s.at)) e in
       let f = w.1 tt tt in (
         i,
         (
@@ -402,9 +403,9 @@ module _ {edition : Edition} {T U : List ℕ} {a L : ℕ} {to : ℕ → ℕ} (K 
       (escaped_each escapings.DollarSingle b b2) tt inside
       (omega (arith, from, after_low T s.at, after_low T (past_byte T s.at))))
       (λ x t ends le. let w = ends le in
-      let j = clear K (past_byte T s.at) (omega (arith, from, after_low T s.at))
+      let j = in_if_clear K (past_byte T s.at) (omega (arith, from, after_low T s.at))
       (omega (arith, w.0, past_byte_is T (past_byte T s.at))) e2 in
-      let i = clear K s.at from (omega (arith, w.0, past_byte_is T s.at, after_low T (past_byte T s.at))) e in
+      let i = in_if_clear K s.at from (omega (arith, w.0, past_byte_is T s.at, after_low T (past_byte T s.at))) e in
       let f = w.1 tt tt in (
         (i, j),
         (

@@ -25,7 +25,7 @@ use Rattle.shast.specs.Tree.{ACommand, AForm, ASubst, AWord, AnEntry, AnItem, En
 use Rattle.shast.specs.Bodies.{filled}
 use Rattle.shast.proofs.Going.{row_filled}
 use Rattle.shast.proofs.OpenSame.{filled_within}
-use Rattle.shast.proofs.Reach.{Nodes, CommentFits, SubstFits, WordFits, ItemFits, CommandFits, PipelineFits, PipeFits, PartFits, EntryFits, BranchFits, both as fits_both, fits_subst, fits_substs, fits_items, fits_word, fits_entries, fits_branches, fits_assign, fits_argument, fits_simple, fits_redirect, fits_compound, fits_pipeline, fits_and_or, fits_command, fits_remark, span_fits_more, within_append, fits_function, CaseFits, fits_case, fits_case_in, fits_end}
+use Rattle.shast.proofs.Reach.{Nodes, CommentFits, SubstFits, WordFits, ItemFits, CommandFits, PipelineFits, PipeFits, PartFits, EntryFits, BranchFits, fits_both, fits_subst, fits_substs, fits_items, fits_word, fits_entries, fits_branches, fits_assign, fits_argument, fits_simple, fits_redirect, fits_compound, fits_pipeline, fits_and_or, fits_command, fits_remark, span_fits_more, within_append, fits_function, CaseFits, fits_case, fits_case_in, fits_end}
 use Rattle.shgrammar.specs.Standing.{raw_stands, raw_in, next_newline, before_blanks}
 use Rattle.shgrammar.specs.Bytes.{past_continuations, past_byte}
 use Rattle.shgrammar.specs.Comments.{span, comment_at, past_comment}
@@ -168,7 +168,7 @@ module _ (keep : Keep) (g : Given) (limit : ℕ) where
   BareFits (function name comments body) = CommandFits limit (function name comments body)
 
   -- what may be opened names no offset past the limit
-  pub record Fine (inner : Inner) : Type 0 where
+  pub record InnerFits (inner : Inner) : Type 0 where
     pub construct : (mode : Mode) (b : ℕ) (ss : Row ASubst) (s : State) → All (SubstFits limit) ss →
         R (inner.construct mode b ss) (All (SubstFits limit)) s
     pub substitution : (b : ℕ) (ss : Row ASubst) (s : State) → b ≤ g.offset + s.at → All (SubstFits limit) ss →
@@ -177,7 +177,7 @@ module _ (keep : Keep) (g : Given) (limit : ℕ) where
     pub function : (name : Span) (s : State) → IsSpanWithin limit name →
         R (inner.function name) (λ c. CommandFits limit c.0) s
 
-  module _ (inner : Inner) (fine : Fine inner) where
+  module _ (inner : Inner) (fine : InnerFits inner) where
     -- where the substitutions so far fit, so do those with a construct that opens in a word
     opened_fits : (mode : Mode) (b : ℕ) (h : WordSoFar) (s : State) → SubstsFit h →
         R (opened inner mode b h) (Stepped SubstsFit) s
@@ -860,7 +860,7 @@ module _ (keep : Keep) (g : Given) (limit : ℕ) where
 
 -- what may be opened fits, by how many more may be; what stands in a substitution is read by
 -- what is kept there
-pub level_fits : (keep : Keep) (g : Given) (limit room : ℕ) → Fine keep g limit (level room)
+pub level_fits : (keep : Keep) (g : Given) (limit room : ℕ) → InnerFits keep g limit (level room)
 unfolding level a_substitution
 level_fits keep g limit zero = record {
   construct = λ mode b ss s so. record { told = tt };

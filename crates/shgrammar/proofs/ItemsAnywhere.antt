@@ -5,7 +5,7 @@ use Rattle.std.proofs.lemmas.Bool.{and_parts, both_ways, cases_Bool, false_from_
 use Rattle.std.proofs.lemmas.Bool.Decides.{nat_tests}
 use Rattle.std.proofs.lemmas.List.{take_at}
 use Rattle.std.proofs.lemmas.Option.{slice_get_within}
-use Rattle.shgrammar.specs.Characters.{backslash, greater_than_sign, left_parenthesis, less_than_sign, newline_char, number_sign, right_parenthesis, space, vertical_line}
+use Rattle.shgrammar.specs.Characters.{ampersand, backslash, equals_sign, greater_than_sign, left_parenthesis, less_than_sign, newline_char, number_sign, right_parenthesis, semicolon, space, vertical_line}
 use Rattle.shgrammar.specs.declared.keep.Keep.TheVariants.{Whole}
 use Rattle.shgrammar.specs.declared.mode.Mode.TheVariants.{Plain}
 use Rattle.shgrammar.specs.declared.token.Position.{Position}
@@ -30,14 +30,14 @@ use Rattle.shgrammar.proofs.Turns.{turns_on}
 use Rattle.shgrammar.proofs.Holds.{Holds, holds_then}
 use Rattle.shgrammar.proofs.SameBytes.{Kept, WordEnds, Here, here_byte, here_after, here_stands_in}
 use Rattle.shgrammar.proofs.Ahead.{same_and, spelled_none, spelled_more, past_byte_is}
-use Rattle.shgrammar.proofs.PiecesInside.{From, word_from}
-use Rattle.shgrammar.proofs.WordsElsewhere.{everywhere}
+use Rattle.shgrammar.proofs.PiecesElsewhere.{From, word_from}
+use Rattle.shgrammar.proofs.LevelsAnywhere.{level_anywhere}
 use Rattle.shgrammar.proofs.PlainBytes.{plain_stays, ordinary_by}
 use Rattle.shgrammar.proofs.OneOutcome.{computed_is_only}
-use Rattle.shgrammar.proofs.Anywhere.{WordOf, begin_there, from_to, kept, padded, padded_is, same_word}
+use Rattle.shgrammar.proofs.WordsAnywhere.{WordOf, begin_there, from_to, kept_by_bytes, padded, padded_is, same_word}
 use Rattle.shast.specs.Shape.{Shape, shape_of_word}
 use Rattle.shast.specs.Tree.{SubstsOf, word as shape_word}
-use Rattle.shgrammar.proofs.CommentsElsewhere.{byte_after, stretch_length}
+use Rattle.shgrammar.proofs.CommentsAnywhere.{byte_after, stretch_length}
 use Rattle.shgrammar.proofs.WordsWithin.{word_ends}
 use Rattle.shgrammar.specs.declared.edition.Edition.{Edition}
 
@@ -158,7 +158,7 @@ module _ {edition : Edition} {T U : List ℕ} {a L : ℕ} {to : ℕ → ℕ} (K 
       (does (loop (a_piece (level room) Plain w.opener) w.start) Whole (given edition T o) (standing r)) w.found
       w.last w.goes
       (word_from K o o B C W.there (λ e. W.closed) (level room)
-      ((everywhere room).local edition T U a L to K o o B C (padded_is o T) (padded_is o U) W.there (λ e. W.closed))
+      ((level_anywhere room).local edition T U a L to K o o B C (padded_is o T) (padded_is o U) W.there (λ e. W.closed))
       w.opener w.start (standing r) w.low) w.there)
 
   -- where no word ends, the byte that is read at r is before the limit, and the same
@@ -273,7 +273,7 @@ module _ {edition : Edition} {T U : List ℕ} {a L : ℕ} {to : ℕ → ℕ} (K 
   same_assignment : {r : ℕ} → Goes r → begins_assignment U (to r) ≡ begins_assignment T r
   unfolding begins_assignment
   same_assignment w = let p = past_goes is_name plain_name w in
-      rw (same_test is_letter plain_letter w, p.1, same_stands 61 refl p.0) refl
+      rw (same_test is_letter plain_letter w, p.1, same_stands equals_sign refl p.0) refl
 
   same_name : {r : ℕ} → Goes r → is_name_at U (to r) ≡ is_name_at T r
   unfolding is_name_at ends_word
@@ -342,15 +342,15 @@ item_is_word tokens.Word e = refl
 
 -- the first byte of an item is none of those that tell another token
 pub record ItemByte (b : ℕ) : Type 0 where
-  newline : is_newline b ≡ false
-  semicolon : (b == 59) ≡ false
-  ampersand : (b == 38) ≡ false
-  bar : (b == vertical_line) ≡ false
-  open_paren : (b == left_parenthesis) ≡ false
-  close_paren : (b == right_parenthesis) ≡ false
-  less : (b == less_than_sign) ≡ false
-  greater : (b == greater_than_sign) ≡ false
-  sharp : (b == number_sign) ≡ false
+  no_newline : is_newline b ≡ false
+  no_semicolon : (b == semicolon) ≡ false
+  no_ampersand : (b == ampersand) ≡ false
+  no_bar : (b == vertical_line) ≡ false
+  no_open : (b == left_parenthesis) ≡ false
+  no_close : (b == right_parenthesis) ≡ false
+  no_less : (b == less_than_sign) ≡ false
+  no_greater : (b == greater_than_sign) ≡ false
+  no_sharp : (b == number_sign) ≡ false
 
 -- an item that a test picks is the second token where the first is none; of two that are none it picks none
 item_else : (c : Bool) (x y : Token) → (Item x → ⊥) → Item (cond c x y) → (c ≡ false) × Item y
@@ -365,39 +365,50 @@ neither false x y one two so = two so
 pub item_byte : (position : Position) (T : List ℕ) (p b : ℕ) → Item (token_of position T p (Some b)) → ItemByte b
     × (is_number T p ≡ false)
 item_byte position T p b so =
-    let newline = item_else (is_newline b) _ _ (λ e. absurd cc) so in
-    let semicolon = item_else (b == 59) _ _
-    (λ e. neither (stands T (past_byte T p) 59) _ _ (λ f. absurd cc)
-    (λ f. neither (stands T (past_byte T p) 38) _ _ (λ g. absurd cc) (λ g. absurd cc) f) e) newline.1 in
-    let ampersand = item_else (b == 38) _ _
-    (λ e. neither (stands T (past_byte T p) 38) _ _ (λ f. absurd cc) (λ f. absurd cc) e) semicolon.1 in
-    let bar = item_else (b == vertical_line) _ _
-    (λ e. neither (stands T (past_byte T p) vertical_line) _ _ (λ f. absurd cc) (λ f. absurd cc) e) ampersand.1 in
-    let open_paren = item_else (b == left_parenthesis) _ _ (λ e. absurd cc) bar.1 in
-    let close_paren = item_else (b == right_parenthesis) _ _ (λ e. absurd cc) open_paren.1 in
-    let less = item_else (b == less_than_sign) _ _ (λ e. absurd cc) close_paren.1 in
-    let greater = item_else (b == greater_than_sign) _ _ (λ e. absurd cc) less.1 in
-    let sharp = item_else (b == number_sign) _ _ (λ e. absurd cc) greater.1 in
-    let number = item_else (is_number T p) _ _ (λ e. absurd cc) sharp.1 in (
+    let past_newline = item_else (is_newline b) _ _ (λ e. absurd cc) so in
+    let past_semicolon = item_else (b == semicolon) _ _
+    (λ e. neither (stands T (past_byte T p) semicolon) _ _ (λ f. absurd cc)
+    (λ f. neither (stands T (past_byte T p) ampersand) _ _ (λ g. absurd cc) (λ g. absurd cc) f) e) past_newline.1 in
+    let past_ampersand = item_else (b == ampersand) _ _
+    (λ e. neither (stands T (past_byte T p) ampersand) _ _ (λ f. absurd cc) (λ f. absurd cc) e) past_semicolon.1 in
+    let past_bar = item_else (b == vertical_line) _ _
+    (λ e. neither (stands T (past_byte T p) vertical_line) _ _ (λ f. absurd cc) (λ f. absurd cc) e) past_ampersand.1 in
+    let past_open = item_else (b == left_parenthesis) _ _ (λ e. absurd cc) past_bar.1 in
+    let past_close = item_else (b == right_parenthesis) _ _ (λ e. absurd cc) past_open.1 in
+    let past_less = item_else (b == less_than_sign) _ _ (λ e. absurd cc) past_close.1 in
+    let past_greater = item_else (b == greater_than_sign) _ _ (λ e. absurd cc) past_less.1 in
+    let past_sharp = item_else (b == number_sign) _ _ (λ e. absurd cc) past_greater.1 in
+    let past_number = item_else (is_number T p) _ _ (λ e. absurd cc) past_sharp.1 in (
       record {
-        newline = newline.0;
-        semicolon = semicolon.0;
-        ampersand = ampersand.0;
-        bar = bar.0;
-        open_paren = open_paren.0;
-        close_paren = close_paren.0;
-        less = less.0;
-        greater = greater.0;
-        sharp = sharp.0;
+        no_newline = past_newline.0;
+        no_semicolon = past_semicolon.0;
+        no_ampersand = past_ampersand.0;
+        no_bar = past_bar.0;
+        no_open = past_open.0;
+        no_close = past_close.0;
+        no_less = past_less.0;
+        no_greater = past_greater.0;
+        no_sharp = past_sharp.0;
       },
-      number.0,
+      past_number.0,
     )
 
 -- where such a byte begins a token that is no number, the token is told as that of a word
 pub item_token : (position : Position) (T : List ℕ) (p b : ℕ) → ItemByte b → is_number T p ≡ false →
     token_of position T p (Some b) ≡ word_by position T p
 item_token position T p b i none =
-    rw (i.newline, i.semicolon, i.ampersand, i.bar, i.open_paren, i.close_paren, i.less, i.greater, i.sharp, none) refl
+    rw (
+      i.no_newline,
+      i.no_semicolon,
+      i.no_ampersand,
+      i.no_bar,
+      i.no_open,
+      i.no_close,
+      i.no_less,
+      i.no_greater,
+      i.no_sharp,
+      none,
+    ) refl
 
 -- where an item begins a byte is read, and it ends no word
 record Begun (T : List ℕ) (p : ℕ) : Type 0 where
@@ -421,14 +432,14 @@ begun_by position T p (Some b) is so no_blank =
       no_number = i.1;
       no_end = rw (
         no_blank,
-        f.newline,
-        f.semicolon,
-        f.ampersand,
-        f.bar,
-        f.open_paren,
-        f.close_paren,
-        f.less,
-        f.greater,
+        f.no_newline,
+        f.no_semicolon,
+        f.no_ampersand,
+        f.no_bar,
+        f.no_open,
+        f.no_close,
+        f.no_less,
+        f.no_greater,
       ) refl;
     }
 
@@ -442,7 +453,7 @@ begun position T p so no_blank = begun_by position T p (byte_at T p) refl so no_
 -- what may stand after an item in a printed text: a blank, a newline, `;` or `)`
 abbrev pub follows : List ℕ → Bool
 follows [] = false
-follows (c ∷ cs) = c == space || (c == newline_char || (c == 59 || c == right_parenthesis))
+follows (c ∷ cs) = c == space || (c == newline_char || (c == semicolon || c == right_parenthesis))
 
 -- the byte that follows ends a word, and is none that counts for what stands before it
 record Follower (zs : List ℕ) : Type 0 where
@@ -534,7 +545,7 @@ module _ (room : ℕ) (position : Position) (g : Given) (p n : ℕ) (word : Read
     same = ap (take n) is_there ∙ take_at w zs n size
 
     K : Kept g.edition g.text h.text p (p + n) (from_to p q)
-    K = kept g.edition g.text h.text p q n same
+    K = kept_by_bytes g.edition g.text h.text p q n same
 
     -- the byte at the limit is the one that follows, and ends a word there
     limit_byte : byte_at h.text (from_to p q (p + n)) ≡ Some next.byte

@@ -20,9 +20,9 @@ use Rattle.shgrammar.specs.Levels.{level, ReadsWord}
 use Rattle.shgrammar.proofs.Stretches.{get_drop}
 use Rattle.shgrammar.proofs.Holds.{tells_seen, tells_many, tells_level, tells_any, Holds, holds_then, Tells, Turned, tells_so, tells_then, tells_when, tells_token, AtOrAfter, no_form_goes_back, tells_inside}
 use Rattle.shgrammar.proofs.SameBytes.{Kept}
-use Rattle.shgrammar.proofs.Inside.{there}
-use Rattle.shgrammar.proofs.PiecesInside.{word_in}
-use Rattle.shgrammar.proofs.WordsElsewhere.{everywhere, substs_shape}
+use Rattle.shgrammar.proofs.EndsByLimit.{there}
+use Rattle.shgrammar.proofs.PiecesElsewhere.{word_in}
+use Rattle.shgrammar.proofs.LevelsAnywhere.{level_anywhere, substs_shape}
 use Rattle.shgrammar.proofs.Spelling.{raw_at}
 use Rattle.shgrammar.proofs.OneOutcome.{computed_is_only}
 use Rattle.shgrammar.proofs.SameLine.{same_front}
@@ -97,9 +97,9 @@ pub begin_there : (p q : ℕ) → from_to p q p ≡ q
 begin_there p q = omega arith
 
 -- where they have the same n bytes from there on, the second keeps those of the first
-pub kept : (edition : Edition) (T U : List ℕ) (p q n : ℕ) → take n (drop q U) ≡ take n (drop p T) →
+pub kept_by_bytes : (edition : Edition) (T U : List ℕ) (p q n : ℕ) → take n (drop q U) ≡ take n (drop p T) →
     Kept edition T U p (p + n) (from_to p q)
-kept edition T U p q n same = record {
+kept_by_bytes edition T U p q n same = record {
   under = omega arith;
   on = λ r k from. omega (arith, from);
   same = λ r from lt. let is : p + (r - p) ≡ r = omega (arith, from) in
@@ -125,7 +125,7 @@ module _ (room : ℕ) (g h : Given) (p q n : ℕ) (same : take n (drop q h.text)
 
   -- the n bytes from p on stand in it from q on
   K : Kept g.edition g.text h.text p (p + n) (from_to p q)
-  K = kept g.edition g.text h.text p q n same
+  K = kept_by_bytes g.edition g.text h.text p q n same
 
   end_there : from_to p q (p + n) ≡ q + n
   end_there = omega arith
@@ -135,7 +135,7 @@ module _ (room : ℕ) (g h : Given) (p q n : ℕ) (same : take n (drop q h.text)
   here_ends = subst (λ r. ends (byte_at h.text r) ≡ true) (sym end_there) ender
 
   here_no_open : is_byte (byte_at g.text (p + n)) left_parenthesis ≡ false →
-      is_byte (byte_at h.text (from_to p q (p + n))) 40 ≡ false
+      is_byte (byte_at h.text (from_to p q (p + n))) left_parenthesis ≡ false
   here_no_open e = subst (λ r. is_byte (byte_at h.text r) left_parenthesis ≡ false) (sym end_there) no_open
 
   -- a state, in the other text
@@ -161,7 +161,7 @@ module _ (room : ℕ) (g h : Given) (p q n : ℕ) (same : take n (drop q h.text)
   contents_by : Holds (there_is SameSubsts holds_there)
       (does (contents inner Plain (g.offset + p) []) Whole g (standing p))
   contents_by =
-      let local = (everywhere room).local g.edition g.text h.text p (p + n)
+      let local = (level_anywhere room).local g.edition g.text h.text p (p + n)
       (from_to p q) K g.offset h.offset B C stands_in stands_there here_ends here_no_open in
       word_in K g.offset h.offset B C here_ends here_no_open inner local (g.offset + p) (h.offset + from_to p q p)
       (standing p) (omega arith)
@@ -251,11 +251,11 @@ same_word room g h p q n w told part same ender no_open B C stands_in stands_the
     (v.0, (word_may room (given g.edition h.text h.offset) q n v.0 v.1.0, sym v.1.1))
 
 -- so the bytes of a word are read as one in each text that has them, before such a byte
-pub anywhere : (room : ℕ) (g h : Given) (p q n : ℕ) → ReadsWord room g p n →
+pub reads_word_anywhere : (room : ℕ) (g h : Given) (p q n : ℕ) → ReadsWord room g p n →
     take n (drop q h.text) ≡ take n (drop p g.text) → ends_word h.text (q + n) ≡ true →
     stands h.text (q + n) left_parenthesis ≡ false
     → ReadsWord room (given g.edition h.text h.offset) q n
-anywhere room g h p q n (w, part) same ender no_open =
+reads_word_anywhere room g h p q n (w, part) same ender no_open =
     let v = same_word room g h p q n w _ part same ender no_open (padded g.offset g.text) (padded h.offset h.text)
     (padded_is g.offset g.text) (padded_is h.offset h.text) in
     (v.0, v.1.0)
@@ -374,8 +374,8 @@ module _ (g : Given) where
       }
 
   -- so does a word where so many constructs may be open
-  pub waits : (room : ℕ) (s : State) → Tells Whole g (a_word (level room)) (Waits s) s
-  waits room s = word_still (level room) (quiet_level room) s
+  pub level_word_still : (room : ℕ) (s : State) → Tells Whole g (a_word (level room)) (Waits s) s
+  level_word_still room s = word_still (level room) (quiet_level room) s
 
 -- where nothing waits and no bodies were read, a state is its place
 pub state_is : (t : State) → t.waiting ≡ [] → t.bodies ≡ [] → t ≡ standing t.at
@@ -389,7 +389,7 @@ word_read room g p w t told part =
     let is_read = (computed_is_only (a_word (level room)) g (standing p)).only _ _ part in
     let on = subst (Holds (AtOrAfter (standing p))) (sym is_read)
     (no_form_goes_back (a_word (level room)) Whole g (standing p)).told in
-    let stays = subst (Holds (Waits (standing p))) (sym is_read) (waits g room (standing p)).told in
+    let stays = subst (Holds (Waits (standing p))) (sym is_read) (level_word_still g room (standing p)).told in
     let told_is = word_told (level room) g (standing p) t w told part in
     let end : t.at ≡ p + (t.at - p) = omega (arith, on) in
     let same = state_is t stays.0 stays.1 ∙ ap standing end in

@@ -12,7 +12,7 @@ use Rattle.shgrammar.specs.Sights.{Given, State, Waiting}
 use Rattle.shgrammar.specs.HereDocuments.{Change, waits, bodies_here, changed, past_line, delimiter_from, body_by, bodies_from, state_by, with_waiting}
 use Rattle.shgrammar.specs.Form.{Form, give, see, move, push, stop, both, when, token, loop, ends_as, change, with_bytes, a_level, Step, again, done, in_substitution}
 use Rattle.shgrammar.proofs.Places.{next_newline_low}
-use Rattle.shgrammar.proofs.Delimiters.{between, bodies_low}
+use Rattle.shgrammar.proofs.Delimiters.{delimiter_between, bodies_low}
 use Rattle.shgrammar.proofs.Holds.{Tells, Turned, tells_any, tells_change, tells_ending, tells_level, tells_loop, tells_so, tells_then, tells_token, tells_when, tells_with_bytes, no_form_goes_back, tells_inside}
 
 module _ (g : Given) (limit : ℕ) where
@@ -42,7 +42,7 @@ module _ (g : Given) (limit : ℕ) where
       All (IsSpanWithin limit) x.0
   body_step w ws bodies p x le all more None none read = absurd cc
   body_step w ws bodies p x le all more (Some q) found read =
-      let one = between g.text w false p q found in
+      let one = delimiter_between g.text w false p q found in
       let onward = bodies_low g ws (bodies ++ span g.offset p q ∷ []) (past_line g.text q) x read in
       let ends : g.offset + q ≤ limit = omega (arith, le, one.1, onward, next_newline_low g.text q) in
       more (bodies ++ span g.offset p q ∷ []) (past_line g.text q) read
@@ -75,27 +75,29 @@ module _ (g : Given) (limit : ℕ) where
   -- ---- all forms
 
   -- no form reads a body above the limit, unless it ends above it
-  pub held : {X : Type 0} (r : Form X) (s : State) → HoldsWithin s → Tells Whole g r (λ x t. Before t → HoldsWithin t) s
-  held (give x) s so = record { told = λ b. so }
-  held (see f) s so = record { told = λ b. so }
-  held (move m) s so = record { told = λ b. so }
-  held (push xs x) s so = record { told = λ b. so }
-  held (stop kind at) s so = record { told = tt }
-  held (both r q) s so = tells_then Whole g (held r s so)
-      (λ a t there. unless_above (q a) t (λ b. held (q a) t (there b)))
-  held (when f r q) s so = tells_when Whole g (held r s so) (held q s so)
-  held (token how r) s so = tells_token Whole g (held r s so) (λ a t there. there)
-  held {X = X} (loop turn a) s so =
+  pub bodies_in_limit : {X : Type 0} (r : Form X) (s : State) → HoldsWithin s →
+      Tells Whole g r (λ x t. Before t → HoldsWithin t) s
+  bodies_in_limit (give x) s so = record { told = λ b. so }
+  bodies_in_limit (see f) s so = record { told = λ b. so }
+  bodies_in_limit (move m) s so = record { told = λ b. so }
+  bodies_in_limit (push xs x) s so = record { told = λ b. so }
+  bodies_in_limit (stop kind at) s so = record { told = tt }
+  bodies_in_limit (both r q) s so = tells_then Whole g (bodies_in_limit r s so)
+      (λ a t there. unless_above (q a) t (λ b. bodies_in_limit (q a) t (there b)))
+  bodies_in_limit (when f r q) s so = tells_when Whole g (bodies_in_limit r s so) (bodies_in_limit q s so)
+  bodies_in_limit (token how r) s so = tells_token Whole g (bodies_in_limit r s so) (λ a t there. there)
+  bodies_in_limit {X = X} (loop turn a) s so =
       tells_loop Whole g turn (λ b t. Before t → HoldsWithin t)
-      (λ b t there. tells_so Whole g (unless_above (turn b) t (λ c. held (turn b) t (there c))) turned) a s (λ b. so)
+      (λ b t there. tells_so Whole g (unless_above (turn b) t (λ c. bodies_in_limit (turn b) t (there c))) turned) a s
+      (λ b. so)
     where
       turned : (c : Step X) (u : State) → (Before u → HoldsWithin u) →
           Turned Whole g (λ b t. Before t → HoldsWithin t) c u
       turned (again c) u there = there
       turned (done c) u there = there
-  held (ends_as kind at r) s so = tells_ending Whole g (held r s so)
-  held (change c) s so = tells_change Whole g (λ t is. λ b. change_within c s t so b is)
-  held (with_bytes r) s so = tells_with_bytes Whole g (held r s so) (λ a t there. there)
+  bodies_in_limit (ends_as kind at r) s so = tells_ending Whole g (bodies_in_limit r s so)
+  bodies_in_limit (change c) s so = tells_change Whole g (λ t is. λ b. change_within c s t so b is)
+  bodies_in_limit (with_bytes r) s so = tells_with_bytes Whole g (bodies_in_limit r s so) (λ a t there. there)
   -- after a level the bodies are those before it
-  held (a_level r) s so = tells_level Whole g {r = r} {s = s} (tells_any Whole g) (λ a t there. λ b. so)
-  held (in_substitution r) s so = tells_inside Whole g (held r s so)
+  bodies_in_limit (a_level r) s so = tells_level Whole g {r = r} {s = s} (tells_any Whole g) (λ a t there. λ b. so)
+  bodies_in_limit (in_substitution r) s so = tells_inside Whole g (bodies_in_limit r s so)

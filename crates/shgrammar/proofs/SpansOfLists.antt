@@ -32,7 +32,7 @@ use Rattle.shgrammar.proofs.Places.{after_low}
 use Rattle.shgrammar.proofs.Turns.{Stepped}
 use Rattle.shgrammar.proofs.UpToLimit.{UpTo, adds, after, bare_token, first, follows, gives, grows, moves, picks, picks_by, pushes, repeats, sees, step_so, stepped, stops, tokens, unless, with_its_bytes}
 use Rattle.shgrammar.proofs.EachSpan.{AndOrIn, AreIn, CommandIn, EntriesIn, EntryIn, HereIn, ItemIn, PartIn, PipeIn, PipelineIn, SomeIn, SubstIn, WordIn, entries_in, items_in, parts_in, pipes_in, some_pushed, substs_in}
-use Rattle.shgrammar.proofs.Within.{comment_ends}
+use Rattle.shgrammar.proofs.NodesInLimit.{comment_ends}
 
 -- ---- what holds of what was read so far
 
@@ -72,7 +72,7 @@ module _ (limit : ℕ) where
   JoinIn j = AreIn limit j.join.comments
 
 -- no span in what may be opened goes past the limit, where that does not end above it
-pub record Fine (g : Given) (limit : ℕ) (inner : Inner) : Type 0 where
+pub record InnerInLimit (g : Given) (limit : ℕ) (inner : Inner) : Type 0 where
   pub construct : (mode : Mode) (b : ℕ) (ss : Row ASubst) (s : State) → All (SubstIn limit) ss →
       UpTo g limit (inner.construct mode b ss) (All (SubstIn limit)) s
   pub substitution : (b : ℕ) (ss : Row ASubst) (s : State) → b ≤ g.offset + s.at → All (SubstIn limit) ss →
@@ -183,7 +183,7 @@ module _ {g : Given} {limit : ℕ} where
 
   -- ---- words
 
-  module _ {inner : Inner} (fine : Fine g limit inner) where
+  module _ {inner : Inner} (fine : InnerInLimit g limit inner) where
     -- no span in the substitutions so far goes past the limit, with a construct that opens in a word
     opened_in : (mode : Mode) (b : ℕ) (h : WordSoFar) (s : State) → SubstsIn limit h →
         UpTo g limit (opened inner mode b h) (Stepped (SubstsIn limit)) s

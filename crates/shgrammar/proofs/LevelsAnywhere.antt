@@ -29,17 +29,17 @@ use Rattle.shgrammar.specs.Levels.{level}
 use Rattle.shgrammar.proofs.Holds.{Holds, AtOrAfter, no_form_goes_back}
 use Rattle.shgrammar.proofs.SameBytes.{Kept, Here, at_limit}
 use Rattle.shgrammar.proofs.Ahead.{ListEnds, bracket_ends, past_byte_is, same_after, same_byte, seen}
-use Rattle.shgrammar.proofs.Asked.{Good, high}
-use Rattle.shgrammar.proofs.PiecesInside.{Local, Holding, SameSubsts, Ended, construct_in, word_in}
+use Rattle.shgrammar.proofs.Asked.{Good, good_high}
+use Rattle.shgrammar.proofs.PiecesElsewhere.{InnerOfPieces, Holding, SameSubsts, Ended, construct_in, word_in}
 use Rattle.shgrammar.specs.HereDocuments.{first_waiting, own_level, outer_level}
 use Rattle.shast.specs.Bodies.{filled}
 use Rattle.shast.proofs.FilledShape.{shape_filled}
 use Rattle.shgrammar.proofs.Shifted.{shifted, state_from}
 use Rattle.shgrammar.proofs.BodiesThere.{move_span, first_over}
-use Rattle.shgrammar.proofs.GoingOn.{over, Back, good, Found, Goes, go_stop, go_stopped, same_texts}
-use Rattle.shgrammar.proofs.JoinsElsewhere.{next, rows_more}
-use Rattle.shgrammar.proofs.CommandsElsewhere.{Fine, SameCommand, SameWord}
-use Rattle.shgrammar.proofs.ListsElsewhere.{SameList, compound_same, function_same, lines, list_shape}
+use Rattle.shgrammar.proofs.FormsElsewhere.{over, Back, each_form_back, Found, Goes, go_stop, go_stopped, same_texts}
+use Rattle.shgrammar.proofs.JoinsElsewhere.{next_same, rows_more}
+use Rattle.shgrammar.proofs.CommandsElsewhere.{InnerElsewhere, SameCommand, SameWord}
+use Rattle.shgrammar.proofs.ListsElsewhere.{SameList, compound_same, function_same, all_lines_same, list_shape}
 use Rattle.shgrammar.proofs.TokensShown.{Begins, paren_here, shown_level, shown_lines, shown_next}
 use Rattle.shgrammar.proofs.WordsWithin.{Last, contents_end, stays_in}
 use Rattle.shgrammar.specs.declared.edition.Edition.{Edition}
@@ -52,11 +52,11 @@ substs_shape B (s ∷ ss) = rw (substs_shape B ss) refl
 
 -- whatever two texts, and wherever: constructs and substitutions before a byte that
 -- ends words, compound commands and functions before a `)`
-pub record Everywhere (inner : Inner) : Type 0 where
+pub record InnerAnywhere (inner : Inner) : Type 0 where
   pub local : (edition : Edition) (T U : List ℕ) (a L : ℕ) (to : ℕ → ℕ) (K : Kept edition T U a L to) (o o2 : ℕ)
       (B B2 : List ℕ) → T ≡ drop o B → U ≡ drop o2 B2 → ends (byte_at U (to L)) ≡ true
       → (is_byte (byte_at T L) left_parenthesis ≡ false → is_byte (byte_at U (to L)) left_parenthesis ≡ false) →
-      Local K o o2 B B2 inner
+      InnerOfPieces K o o2 B B2 inner
   pub compound : (edition : Edition) (T U : List ℕ) (a M : ℕ) (to : ℕ → ℕ) (limit : ℕ)
       (E : ListEnds edition T U a M to limit) (o o2 : ℕ) (B B2 : List ℕ) (stands : T ≡ drop o B)
       (stands_there : U ≡ drop o2 B2) (c : Opener)
@@ -69,7 +69,7 @@ pub record Everywhere (inner : Inner) : Type 0 where
       Goes E o o2 B B2 stands stands_there (SameCommand B B2) (inner.function name)
       (inner.function new)
 
-module _ (room : ℕ) (all : Everywhere (level room)) where
+module _ (room : ℕ) (all : InnerAnywhere (level room)) where
   -- what may be opened, with this room
   abbrev inner : Inner
   inner = level room
@@ -97,7 +97,7 @@ module _ (room : ℕ) (all : Everywhere (level room)) where
         → FoundWord s (word (span o s.at t.at) (substs_of ss)) t
     unfolding a_word ends_word
     word_there s ss t from onward ender is e =
-        let le = high E e in
+        let le = good_high E e in
         let byte : byte_at U (to t.at) ≡ byte_at T t.at = same_byte E e in
         let K = kept_to t.at (omega (arith, from, onward)) le in
         let ends_there = ap ends byte ∙ ender in
@@ -124,7 +124,7 @@ module _ (room : ℕ) (all : Everywhere (level room)) where
         (s.at ≤ length T → Holds (λ ss t. Last (given edition T o) Plain t) x)
         → Holds (FoundWord s) (◌▸◌ {Y = AWord} x (λ ss t. Ok (word (span o s.at t.at) (substs_of ss), t)))
     word_by s from (Ok (ss, t)) is onward last =
-        λ e. let le : t.at < length T = omega (arith, high E e, slice_get_within T M limit E.byte) in
+        λ e. let le : t.at < length T = omega (arith, good_high E e, slice_get_within T M limit E.byte) in
         word_there s ss t from onward ((last (omega (arith, onward, le))).1 refl) is e
     word_by s from (Err f) is onward last = tt
 
@@ -145,7 +145,7 @@ module _ (room : ℕ) (all : Everywhere (level room)) where
         joined (Err f) = refl
 
     -- so words, compound commands and functions in a list are read there
-    fine : Fine E o o2 B B2 stands stands_there inner
+    fine : InnerElsewhere E o o2 B B2 stands stands_there inner
     fine = record {
       word = record { go = word_go };
       compound = all.compound edition T U a M to limit E o o2 B B2 stands stands_there;
@@ -235,7 +235,8 @@ module _ (room : ℕ) (all : Everywhere (level room)) where
           -- what ends at a good place began at one, and so did the list
           back_start : Back E o o2 B B2 stands stands_there start l u
           back_start = subst (Holds (Back E o o2 B B2 stands stands_there start)) is
-              (good E o o2 B B2 stands stands_there (all_lines the_next) start (omega (arith, from, still))).told
+              (each_form_back E o o2 B B2 stands stands_there (all_lines the_next) start
+              (omega (arith, from, still))).told
 
           good_start : Good T a M start.at
           good_start = back_start.1 at_limit
@@ -248,14 +249,14 @@ module _ (room : ℕ) (all : Everywhere (level room)) where
           begun : Here T U a L to s.at
           unfolding next_token
           begun = here_before M le (seen E
-              ((good E o o2 B B2 stands stands_there (next_token Command) s from).told.1 good_start))
+              ((each_form_back E o o2 B B2 stands stands_there (next_token Command) s from).told.1 good_start))
 
           -- the same token begins it there
           same_start : does (next_token Command) Whole h (over_there s) ≡ Ok (the_next, over_there start)
           unfolding next_token
           same_start =
               let again : Goes E o o2 B B2 stands stands_there (λ n m. n ≡ m) (next_token Command)
-              (next_token Command) = next Command in
+              (next_token Command) = next_same Command in
               let w = again.go s from good_start in
               subst (λ (n : Next). does (next_token Command) Whole h (over_there s) ≡ Ok (n, over_there start))
               (sym w.1.1) w.1.0
@@ -268,7 +269,7 @@ module _ (room : ℕ) (all : Everywhere (level room)) where
               subst (Holds (Found E o o2 B B2 stands stands_there
               (SameList B B2)
               (all_lines the_next) start)) is
-              ((lines (fine E o o2 B B2 stands stands_there) the_next the_next refl).go start
+              ((all_lines_same (fine E o o2 B B2 stands stands_there) the_next the_next refl).go start
               (omega (arith, from, still)))
               at_limit
 
@@ -399,28 +400,28 @@ module _ (room : ℕ) (all : Everywhere (level room)) where
           (no_form_goes_back (next_token Command) Whole g s).told
 
 -- by how many more may be opened
-pub everywhere : (room : ℕ) → Everywhere (level room)
+pub level_anywhere : (room : ℕ) → InnerAnywhere (level room)
 unfolding level
-everywhere zero = record {
+level_anywhere zero = record {
   local = λ edition T U a L to K o o2 B B2 stands stands_there ender no_open.
       record { construct = λ mode closed b b2 ss s from. tt; substitution = λ b b2 ss s from. tt };
   compound = λ edition T U a M to limit E o o2 B B2 stands stands_there c. go_stopped E o o2 B B2 stands stands_there;
   function = λ edition T U a M to limit E o o2 B B2 stands stands_there name new same. go_stop E o o2 B B2 stands
       stands_there;
 }
-everywhere (suc room) =
+level_anywhere (suc room) =
     record {
       local = λ edition T U a L to K o o2 B B2 stands stands_there ender no_open.
           record {
             construct = λ mode closed b b2 ss s from.
                 construct_in K o o2 B B2 ender no_open (level room)
-                ((everywhere room).local edition T U a L to K o o2 B B2 stands stands_there ender no_open) mode
+                ((level_anywhere room).local edition T U a L to K o o2 B B2 stands stands_there ender no_open) mode
                 closed b b2 ss s from;
             substitution = λ b b2 ss s from. substitution_there room
-                (everywhere room) K o o2 B B2 stands stands_there b b2 ss s from;
+                (level_anywhere room) K o o2 B B2 stands stands_there b b2 ss s from;
           };
       compound = λ edition T U a M to limit E o o2 B B2 stands stands_there c.
-          compound_same (fine room (everywhere room) E o o2 B B2 stands stands_there) c;
+          compound_same (fine room (level_anywhere room) E o o2 B B2 stands stands_there) c;
       function = λ edition T U a M to limit E o o2 B B2 stands stands_there name new same.
-          function_same (fine room (everywhere room) E o o2 B B2 stands stands_there) name new same;
+          function_same (fine room (level_anywhere room) E o o2 B B2 stands stands_there) name new same;
     }
