@@ -71,8 +71,8 @@ get_drop (b ∷ B) (suc at) = get_drop B at
 
 module _ (B : List ℕ) (at «end» b : ℕ) (here : slice_get B at ≡ Some b) (before : at < «end») where
   -- a stretch by its first byte
-  pub taken : take («end» - at) (drop at B) ≡ b ∷ take («end» - (at + 1)) (drop (at + 1) B)
-  taken =
+  pub first_taken : take («end» - at) (drop at B) ≡ b ∷ take («end» - (at + 1)) (drop (at + 1) B)
+  first_taken =
       let n : «end» - at ≡ suc («end» - (at + 1)) = omega (arith, before) in
       rw (n, drop_here B at b here) refl
 
@@ -80,7 +80,7 @@ module _ (B : List ℕ) (at «end» b : ℕ) (here : slice_get B at ≡ Some b) 
   pub bare_more : (b ≡ backslash → slice_get B (at + 1) ≡ Some newline_char → at + 1 < «end» → ⊥) →
       bare (take («end» - at) (drop at B)) ≡ b ∷ bare (take («end» - (at + 1)) (drop (at + 1) B))
   bare_more unjoined =
-      ap bare taken ∙ bare_first b («end» - (at + 1)) (drop (at + 1) B)
+      ap bare first_taken ∙ bare_first b («end» - (at + 1)) (drop (at + 1) B)
       (λ e f lt. unjoined e (sym (get_drop B (at + 1)) ∙ f) (omega (arith, lt)))
 
 -- a continuation begins here
@@ -89,19 +89,20 @@ pub bare_joined : (B : List ℕ) (at «end» : ℕ) → slice_get B at ≡ Some 
     → bare (take («end» - at) (drop at B)) ≡ bare (take («end» - (at + 2)) (drop (at + 2) B))
 bare_joined B at «end» one two lt =
     let both : at + 1 + 1 ≡ at + 2 = omega arith in
-    ap bare (taken B at «end» backslash one (omega (arith, lt))
-    ∙ ap (λ X. backslash ∷ X) (taken B (at + 1) «end» newline_char two lt))
+    ap bare (first_taken B at «end» backslash one (omega (arith, lt))
+    ∙ ap (λ X. backslash ∷ X) (first_taken B (at + 1) «end» newline_char two lt))
     ∙ bare_pair _ ∙ rw both refl
 
 -- ---- a word after `<<`
 
 module _ (B : List ℕ) (s : Span) (some : s.start < s.«end») where
-  -- by the byte that stands there, or none
-  strip_by : (o : Option ℕ) → slice_get B s.start ≡ o →
+  -- a word lengthens `<<` where the byte that stands first in it, or none, is `-`
+  here_lengthened_by_first : (o : Option ℕ) → slice_get B s.start ≡ o →
       would_lengthen redirects.Here (text_at B s) ≡ option_eq ◌==◌ o (Some hyphen)
-  strip_by None e = rw (drop_none B s.start e, none_taken (s.«end» - s.start)) refl
-  strip_by (Some b) e = rw (taken B s.start s.«end» b e some) refl
+  here_lengthened_by_first None e = rw (drop_none B s.start e, none_taken (s.«end» - s.start)) refl
+  here_lengthened_by_first (Some b) e = rw (first_taken B s.start s.«end» b e some) refl
 
-  -- it is looked at by its first byte
-  pub strip_is : would_lengthen redirects.Here (text_at B s) ≡ option_eq ◌==◌ (slice_get B s.start) (Some hyphen)
-  strip_is = strip_by (slice_get B s.start) refl
+  -- so it is told by the byte where the word starts
+  pub here_lengthened_by_hyphen : would_lengthen redirects.Here (text_at B s)
+      ≡ option_eq ◌==◌ (slice_get B s.start) (Some hyphen)
+  here_lengthened_by_hyphen = here_lengthened_by_first (slice_get B s.start) refl

@@ -15,7 +15,7 @@ use Rattle.shgrammar.specs.HereDocuments.{ADelimiter, bodies_from, body_by, deli
 use Rattle.shgrammar.specs.Commands.{document}
 use Rattle.shgrammar.specs.Form.{raw}
 use Rattle.shgrammar.proofs.BodiesAnywhere.{DocumentAnywhere, document_anywhere}
-use Rattle.shgrammar.proofs.Delimiters.{between}
+use Rattle.shgrammar.proofs.Delimiters.{delimiter_between}
 
 -- a here-document whose operator stands at b
 pub record Due : Type 0 where
@@ -106,7 +106,7 @@ module _ (g : Given) where
 
   -- where a body is found, the text does not end before it
   inside : (w : Waiting) (p q : ℕ) → delimiter_from g.text w p ≡ Some q → p ≤ length g.text
-  inside w p q found = let r = between g.text w false p q found in omega (arith, r.0, r.1)
+  inside w p q found = let r = delimiter_between g.text w false p q found in omega (arith, r.0, r.1)
 
   -- the bodies that a newline token reads are those of the documents that wait
   bodies_good : (done due : Row Due) (bs cs : Row Span) (p q : ℕ) → Feeds done bs [] →

@@ -13,9 +13,9 @@ use Rattle.shgrammar.specs.Commands.{begins_word, after_redirect, after_word, is
 use Rattle.shgrammar.specs.HereDocuments.{ADelimiter, delimiter_in}
 use Rattle.shgrammar.proofs.BodiesAnywhere.{DocumentAnywhere}
 use Rattle.shgrammar.specs.Compounds.{begins_pattern}
-use Rattle.shgrammar.proofs.Elsewhere.{ItemAnywhere, NameAnywhere, is_a_word}
+use Rattle.shgrammar.proofs.ItemsAnywhere.{ItemAnywhere, NameAnywhere, is_a_word}
 use Rattle.shgrammar.proofs.NamesBefore.{NameBefore}
-use Rattle.shgrammar.proofs.CommentsElsewhere.{CommentAnywhere}
+use Rattle.shgrammar.proofs.CommentsAnywhere.{CommentAnywhere}
 use Rattle.shast.specs.declared.tree.RedirectOperator.{RedirectOperator}
 use Rattle.shast.specs.Shape.{Text, Shape}
 use Rattle.shast.specs.Tree.{AHereOf, ForWordsOf, no_in, in_words, AWordOf, EntriesOf, no_entry, more_entries, AnEntryOf, entry, AContentOf, command, remark, AnAndOrOf, and_or, AndOrPartsOf, no_and_or, more_and_or, APipelineOf, pipeline, PipelinePartsOf, no_pipe, more_pipes, ACommandOf, simple, compound, function, ACompoundOf, formed, AFormOf, brace, subshell, if_then, while_do, until_do, for_in, case_in, ABranchOf, branch, BranchesOf, no_branch, more_branches, OtherwiseOf, no_else, otherwise, ItemsOf, no_item, more_items, AnItemOf, item, AnItemContentOf, assign, argument, redirect, word, SubstsOf, CaseItemsOf, no_case, more_cases, ACaseItemOf, case_item, PatternsOf, no_pattern, more_patterns}

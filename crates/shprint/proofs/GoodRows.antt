@@ -8,7 +8,7 @@ use Rattle.shast.specs.declared.tree.Span.{Span}
 use Rattle.shast.specs.Tree.{APipelinePart, AnAndOrPart, ABranch, pipeline_parts_of, and_or_parts_of, branches_of, AnEntry, AnItem, AWord, entries_of, items_of, ItemsOf, no_item, more_items, AnItemOf, ACaseItem, cases_of, patterns_of}
 use Rattle.shast.specs.Shape.{Shape, text_at, shape_of, shape_of_comments, shape_of_and_or_parts, shape_of_pipeline, shape_of_pipes, shape_of_command, shape_of_branch, shape_of_branches, shape_of_items, shape_of_item, shape_of_word, shape_of_patterns, shape_of_cases, shape_of_case}
 use Rattle.shgrammar.specs.Commands.{begins_word}
-use Rattle.shgrammar.proofs.CommentsElsewhere.{CommentAnywhere}
+use Rattle.shgrammar.proofs.CommentsAnywhere.{CommentAnywhere}
 use Rattle.shprint.proofs.Good.{GoodComments, Kind, GoodItem, GoodItems, none_more, one_more, GoodEntries, GoodParts, GoodPipeline, GoodPipes, GoodCommand, GoodBranch, GoodBranches, GoodWord, GoodMorePatterns, GoodPatterns, GoodCases, GoodCase}
 
 -- one more item

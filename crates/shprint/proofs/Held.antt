@@ -11,11 +11,11 @@ use Rattle.shgrammar.specs.States.{Given, given, State, Waiting}
 use Rattle.shgrammar.specs.HereDocuments.{ADelimiter, body_by, bodies_from, bodies_here, delimiter_from, past_line, state_by, waits}
 use Rattle.shgrammar.specs.Commands.{document as waiting_document}
 use Rattle.shgrammar.specs.Form.{change, changes}
-use Rattle.shgrammar.proofs.Elsewhere.{follows}
+use Rattle.shgrammar.proofs.ItemsAnywhere.{follows}
 use Rattle.shgrammar.proofs.BodiesAnywhere.{DocumentAnywhere}
 use Rattle.shprint.specs.Marks.{Marks, line_end, laid_after}
 use Rattle.shprint.proofs.Gives.{Gives, gives}
-use Rattle.shprint.proofs.Tokens.{skip, text_here}
+use Rattle.shprint.proofs.Tokens.{past_text_stands, text_here}
 
 -- ---- documents that wait
 
@@ -156,7 +156,8 @@ module _ {edition : Edition} {B T : List ℕ} {o : ℕ} (S : StandsIn edition B 
       let found : delimiter_from T (as_waiting x) p ≡ Some q = x.good.ends_there T x.b p rest within parts in
       let past : past_line T q ≡ f = x.good.past_it T p rest within parts ∙ ap (λ n. p + n) (sym size) in
       let others = all_bodies xs (bodies ++ s ∷ []) f zs
-      (within_by p (length (bytes_of x)) (bytes_of x) rest within whole refl) (skip T p (bytes_of x) rest whole) in
+      (within_by p (length (bytes_of x)) (bytes_of x) rest within whole refl)
+      (past_text_stands T p (bytes_of x) rest whole) in
       let last : f + length (held_bytes xs) ≡ p + length (bytes_of x ++ held_bytes xs) = let n =
       length-append (bytes_of x) (held_bytes xs) in omega (arith, n) in
       record {
@@ -186,7 +187,7 @@ module _ {edition : Edition} {B T : List ℕ} {o : ℕ} (S : StandsIn edition B 
       let zs = laid_after [] ms in
       let whole : drop p T ≡ (newline_char ∷ held_bytes h.waiting) ++ zs = at in
       let at_after : drop (p + 1) T ≡ held_bytes h.waiting ++ zs =
-      skip T p (newline_char ∷ []) (held_bytes h.waiting ++ zs) at in
+      past_text_stands T p (newline_char ∷ []) (held_bytes h.waiting ++ zs) at in
       let size : length (drop p T) ≡ suc (length (held_bytes h.waiting ++ zs)) = ap length at in
       let within : p + 1 ≤ length T = omega (arith, size, length-drop p T) in
       let r = all_bodies h.waiting h.bodies (p + 1) zs within at_after in
@@ -198,7 +199,7 @@ module _ {edition : Edition} {B T : List ℕ} {o : ℕ} (S : StandsIn edition B 
         on = omega arith;
         within = within_by (p + 1) (length (held_bytes h.waiting)) (held_bytes h.waiting) zs within at_after refl;
         reads = gives _ (changes (ap state_by r.reads));
-        at = skip T (p + 1) (held_bytes h.waiting) zs at_after;
+        at = past_text_stands T (p + 1) (held_bytes h.waiting) zs at_after;
         none = refl;
         texts = append-nil (map (text_at B) (h.bodies ++ r.spans)) ∙ map-append (text_at B) h.bodies r.spans
             ∙ ap (λ r. map (text_at B) h.bodies ++ r) r.texts;

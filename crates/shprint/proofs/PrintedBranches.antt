@@ -27,8 +27,8 @@ use Rattle.shprint.proofs.Tokens.{Start, all_blank}
 use Rattle.shprint.proofs.Gives.{Gives, gives_on, ◌⟫◌, given_here, pushed_here, first_of, second_of, last_turn, one_turn}
 use Rattle.shprint.proofs.Held.{At, Held, StandsIn, g, lay, state}
 use Rattle.shprint.proofs.Good.{GoodForm, GoodElse, GoodBranches, GoodBranch}
-use Rattle.shprint.proofs.PrintedText.{laid_text, deeper_blank, Adds, at_text, leads, asked, some_word, margin_gap}
-use Rattle.shprint.proofs.PrintedCommands.{Fine}
+use Rattle.shprint.proofs.PrintedText.{laid_text, deeper_blank, AddsBodies, at_text, leads, edition_next, some_word, margin_gap}
+use Rattle.shprint.proofs.PrintedCommands.{CompoundsRead}
 use Rattle.shprint.proofs.PrintedLists.{Closes, block_read}
 use Rattle.shprint.proofs.PrintedReserved.{elif_key, else_key, Ends, line_end_end, Key, ReservedRead, reserved_read, reserved_f, reserved_closes, then_key, do_key, done_key, fi_key, Finished, closing_read}
 use Rattle.shprint.proofs.PrintedGroups.{block_marks, between_is, condition_end, condition_read, body_read}
@@ -67,7 +67,7 @@ module _ (y : Layout) where
       (print_branches y m bs ++ ms)
 
 module _ {edition : Edition} {B T : List ℕ} {o : ℕ} {S : StandsIn edition B T o} {room : ℕ} {y : Layout}
-    (fine : Fine S room y) where
+    (fine : CompoundsRead S room y) where
   -- ---- the word after a list
 
   -- the word with which some marks begin
@@ -138,11 +138,11 @@ module _ {edition : Edition} {B T : List ℕ} {o : ℕ} {S : StandsIn edition B 
     e : ℕ
     later : Held
     at : At S later e ms
-    reads : Gives (g S) (a_branch (level room) (asked S Command f)) (state h (past_blanks T f))
-        (value, asked S Command e)
+    reads : Gives (g S) (a_branch (level room) (edition_next S Command f)) (state h (past_blanks T f))
+        (value, edition_next S Command e)
         (state later (past_blanks T e))
     shape : shape_of_branch B value ≡ open_branch [] b
-    texts : Adds S h later (branch_bodies b)
+    texts : AddsBodies S h later (branch_bodies b)
 
   -- the shape of a branch by those of its lists
   branch_shape : (c b : Entries) (condition body : Shape EntriesOf) → shape_of B c ≡ opened [] condition →
@@ -182,7 +182,7 @@ module _ {edition : Edition} {B T : List ℕ} {o : ℕ} {S : StandsIn edition B 
   pub loop_read : (h : Held) (m : Text) (condition body : Shape EntriesOf) (f : ℕ) (rest : Marks) → all_blank m ≡ true
       → GoodBranch edition room (branch condition body) → is_normal_branch (branch condition body) ≡ true
       → Ends rest → At S h f (branch_marks y m (codes "do") condition body (text (codes "done") ∷ rest))
-      → Finished S h ABranch (a_loop (level room) (asked S Command f)) (past_blanks T f) rest
+      → Finished S h ABranch (a_loop (level room) (edition_next S Command f)) (past_blanks T f) rest
       (branch_bodies (branch condition body))
       (λ v. shape_of_branch B v ≡ open_branch [] (branch condition body))
   unfolding a_loop branch_bodies
@@ -215,11 +215,11 @@ module _ {edition : Edition} {B T : List ℕ} {o : ℕ} {S : StandsIn edition B 
     f : ℕ
     later : Held
     key : ReservedRead S later f reserved.Fi rest
-    reads : Gives (g S) (an_else (level room) (asked S Command e)) (state h (past_blanks T e))
-        (value, asked S Command f)
+    reads : Gives (g S) (an_else (level room) (edition_next S Command e)) (state h (past_blanks T e))
+        (value, edition_next S Command f)
         (state later (past_blanks T f))
     shape : shape_of_else B value ≡ open_else [] other
-    texts : Adds S h later (else_bodies other)
+    texts : AddsBodies S h later (else_bodies other)
 
   -- an `else` with its list, or none
   else_read : (h : Held) (m : Text) (other : Shape OtherwiseOf) (e : ℕ) (rest : Marks) → all_blank m ≡ true →
@@ -264,11 +264,11 @@ module _ {edition : Edition} {B T : List ℕ} {o : ℕ} {S : StandsIn edition B 
     f : ℕ
     later : Held
     at : At S later f ms
-    reads : Gives (g S) (many (elif_turn (level room)) (branches_so_far acc (asked S Command e)))
+    reads : Gives (g S) (many (elif_turn (level room)) (branches_so_far acc (edition_next S Command e)))
         (state h (past_blanks T e))
-        (branches_so_far (acc ++ value) (asked S Command f)) (state later (past_blanks T f))
+        (branches_so_far (acc ++ value) (edition_next S Command f)) (state later (past_blanks T f))
     shape : shape_of_branches B (branches_of value) ≡ open_branches [] bs
-    texts : Adds S h later (branches_bodies bs)
+    texts : AddsBodies S h later (branches_bodies bs)
 
   -- one branch before others
   branches_turned : (h k later : Held) (acc : Row ABranch) (n : Next) (p : ℕ) (v : ABranch) (next : Next) (r : ℕ)
@@ -310,6 +310,50 @@ module _ {edition : Edition} {B T : List ℕ} {o : ℕ} {S : StandsIn edition B 
       let low = some_word S (e + length m) w (lay h ms) some (at_after ∙ laid_text h w ms) in
       let is = gap.blanks in omega (arith, low, is)
 
+  -- what is read of one `elif` with its branch, and that the turn of it leads on
+  record ElifRead (h : Held) (acc : Row ABranch) (e : ℕ) (b : Shape ABranchOf) (ms : Marks) : Type 0 where
+    value : ABranch
+    f : ℕ
+    later : Held
+    at : At S later f ms
+    reads : Gives (g S) (elif_turn (level room) (branches_so_far acc (edition_next S Command e)))
+        (state h (past_blanks T e))
+        (again (branches_so_far (acc ++ value ∷ []) (edition_next S Command f))) (state later (past_blanks T f))
+    on : leads_on (g S) (state h (past_blanks T e)) (state later (past_blanks T f)) ≡ true
+    shape : shape_of_branch B value ≡ open_branch [] b
+    texts : AddsBodies S h later (branch_bodies b)
+
+  -- an `elif` is read with its branch, up to the margin before the word after it
+  elif_read : (h : Held) (m : Text) (condition body : Shape EntriesOf) (acc : Row ABranch) (e : ℕ) (ms : Marks) →
+      all_blank m ≡ true → GoodBranch edition room (branch condition body) →
+      is_normal_branch (branch condition body) ≡ true → FirstWord ms →
+      At S h e (text m ∷ text (codes "elif") ∷ branch_marks y m (codes "then") condition body ms)
+      → ElifRead h acc e (branch condition body) (text m ∷ ms)
+  unfolding elif_turn
+  elif_read h m condition body acc e ms blank good normal next_word at =
+      let Y = text (codes "then") ∷ block_marks y m body ms in
+      let X = print_condition y m condition ++ Y in
+      let key = elif_key S X (condition_end y m condition Y) in
+      let k = reserved_read S h m (codes "elif") reserved.Elif e X blank key at in
+      let k_f = reserved_f S h m (codes "elif") reserved.Elif e X blank key at in
+      let b = branch_read h m condition body k.f ms blank good normal next_word k.at in
+      let low = gives_on (a_branch (level room) (edition_next S Command k.f)) _ _ _ b.reads in
+      let start = (key h (e + length m)
+      (at_text S h e m (text (codes "elif") ∷ X) at ∙ laid_text h (codes "elif") X)).start in
+      let within = reserved_within h m (codes "elif") e X (omega arith) blank start at in
+      record {
+        value = b.value;
+        f = b.e;
+        later = b.later;
+        at = b.at;
+        reads = first_of _ _ (ap (is_closing closings.Elif) k.token_is)
+            (k.reads (closing_text closings.Elif) Command ⟫ b.reads ⟫ pushed_here acc b.value ⟫ given_here);
+        on = leads S h b.later (past_blanks T e) (past_blanks T b.e)
+            (omega (arith, low, k_f, blanks_low T k.f)) within;
+        shape = b.shape;
+        texts = b.texts;
+      }
+
   -- all `elif` branches are read, up to the margin before `else` or `fi`
   branches_read : (h : Held) (m : Text) (bs : Shape BranchesOf) (other : Shape OtherwiseOf) (acc : Row ABranch)
       (e : ℕ) (rest : Marks) → all_blank m ≡ true → GoodBranches edition room bs → are_normal_branches bs ≡ true
@@ -332,32 +376,20 @@ module _ {edition : Edition} {B T : List ℕ} {o : ℕ} {S : StandsIn edition B 
         texts = λ ts. refl;
       }
   branches_read h m (more_branches (branch condition body) bs) other acc e rest blank good normal stop at =
-      let Z = if_rest y m bs other rest in
-      let Y = text (codes "then") ∷ block_marks y m body Z in
-      let X = print_condition y m condition ++ Y in
       let parts = and_parts _ _ normal in
-      let there = at ∙ ap (λ ks. lay h (text m ∷ ks)) (elif_is y m condition body bs (else_rest y m other rest)) in
-      let key = elif_key S X (condition_end y m condition Y) in
-      let k = reserved_read S h m (codes "elif") reserved.Elif e X blank key there in
-      let k_f = reserved_f S h m (codes "elif") reserved.Elif e X blank key there in
-      let b = branch_read h m condition body k.f Z blank good.0 parts.0 (if_first m bs other rest stop) k.at in
-      let low = gives_on (a_branch (level room) (asked S Command k.f)) _ _ _ b.reads in
-      let start = (key h (e + length m)
-      (at_text S h e m (text (codes "elif") ∷ X) there ∙ laid_text h (codes "elif") X)).start in
-      let within = reserved_within h m (codes "elif") e X (omega arith) blank start there in
+      let b = elif_read h m condition body acc e (if_rest y m bs other rest) blank good.0 parts.0
+      (if_first m bs other rest stop)
+      (at ∙ ap (λ ks. lay h (text m ∷ ks)) (elif_is y m condition body bs (else_rest y m other rest))) in
       let others = branches_read b.later m bs other
-      (acc ++ b.value ∷ []) b.e rest blank good.1 parts.1 stop b.at in
+      (acc ++ b.value ∷ []) b.f rest blank good.1 parts.1 stop b.at in
       record {
         value = b.value ∷ others.value;
         f = others.f;
         later = others.later;
         at = others.at;
-        reads = branches_turned h b.later others.later acc (asked S Command e) (past_blanks T e) b.value
-            (asked S Command b.e) (past_blanks T b.e) others.value (asked S Command others.f) (past_blanks T others.f)
-            (first_of _ _ (ap (is_closing closings.Elif) k.token_is)
-            (k.reads (closing_text closings.Elif) Command ⟫ b.reads ⟫ pushed_here acc b.value ⟫ given_here))
-            (leads S h b.later (past_blanks T e) (past_blanks T b.e)
-            (omega (arith, low, k_f, blanks_low T k.f)) within) others.reads;
+        reads = branches_turned h b.later others.later acc (edition_next S Command e) (past_blanks T e) b.value
+            (edition_next S Command b.f) (past_blanks T b.f) others.value (edition_next S Command others.f)
+            (past_blanks T others.f) b.reads b.on others.reads;
         shape = branches_shape b.value others.value (branch condition body) bs b.shape others.shape;
         texts = λ ts. others.texts ts ∙ b.texts (branches_bodies bs ts);
       }
@@ -378,7 +410,7 @@ module _ {edition : Edition} {B T : List ℕ} {o : ℕ} {S : StandsIn edition B 
       → GoodForm edition room (if_then (branch condition body) bs other) →
       is_normal_form (if_then (branch condition body) bs other) ≡ true → Ends rest
       → At S h f (branch_marks y m (codes "then") condition body (if_rest y m bs other rest))
-      → Finished S h AForm (an_if (level room) (asked S Command f)) (past_blanks T f) rest
+      → Finished S h AForm (an_if (level room) (edition_next S Command f)) (past_blanks T f) rest
       (form_bodies (if_then (branch condition body) bs other))
       (λ v. shape_of_form B v ≡ open_form [] (if_then (branch condition body) bs other))
   unfolding an_if form_bodies

@@ -17,7 +17,7 @@ use Rattle.shgrammar.specs.Comments.{span}
 use Rattle.shgrammar.specs.Standing.{raw_stands}
 use Rattle.shgrammar.specs.Tokens.{is_comment, is_later, token_in}
 use Rattle.shgrammar.specs.Sights.{here as the_place, one_byte}
-use Rattle.shgrammar.specs.Form.{◌>>◌, by, move, again, many}
+use Rattle.shgrammar.specs.Form.{◌>>◌, by, move, again, leads_on, many}
 use Rattle.shgrammar.specs.Words.{a_word}
 use Rattle.shgrammar.specs.Levels.{level}
 use Rattle.shast.specs.Normal.{is_normal_form, holds_command, first_not_blank, are_normal, are_normal_cases, is_normal_case, are_normal_patterns}
@@ -32,12 +32,12 @@ use Rattle.shast.specs.Tree.{AWordOf, AWord, EntriesOf, no_entry, more_entries, 
 use Rattle.shprint.specs.declared.layout.Layout.{Layout}
 use Rattle.shprint.specs.Marks.{text, line_end, Marks, laid_after, deeper}
 use Rattle.shprint.specs.Printed.{print_word, print_entries, print_cases, print_patterns, print_first_pattern, ender, print_body, print_comment_lines, case_margin}
-use Rattle.shprint.proofs.Tokens.{close_token, first, byte_here, start_here, all_blank, no_gap, next_one, double_semicolon_token, falls_token, falls_stays, esac_here}
+use Rattle.shprint.proofs.Tokens.{close_token, byte_here, start_here, all_blank, no_gap, next_one, double_semicolon_token, falls_token, falls_stays, esac_here}
 use Rattle.shprint.proofs.Gives.{Gives, gives_on, told_here, ◌⟫◌, given_here, seen_here, pushed_here, first_of, second_of, last_turn, one_turn}
 use Rattle.shprint.proofs.Held.{At, Followed, Held, StandsIn, g, held_bytes, lay, state}
 use Rattle.shprint.proofs.Good.{GoodForm, GoodEntries, GoodComments, GoodWord, GoodMorePatterns, GoodCases}
-use Rattle.shprint.proofs.PrintedText.{laid_text, Alike, laid_same, deeper_blank, Parted, no_more, Adds, at_text, some_here, leads, told, asked, asked_after, tell, tell_word, next_read, some_word, byte_moved, byte_after, no_byte, comment_shape, comment_start, margin_gap, Operand, last_join_turn, comment_join_turn, newline_join_turn, cons_shape, joined, space_then, pipe_follower, no_sharp, printed_word, one_moved}
-use Rattle.shprint.proofs.PrintedCommands.{Fine}
+use Rattle.shprint.proofs.PrintedText.{laid_text, Alike, laid_same, deeper_blank, Parted, no_more, AddsBodies, at_text, some_here, leads, edition_token, edition_next, edition_next_after, edition_same, edition_word, next_read, some_word, byte_moved, byte_after, no_byte, comment_shape, comment_start, margin_gap, Operand, last_join_turn, comment_join_turn, newline_join_turn, cons_shape, comments_joined, space_then, pipe_follower, no_sharp, printed_word, one_moved}
+use Rattle.shprint.proofs.PrintedCommands.{CompoundsRead}
 use Rattle.shprint.proofs.PrintedLists.{at_line_start, line_end_here, Closes, empty_line, list_ends, list_read}
 use Rattle.shprint.proofs.PrintedReserved.{Ends, line_end_end, Key, ReservedRead, paren_alone, reserved_read, key_by, in_key, Finished, no_lines, closing_read}
 
@@ -184,7 +184,7 @@ module _ (y : Layout) where
   case_follows m items tail rest held = refl
 
 module _ {edition : Edition} {B T : List ℕ} {o : ℕ} {S : StandsIn edition B T o} {room : ℕ} {y : Layout}
-    (fine : Fine S room y) where
+    (fine : CompoundsRead S room y) where
   -- ---- `case`
 
   -- `esac` as it is printed
@@ -199,8 +199,8 @@ module _ {edition : Edition} {B T : List ℕ} {o : ℕ} {S : StandsIn edition B 
       let k = key h p (at ∙ laid_text h w ms) in
       record {
         start = k.start;
-        no_comment = no_sharp S p k.start.place (ap is_comment (tell S k.token));
-        no_newline = ap is_newline_token (tell S k.token);
+        no_comment = no_sharp S p k.start.place (ap is_comment (edition_same S k.token));
+        no_newline = ap is_newline_token (edition_same S k.token);
       }
 
   -- a word after a margin
@@ -209,7 +209,7 @@ module _ {edition : Edition} {B T : List ℕ} {o : ℕ} {S : StandsIn edition B 
     value : AWord
     e : ℕ
     at : At S h e ms
-    begin : begins (told S position (past_blanks T f)) ≡ true
+    begin : begins (edition_token S position (past_blanks T f)) ≡ true
     reads : Gives (g S) (a_word (level room)) (state h (past_blanks T f)) value (state h e)
     on : past_blanks T f < e
     within : past_blanks T f < length T
@@ -238,7 +238,7 @@ module _ {edition : Edition} {B T : List ℕ} {o : ℕ} {S : StandsIn edition B 
         value = v.0;
         e = e;
         at = at_text S h q t ms at_q;
-        begin = ap begins (tell_word S good.word_is again_there.token_is) ∙ good.begin;
+        begin = ap begins (edition_word S good.word_is again_there.token_is) ∙ good.begin;
         reads = printed_word S room h t good.ss q v;
         on = omega (arith, some);
         within = some_word S q t (lay h ms) some there_q;
@@ -249,11 +249,11 @@ module _ {edition : Edition} {B T : List ℕ} {o : ℕ} {S : StandsIn edition B 
 
   -- a `)` stands here
   bracket_next : (h : Held) (position : Position) (e : ℕ) (ms : Marks) → At S h e (text (codes ")") ∷ ms) →
-      (asked S position e ≡ record { token = tokens.CloseParen; broken = false }) × (past_blanks T e ≡ e)
+      (edition_next S position e ≡ record { token = tokens.CloseParen; broken = false }) × (past_blanks T e ≡ e)
   bracket_next h position e ms at =
       let there = at ∙ laid_text h (codes ")") ms in
       let gap = no_gap (start_here (byte_here T e right_parenthesis (lay h ms) refl there) refl) in (
-        asked_after S position gap ∙ ap (λ t. record { token = token_in edition t; broken = false })
+        edition_next_after S position gap ∙ ap (λ t. record { token = token_in edition t; broken = false })
             (close_token position T e (lay h ms) there),
         gap.blanks,
       )
@@ -263,9 +263,9 @@ module _ {edition : Edition} {B T : List ℕ} {o : ℕ} {S : StandsIn edition B 
     value : Row AWord
     e : ℕ
     at : At S h e (text (codes ")") ∷ ms)
-    reads : Gives (g S) (many (pattern_turn (level room)) (patterns_so_far acc (asked S Suffix f)))
+    reads : Gives (g S) (many (pattern_turn (level room)) (patterns_so_far acc (edition_next S Suffix f)))
         (state h (past_blanks T f))
-        (patterns_so_far (acc ++ value) (asked S Suffix e)) (state h (past_blanks T e))
+        (patterns_so_far (acc ++ value) (edition_next S Suffix e)) (state h (past_blanks T e))
     shape : shape_of_patterns B (patterns_of value) ≡ ws
 
   -- the shape of patterns by that of the first and those of the others
@@ -274,21 +274,25 @@ module _ {edition : Edition} {B T : List ℕ} {o : ℕ} {S : StandsIn edition B 
       → shape_of_patterns B (patterns_of (v ∷ vs)) ≡ more_patterns w ws
   patterns_shape v vs w ws e f = rw (e, f) refl
 
-  -- all further patterns are read
-  patterns_read : (h : Held) (ws : Shape PatternsOf) (acc : Row AWord) (f : ℕ) (ms : Marks) →
-      GoodMorePatterns edition room ws → At S h f (more_marks ws ms) → PatternsRead h acc f ws ms
+  -- what is read of one further pattern with the `|` before it, and that its turn leads on
+  record OnePatternRead (h : Held) (acc : Row AWord) (f : ℕ) (w : Shape AWordOf) (ms : Marks) : Type 0 where
+    value : AWord
+    e : ℕ
+    at : At S h e ms
+    reads : Gives (g S) (pattern_turn (level room) (patterns_so_far acc (edition_next S Suffix f)))
+        (state h (past_blanks T f))
+        (again (patterns_so_far (acc ++ value ∷ []) (edition_next S Suffix e))) (state h (past_blanks T e))
+    on : leads_on (g S) (state h (past_blanks T f)) (state h (past_blanks T e)) ≡ true
+    shape : shape_of_word B value ≡ w
+
+  -- one further pattern is read after its `|`
+  one_pattern_read : (h : Held) (w : Shape AWordOf) (acc : Row AWord) (f : ℕ) (ms : Marks) →
+      GoodWord edition room Suffix begins_word w → Followed ms →
+      At S h f (text (codes " ") ∷ text (codes "|") ∷ text (codes " ") ∷ (print_word w ++ ms))
+      → OnePatternRead h acc f w ms
   unfolding pattern_turn one_pattern a_pattern
-  patterns_read h no_pattern acc f ms good at = record {
-    value = [];
-    e = f;
-    at = at;
-    reads = rw (append-nil acc)
-        (last_turn (pattern_turn (level room))
-        (second_of _ _ (ap (λ (n : Next). is_pipe n.token) (bracket_next h Suffix f ms at).0) given_here));
-    shape = refl;
-  }
-  patterns_read h (more_patterns w ws) acc f ms good at =
-      let Y = print_word w ++ more_marks ws ms in
+  one_pattern_read h w acc f ms good follow at =
+      let Y = print_word w ++ ms in
       let X = text (codes " ") ∷ Y in
       let parted : (h : Held) → Parted (lay h X) =
       λ h. record {
@@ -306,27 +310,93 @@ module _ {edition : Edition} {B T : List ℕ} {o : ℕ} {S : StandsIn edition B 
       (at_text S h f (codes " ") (text (codes "|") ∷ X) at) in
       let there_q = at_q ∙ laid_text h (codes "|") X in
       let the_bar = byte_here T q vertical_line (lay h X) refl there_q in
-      let moved = one_moved S h q the_bar.place_after in
-      let v = word_at h Suffix begins_word (codes " ") w (q + 1) (more_marks ws ms) refl good.0
-      (more_follows ws ms) the_bar.rest in
-      let others = patterns_read h ws (acc ++ v.value ∷ []) v.e ms good.1 v.at in
-      let n = asked S Suffix f in
-      let turned : Gives (g S) (pattern_turn (level room) (patterns_so_far acc n)) (state h q)
-      (again (patterns_so_far (acc ++ v.value ∷ []) (asked S Suffix v.e))) (state h (past_blanks T v.e)) =
-      first_of _ _ (ap (λ (n : Next). is_pipe n.token) n_is)
-      (told_here (by (codes "|")) moved ⟫ next_read S h Suffix (q + 1) ⟫ first_of _ _ v.begin
-      ((v.reads ⟫ pushed_here acc v.value ⟫ next_read S h Suffix v.e ⟫ given_here) ⟫ given_here)) in
-      let on = leads S h h q (past_blanks T v.e) (omega (arith, v.on, blanks_low T (q + 1), blanks_low T v.e))
-      (some_here S q vertical_line (lay h X) there_q) in
+      let v = word_at h Suffix begins_word (codes " ") w (q + 1) ms refl good follow the_bar.rest in
       record {
-        value = v.value ∷ others.value;
+        value = v.value;
+        e = v.e;
+        at = v.at;
+        reads = first_of _ _ (ap (λ (n : Next). is_pipe n.token) n_is)
+            (told_here (by (codes "|")) (one_moved S h q the_bar.place_after) ⟫ next_read S h Suffix (q + 1)
+            ⟫ first_of _ _ v.begin
+            ((v.reads ⟫ pushed_here acc v.value ⟫ next_read S h Suffix v.e ⟫ given_here) ⟫ given_here));
+        on = leads S h h q (past_blanks T v.e) (omega (arith, v.on, blanks_low T (q + 1), blanks_low T v.e))
+            (some_here S q vertical_line (lay h X) there_q);
+        shape = v.shape;
+      }
+
+  -- all further patterns are read
+  patterns_read : (h : Held) (ws : Shape PatternsOf) (acc : Row AWord) (f : ℕ) (ms : Marks) →
+      GoodMorePatterns edition room ws → At S h f (more_marks ws ms) → PatternsRead h acc f ws ms
+  unfolding pattern_turn
+  patterns_read h no_pattern acc f ms good at = record {
+    value = [];
+    e = f;
+    at = at;
+    reads = rw (append-nil acc)
+        (last_turn (pattern_turn (level room))
+        (second_of _ _ (ap (λ (n : Next). is_pipe n.token) (bracket_next h Suffix f ms at).0) given_here));
+    shape = refl;
+  }
+  patterns_read h (more_patterns w ws) acc f ms good at =
+      let first = one_pattern_read h w acc f (more_marks ws ms) good.0 (more_follows ws ms) at in
+      let others = patterns_read h ws (acc ++ first.value ∷ []) first.e ms good.1 first.at in
+      record {
+        value = first.value ∷ others.value;
         e = others.e;
         at = others.at;
-        reads = subst (λ all. Gives (g S) (many (pattern_turn (level room)) (patterns_so_far acc n)) (state h q)
-            (patterns_so_far all (asked S Suffix others.e)) (state h (past_blanks T others.e)))
-            (append_assoc acc (v.value ∷ []) others.value)
-            (one_turn (pattern_turn (level room)) turned on others.reads);
-        shape = patterns_shape v.value others.value w ws v.shape others.shape;
+        reads = subst (λ all. Gives (g S)
+            (many (pattern_turn (level room)) (patterns_so_far acc (edition_next S Suffix f)))
+            (state h (past_blanks T f))
+            (patterns_so_far all (edition_next S Suffix others.e)) (state h (past_blanks T others.e)))
+            (append_assoc acc (first.value ∷ []) others.value)
+            (one_turn (pattern_turn (level room)) first.reads first.on others.reads);
+        shape = patterns_shape first.value others.value w ws first.shape others.shape;
+      }
+
+  -- what is read of all patterns of an item, and of the `)` after them
+  record AllPatternsRead (h : Held) (e : ℕ) (ps : Shape PatternsOf) (ms : Marks) : Type 0 where
+    value : Row AWord
+    next : Next
+    z : ℕ
+    at : At S h (z + 1) ms
+    begin : FirstPattern (edition_token S Command (past_blanks T e))
+    reads : Gives (g S) (a_pattern_list (level room) (edition_next S Command e)) (state h (past_blanks T e))
+        (patterns_so_far value next) (state h z)
+    bracket : Gives (g S) (closing (level room) closings.Paren next) (state h z)
+        (span o z (z + 1), edition_next S Command (z + 1)) (state h (past_blanks T (z + 1)))
+    on : past_blanks T e < z
+    within : past_blanks T e < length T
+    shape : shape_of_patterns B (patterns_of value) ≡ ps
+
+  -- all patterns of an item are read after its margin, up to the `)` and with it
+  all_patterns_read : (h : Held) (m : Text) (w : Shape AWordOf) (ws : Shape PatternsOf) (e : ℕ) (ms : Marks) →
+      all_blank m ≡ true → GoodWord edition room Command begins_pattern w → GoodMorePatterns edition room ws →
+      At S h e (text m ∷ (print_word w ++ more_marks ws ms)) → AllPatternsRead h e (more_patterns w ws) ms
+  unfolding a_pattern_list a_pattern closing
+  all_patterns_read h m w ws e ms blank good others at =
+      let v = word_at h Command begins_pattern m w e (more_marks ws ms) blank good (more_follows ws ms) at in
+      let vs = patterns_read h ws (v.value ∷ []) v.e ms others v.at in
+      let paren_next = bracket_next h Suffix vs.e ms vs.at in
+      let z = past_blanks T vs.e in
+      let paren = byte_here T z right_parenthesis (lay h ms) refl
+      (subst (λ p. drop p T ≡ right_parenthesis ∷ lay h ms) (sym paren_next.1)
+      (vs.at ∙ laid_text h (codes ")") ms)) in
+      let low = gives_on
+      (many (pattern_turn (level room)) (patterns_so_far (v.value ∷ []) (edition_next S Suffix v.e))) _ _ _
+      vs.reads in
+      record {
+        value = v.value ∷ vs.value;
+        next = edition_next S Suffix vs.e;
+        z = z;
+        at = paren.rest;
+        begin = first_pattern (edition_token S Command (past_blanks T e)) v.begin;
+        reads = first_of _ _ v.begin
+            ((v.reads ⟫ pushed_here [] v.value ⟫ next_read S h Suffix v.e ⟫ given_here) ⟫ vs.reads);
+        bracket = first_of _ _ (ap (λ (n : Next). is_closing closings.Paren n.token) paren_next.0)
+            (paren_alone S h (closing_text closings.Paren) z paren.place_after);
+        on = omega (arith, v.on, blanks_low T v.e, low);
+        within = v.within;
+        shape = patterns_shape v.value vs.value w ws v.shape vs.shape;
       }
 
   -- a pattern ends the lines before it
@@ -335,7 +405,7 @@ module _ {edition : Edition} {B T : List ℕ} {o : ℕ} {S : StandsIn edition B 
   pattern_operand h w ms good follow p at =
       let there = at ∙ ap (λ w. lay h (print_word w ++ ms)) good.is ∙ laid_text h good.t ms in
       let found = good.reads.there (g S) p (lay h ms) there (follow (held_bytes h.waiting)) in
-      let other = first_pattern _ (ap begins_pattern (tell_word S good.word_is found.token_is) ∙ good.begin) in
+      let other = first_pattern _ (ap begins_pattern (edition_word S good.word_is found.token_is) ∙ good.begin) in
       record {
         start = record { place = found.place; no_blank = found.no_blank };
         no_comment = no_sharp S p found.place other.comment;
@@ -352,17 +422,16 @@ module _ {edition : Edition} {B T : List ℕ} {o : ℕ} {S : StandsIn edition B 
     later : Held
     at : At S later e (text m ∷ ms)
     reads : Gives (g S) (many join_turn (join_so_far (a_join_of b acc) n)) (state h p)
-        (join_so_far (a_join_of true (acc ++ comments)) (asked S Command e)) (state later (past_blanks T e))
+        (join_so_far (a_join_of true (acc ++ comments)) (edition_next S Command e)) (state later (past_blanks T e))
     shape : shape_of_comments B comments ≡ cs
-    texts : Adds S h later no_more
+    texts : AddsBodies S h later no_more
 
   module _ (d m : Text) (blank_d : all_blank d ≡ true) (blank_m : all_blank m ≡ true) (ms : Marks)
       (operand : (h : Held) (p : ℕ) → At S h p ms → Operand S p) where
-    -- the comments before an item are read, each on a line of its own
-    lines_read : (h : Held) (cs : Row Text) (acc : Row Span) (e : ℕ) → GoodComments cs →
-        At S h e (print_comment_lines d cs ++ (text m ∷ ms)) →
-        LinesRead h true acc (asked S Command e) (past_blanks T e) cs m ms
-    lines_read h [] acc e good at =
+    -- where no comment is left nothing more is read of the lines before what stands after them
+    no_comment_line : (h : Held) (acc : Row Span) (e : ℕ) → At S h e (text m ∷ ms) →
+        LinesRead h true acc (edition_next S Command e) (past_blanks T e) [] m ms
+    no_comment_line h acc e at =
         let at_after = at_text S h e m ms at in
         let gap = margin_gap S h m e ms blank_m at (operand h (e + length m) at_after).start in
         let q = past_blanks T e in
@@ -373,10 +442,17 @@ module _ {edition : Edition} {B T : List ℕ} {o : ℕ} {S : StandsIn edition B 
           later = h;
           at = at;
           reads = rw (append-nil acc)
-              (last_turn join_turn (last_join_turn S h true acc (asked S Command e) q it.no_comment it.no_newline));
+              (last_turn join_turn (last_join_turn S h true acc
+              (edition_next S Command e) q it.no_comment it.no_newline));
           shape = refl;
           texts = λ ts. refl;
         }
+
+    -- the comments before an item are read, each on a line of its own
+    lines_read : (h : Held) (cs : Row Text) (acc : Row Span) (e : ℕ) → GoodComments cs →
+        At S h e (print_comment_lines d cs ++ (text m ∷ ms)) →
+        LinesRead h true acc (edition_next S Command e) (past_blanks T e) cs m ms
+    lines_read h [] acc e good at = no_comment_line h acc e at
     lines_read h (c ∷ cs) acc e good at =
         let others_marks = print_comment_lines d cs ++ (text m ∷ ms) in
         let more = line_end ∷ others_marks in
@@ -386,15 +462,16 @@ module _ {edition : Edition} {B T : List ℕ} {o : ℕ} {S : StandsIn edition B 
         let q = past_blanks T e in
         let at_q = subst (λ r. At S h r (text c ∷ more)) (sym gap.blanks) at_after in
         let s = span o q (q + length c) in
-        let turn = comment_join_turn S h c true acc (asked S Command e) q others_marks good.0 at_q in
+        let turn = comment_join_turn S h c true acc (edition_next S Command e) q others_marks good.0 at_q in
         let rest = lines_read turn.later cs (acc ++ s ∷ []) turn.q good.1 turn.at in
         record {
           comments = s ∷ rest.comments;
           e = rest.e;
           later = rest.later;
           at = rest.at;
-          reads = joined S h rest.later true (asked S Command e) q acc s rest.comments (past_blanks T rest.e)
-              (asked S Command rest.e) (one_turn join_turn turn.reads turn.on rest.reads);
+          reads = comments_joined S h rest.later true (edition_next S Command e) q acc s rest.comments
+              (past_blanks T rest.e)
+              (edition_next S Command rest.e) (one_turn join_turn turn.reads turn.on rest.reads);
           shape = cons_shape S s rest.comments c cs (comment_shape S h c q more at_q) rest.shape;
           texts = λ ts. rest.texts ts ∙ turn.texts ts;
         }
@@ -402,11 +479,11 @@ module _ {edition : Edition} {B T : List ℕ} {o : ℕ} {S : StandsIn edition B 
     -- from the end of the line before them
     break_read : (h : Held) (cs : Row Text) (e : ℕ) → GoodComments cs →
         At S h e (line_end ∷ (print_comment_lines d cs ++ (text m ∷ ms))) →
-        LinesRead h false [] (asked S Command e) (past_blanks T e) cs m ms
+        LinesRead h false [] (edition_next S Command e) (past_blanks T e) cs m ms
     break_read h cs e good at =
         let X = print_comment_lines d cs ++ (text m ∷ ms) in
         let line = line_end_here S h e X at in
-        let turn = newline_join_turn S h false [] (asked S Command e) (past_blanks T e) X
+        let turn = newline_join_turn S h false [] (edition_next S Command e) (past_blanks T e) X
         (ap (λ (n : Next). is_newline_token n.token) line.n_is) line.at_q in
         let rest = lines_read turn.later cs [] turn.q good turn.at in
         record {
@@ -423,7 +500,7 @@ module _ {edition : Edition} {B T : List ℕ} {o : ℕ} {S : StandsIn edition B 
 
   -- what is told and passed of what ends an item
   record EnderRead (h : Held) (e : ℕ) (falls : Bool) (ms : Marks) : Type 0 where
-    token_is : told S Command (past_blanks T e) ≡ ender_token falls
+    token_is : edition_token S Command (past_blanks T e) ≡ ender_token falls
     not_comment : raw_stands T (past_blanks T e) number_sign ≡ false
     f : ℕ
     at : At S h f ms
@@ -432,7 +509,7 @@ module _ {edition : Edition} {B T : List ℕ} {o : ℕ} {S : StandsIn edition B 
 
   -- a `;` and another byte, which are this ender
   ender_by : (h : Held) (m : Text) (e d : ℕ) (falls : Bool) (ms : Marks) → all_blank m ≡ true → (d == backslash) ≡ false
-      → ((q : ℕ) (xs : Text) → drop q T ≡ semicolon ∷ d ∷ xs → told S Command q ≡ ender_token falls) →
+      → ((q : ℕ) (xs : Text) → drop q T ≡ semicolon ∷ d ∷ xs → edition_token S Command q ≡ ender_token falls) →
       At S h e (text m ∷ text (semicolon ∷ d ∷ []) ∷ ms) → EnderRead h e falls ms
   ender_by h m e d falls ms blank clear token_is at =
       let there = at_text S h e m (text (semicolon ∷ d ∷ []) ∷ ms) at ∙ laid_text h (semicolon ∷ d ∷ []) ms in
@@ -457,10 +534,10 @@ module _ {edition : Edition} {B T : List ℕ} {o : ℕ} {S : StandsIn edition B 
       EnderRead h e falls ms
   ender_read h m e true ms blank later at =
       ender_by h m e ampersand true ms blank refl
-      (λ q xs there. tell S (falls_token Command T q xs there) ∙ falls_stays edition (later refl)) at
+      (λ q xs there. edition_same S (falls_token Command T q xs there) ∙ falls_stays edition (later refl)) at
   ender_read h m e false ms blank later at =
       ender_by h m e semicolon false ms blank refl
-      (λ q xs there. tell S (double_semicolon_token Command T q xs there)) at
+      (λ q xs there. edition_same S (double_semicolon_token Command T q xs there)) at
 
   -- no line of a list begins there
   ender_closes : (m : Text) (falls : Bool) (ms : Marks) → all_blank m ≡ true →
@@ -483,11 +560,11 @@ module _ {edition : Edition} {B T : List ℕ} {o : ℕ} {S : StandsIn edition B 
     e : ℕ
     later : Held
     ended : EnderRead later e falls (line_end ∷ ms)
-    reads : Gives (g S) (a_body (level room) (asked S Command f)) (state h (past_blanks T f))
-        (list_so_far list (asked S Command e))
+    reads : Gives (g S) (a_body (level room) (edition_next S Command f)) (state h (past_blanks T f))
+        (list_so_far list (edition_next S Command e))
         (state later (past_blanks T e))
     shape : shape_of B (entries_of list.entries) ≡ opened [] body
-    texts : Adds S h later (entries_bodies body)
+    texts : AddsBodies S h later (entries_bodies body)
 
   -- the list is read, or none, up to that
   item_body_read : (h : Held) (m : Text) (body : Shape EntriesOf) (falls : Bool) (f : ℕ) (ms : Marks) →
@@ -579,7 +656,7 @@ module _ {edition : Edition} {B T : List ℕ} {o : ℕ} {S : StandsIn edition B 
   first_good no_case tail good comments = comments
   first_good (more_cases (case_item cs ps body mark) items) tail good comments = good.0.0
 
-  -- the items, and the comments after them
+  -- what is read of all items, and of the comments after them, up to `esac`
   record CasesRead (h : Held) (acc : Row ACaseItem) (before : Row Span) (e : ℕ) (items : Shape CaseItemsOf)
       (tail : Row Text) (rest : Marks) : Type 0 where
     value : Row ACaseItem
@@ -587,23 +664,22 @@ module _ {edition : Edition} {B T : List ℕ} {o : ℕ} {S : StandsIn edition B 
     f : ℕ
     later : Held
     key : ReservedRead S later f reserved.Esac rest
-    reads : Gives (g S) (many (case_turn (level room)) (cases_so_far acc before (asked S Command e)))
+    reads : Gives (g S) (many (case_turn (level room)) (cases_so_far acc before (edition_next S Command e)))
         (state h (past_blanks T e))
-        (cases_so_far (acc ++ value) comments (asked S Command f)) (state later (past_blanks T f))
+        (cases_so_far (acc ++ value) comments (edition_next S Command f)) (state later (past_blanks T f))
     shape : shape_of_cases B (cases_of value) ≡ open_cases [] items
-    texts : Adds S h later (cases_bodies items)
+    texts : AddsBodies S h later (cases_bodies items)
     tail_shape : shape_of_comments B comments ≡ tail
 
   -- the shape of an item by those of its parts
-  item_shape_of : (cs : Row Span) (v : AWord) (vs : Row AWord) (es : Row AnEntry) (s : ACaseMark)
-      (comments : Row Text) (w : Shape AWordOf) (ws : Shape PatternsOf) (body : Shape EntriesOf)
-      (mark : ACaseMarkOf (Unit {0}))
-      → s.falls ≡ mark.falls → shape_of_comments B cs ≡ comments → shape_of_word B v ≡ w →
-      shape_of_patterns B (patterns_of vs) ≡ ws → shape_of B (entries_of es) ≡ opened [] body
-      → shape_of_case B (case_item cs (patterns_of (v ∷ vs)) (entries_of es) s)
-      ≡ open_case [] (case_item comments (more_patterns w ws) body mark)
+  item_shape_of : (cs : Row Span) (vs : Row AWord) (es : Row AnEntry) (s : ACaseMark) (comments : Row Text)
+      (ps : Shape PatternsOf) (body : Shape EntriesOf) (mark : ACaseMarkOf (Unit {0}))
+      → s.falls ≡ mark.falls → shape_of_comments B cs ≡ comments → shape_of_patterns B (patterns_of vs) ≡ ps →
+      shape_of B (entries_of es) ≡ opened [] body
+      → shape_of_case B (case_item cs (patterns_of vs) (entries_of es) s)
+      ≡ open_case [] (case_item comments ps body mark)
   unfolding open_case
-  item_shape_of cs v vs es s comments w ws body mark falls e f i k = rw (e, f, i, k, falls) refl
+  item_shape_of cs vs es s comments ps body mark falls e f i = rw (e, f, i, falls) refl
 
   -- the shape of items by that of the first and those of the others
   cases_shape : (v : ACaseItem) (vs : Row ACaseItem) (c : Shape ACaseItemOf) (cs : Shape CaseItemsOf) →
@@ -612,16 +688,121 @@ module _ {edition : Edition} {B T : List ℕ} {o : ℕ} {S : StandsIn edition B 
   unfolding open_cases
   cases_shape v vs c cs e f = rw (e, f) refl
 
-  -- all items are read, up to `esac`
-  cases_read : (h : Held) (m : Text) (items : Shape CaseItemsOf) (tail : Row Text) (acc : Row ACaseItem)
-      (before : Row Span) (e : ℕ) (rest : Marks) → all_blank m ≡ true → GoodCases edition room items →
-      GoodComments tail
-      → are_normal_cases items ≡ true → Ends rest → shape_of_comments B before ≡ first_comments items tail →
-      At S h e (text (items_margin y m items) ∷ items_marks y m items tail rest)
-      → CasesRead h acc before e items tail rest
-  unfolding case_turn one_case an_open_bracket a_pattern_list a_pattern closing an_item_end an_ender a_linebreak
-      open_cases cases_bodies case_bodies
-  cases_read h m no_case tail acc before e rest blank good comments normal stop same at =
+  -- what is read of one item, with the comments after it, up to the margin of the next one
+  record OneCaseRead (h : Held) (acc : Row ACaseItem) (before : Row Span) (e : ℕ) (c : Shape ACaseItemOf)
+      (cs : Row Text) (m : Text) (ms : Marks) : Type 0 where
+    value : ACaseItem
+    comments : Row Span
+    f : ℕ
+    later : Held
+    at : At S later f (text m ∷ ms)
+    reads : Gives (g S) (case_turn (level room) (cases_so_far acc before (edition_next S Command e)))
+        (state h (past_blanks T e))
+        (again (cases_so_far (acc ++ value ∷ []) comments (edition_next S Command f))) (state later (past_blanks T f))
+    on : leads_on (g S) (state h (past_blanks T e)) (state later (past_blanks T f)) ≡ true
+    shape : shape_of_case B value ≡ open_case [] c
+    comments_shape : shape_of_comments B comments ≡ cs
+    texts : AddsBodies S h later (case_bodies c)
+
+  -- an item by what was read of its patterns, of its body and of the lines after it
+  module _ (h : Held) (acc : Row ACaseItem) (before : Row Span) (e : ℕ) (ps : Shape PatternsOf)
+      (body : Shape EntriesOf) (mark : ACaseMarkOf (Unit {0})) (after_patterns after_ender : Marks) (cs : Row Text)
+      (m : Text) (ms : Marks) (p : AllPatternsRead h e ps after_patterns)
+      (b : BodyRead h (p.z + 1) body mark.falls after_ender)
+      (l : LinesRead b.later false [] (edition_next S Command b.ended.f) (past_blanks T b.ended.f) cs m ms) where
+    -- its mark in the tree
+    abbrev mark_read : ACaseMark
+    mark_read = record {
+      mark = span o (past_blanks T e) b.ended.f;
+      falls = falls_through (edition_next S Command b.e).token;
+    }
+
+    -- the item in the tree
+    abbrev item_in_tree : ACaseItem
+    item_in_tree = case_item before (patterns_of p.value) (entries_of b.list.entries) mark_read
+
+    -- its ender and the comments after that are read
+    item_end_read : Gives (g S)
+        (an_item_end (level room) (body_end (o + (p.z + 1)) b.list) (edition_next S Command b.e))
+        (state b.later (past_blanks T b.e)) (item_end (o + b.ended.f) l.comments (edition_next S Command l.e))
+        (state l.later (past_blanks T l.e))
+    unfolding an_item_end an_ender a_linebreak
+    item_end_read = first_of _ _ (ap ends_item b.ended.token_is ∙ ender_ends mark.falls)
+        (told_here (ender_told (falls_through (edition_next S Command b.e).token)) b.ended.on ⟫ seen_here the_place
+        ⟫ next_read S b.later Command b.ended.f ⟫ l.reads ⟫ given_here)
+
+    -- all of it is read by one turn
+    item_turn_read : Gives (g S) (case_turn (level room) (cases_so_far acc before (edition_next S Command e)))
+        (state h (past_blanks T e))
+        (again (cases_so_far (acc ++ item_in_tree ∷ []) l.comments (edition_next S Command l.e)))
+        (state l.later (past_blanks T l.e))
+    unfolding case_turn one_case an_open_bracket
+    item_turn_read = second_of _ _ p.begin.esac
+        (seen_here the_place ⟫ second_of _ _ p.begin.bracket given_here ⟫ p.reads ⟫ p.bracket ⟫ b.reads
+        ⟫ item_end_read ⟫ pushed_here acc item_in_tree ⟫ given_here)
+
+    -- that turn leads on
+    item_turn_on : leads_on (g S) (state h (past_blanks T e)) (state l.later (past_blanks T l.e)) ≡ true
+    item_turn_on =
+        let body_low = gives_on (a_body (level room) (edition_next S Command (p.z + 1))) _ _ _ b.reads in
+        let lines_low = gives_on (many join_turn (join_so_far (a_join_of false []) (edition_next S Command b.ended.f)))
+        _ _ _ l.reads in
+        let onward : past_blanks T e < past_blanks T l.e =
+        omega (arith, p.on, blanks_low T (p.z + 1), body_low, b.ended.low, blanks_low T b.ended.f, lines_low) in
+        leads S h l.later (past_blanks T e) (past_blanks T l.e) onward p.within
+
+    -- the item is read with its shape
+    case_by : (comments : Row Text) → shape_of_comments B before ≡ comments →
+        OneCaseRead h acc before e (case_item comments ps body mark) cs m ms
+    unfolding case_bodies
+    case_by comments same = record {
+      value = item_in_tree;
+      comments = l.comments;
+      f = l.e;
+      later = l.later;
+      at = l.at;
+      reads = item_turn_read;
+      on = item_turn_on;
+      shape = item_shape_of before p.value b.list.entries mark_read comments ps body mark
+          (ap falls_through b.ended.token_is ∙ falls_as mark.falls) same p.shape b.shape;
+      comments_shape = l.shape;
+      texts = λ ts. l.texts ts ∙ b.texts ts;
+    }
+
+  -- one item is read where it is printed before others
+  one_case_read : (h : Held) (m : Text) (cs : Row Text) (w : Shape AWordOf) (ws : Shape PatternsOf)
+      (body : Shape EntriesOf) (mark : ACaseMarkOf (Unit {0})) (items : Shape CaseItemsOf) (tail : Row Text)
+      (acc : Row ACaseItem) (before : Row Span) (e : ℕ) (rest : Marks) → all_blank m ≡ true →
+      GoodCases edition room (more_cases (case_item cs (more_patterns w ws) body mark) items) → GoodComments tail →
+      is_normal_case (case_item cs (more_patterns w ws) body mark) ≡ true → Ends rest →
+      shape_of_comments B before ≡ cs →
+      At S h e (text (case_margin y m)
+      ∷ items_marks y m (more_cases (case_item cs (more_patterns w ws) body mark) items) tail rest)
+      → OneCaseRead h acc before e (case_item cs (more_patterns w ws) body mark) (first_comments items tail)
+      (items_margin y m items) (items_marks y m items tail rest)
+  one_case_read h m cs w ws body mark items tail acc before e rest blank good comments normal stop same at =
+      let margin = case_margin y m in
+      let blank_m = margin_blank y m blank in
+      let next = items_margin y m items in
+      let later = items_marks y m items tail rest in
+      let N = next_marks y m items tail rest in
+      let D = print_body y margin body ++ (text (ender mark.falls) ∷ line_end ∷ N) in
+      let parts = and_parts (are_normal_patterns (more_patterns w ws) && first_not_blank body) (are_normal body)
+      normal in
+      let first = and_parts (are_normal_patterns (more_patterns w ws)) (first_not_blank body) parts.0 in
+      let p = all_patterns_read h margin w ws e D blank_m good.0.1.0 good.0.1.1 at in
+      let b = item_body_read h margin body mark.falls (p.z + 1) N blank_m good.0.3 good.0.2 first.1 parts.1 p.at in
+      let l = break_read margin next blank_m (items_blank y m items blank) later
+      (λ h. items_operand h m items tail rest good.1 stop) b.later (first_comments items tail) b.ended.f
+      (first_good items tail good.1 comments) b.ended.at in
+      case_by h acc before e (more_patterns w ws) body mark D N (first_comments items tail) next later p b l cs same
+
+  -- where no item is left `esac` is read
+  no_case_read : (h : Held) (m : Text) (tail : Row Text) (acc : Row ACaseItem) (before : Row Span) (e : ℕ)
+      (rest : Marks) → all_blank m ≡ true → Ends rest → shape_of_comments B before ≡ tail →
+      At S h e (text m ∷ text (codes "esac") ∷ rest) → CasesRead h acc before e no_case tail rest
+  unfolding case_turn open_cases cases_bodies
+  no_case_read h m tail acc before e rest blank stop same at =
       let k = reserved_read S h m (codes "esac") reserved.Esac e rest blank (esac_key rest stop) at in
       record {
         value = [];
@@ -635,91 +816,52 @@ module _ {edition : Edition} {B T : List ℕ} {o : ℕ} {S : StandsIn edition B 
         texts = λ ts. refl;
         tail_shape = same;
       }
+
+  -- an item that is read, and the further ones that are, make one row of items
+  cases_on : (h : Held) (acc : Row ACaseItem) (before : Row Span) (e : ℕ) (c : Shape ACaseItemOf)
+      (items : Shape CaseItemsOf) (cs tail : Row Text) (m : Text) (ms rest : Marks)
+      (first : OneCaseRead h acc before e c cs m ms)
+      → CasesRead first.later (acc ++ first.value ∷ []) first.comments first.f items tail rest →
+      CasesRead h acc before e (more_cases c items) tail rest
+  unfolding cases_bodies
+  cases_on h acc before e c items cs tail m ms rest first others = record {
+    value = first.value ∷ others.value;
+    comments = others.comments;
+    f = others.f;
+    later = others.later;
+    key = others.key;
+    reads = subst (λ all. Gives (g S)
+        (many (case_turn (level room)) (cases_so_far acc before (edition_next S Command e)))
+        (state h (past_blanks T e)) (cases_so_far all others.comments (edition_next S Command others.f))
+        (state others.later (past_blanks T others.f)))
+        (append_assoc acc (first.value ∷ []) others.value)
+        (one_turn (case_turn (level room)) first.reads first.on others.reads);
+    shape = cases_shape first.value others.value c items first.shape others.shape;
+    texts = λ ts. others.texts ts ∙ first.texts (cases_bodies items ts);
+    tail_shape = others.tail_shape;
+  }
+
+  -- all items are read, up to `esac`
+  cases_read : (h : Held) (m : Text) (items : Shape CaseItemsOf) (tail : Row Text) (acc : Row ACaseItem)
+      (before : Row Span) (e : ℕ) (rest : Marks) → all_blank m ≡ true → GoodCases edition room items →
+      GoodComments tail
+      → are_normal_cases items ≡ true → Ends rest → shape_of_comments B before ≡ first_comments items tail →
+      At S h e (text (items_margin y m items) ∷ items_marks y m items tail rest)
+      → CasesRead h acc before e items tail rest
+  cases_read h m no_case tail acc before e rest blank good comments normal stop same at =
+      no_case_read h m tail acc before e rest blank stop same at
   cases_read h m (more_cases (case_item cs no_pattern body mark) items) tail acc before e rest blank good comments
       normal stop same at = absurd good.0.1
   cases_read h m (more_cases (case_item cs (more_patterns w ws) body mark) items) tail acc before e rest blank
       good comments normal stop same at =
-      let P = case_margin y m in
-      let blank_p = margin_blank y m blank in
-      let N = next_marks y m items tail rest in
-      let D = print_body y P body ++ (text (ender mark.falls) ∷ line_end ∷ N) in
-      let parts = and_parts (is_normal_case (case_item cs (more_patterns w ws) body mark))
-      (are_normal_cases items) normal in
-      let one_of = and_parts (are_normal_patterns (more_patterns w ws) && first_not_blank body)
-      (are_normal body) parts.0 in
-      let two_of = and_parts (are_normal_patterns (more_patterns w ws)) (first_not_blank body) one_of.0 in
-      let v = word_at h Command begins_pattern P w e (more_marks ws D) blank_p good.0.1.0
-      (more_follows ws D) at in
-      let q = past_blanks T e in
-      let n = asked S Command e in
-      let other = first_pattern (told S Command q) v.begin in
-      let vs = patterns_read h ws (v.value ∷ []) v.e D good.0.1.1 v.at in
-      let bracket = bracket_next h Suffix vs.e D vs.at in
-      let z = past_blanks T vs.e in
-      let the_paren = byte_here T z right_parenthesis (lay h D) refl
-      (subst (λ p. drop p T ≡ right_parenthesis ∷ lay h D) (sym bracket.1) (vs.at ∙ laid_text h (codes ")") D)) in
-      let b = item_body_read h P body mark.falls (z + 1) N blank_p good.0.3 good.0.2 two_of.1 one_of.1 the_paren.rest in
-      let d = b.ended in
-      let l = break_read P (items_margin y m items) blank_p (items_blank y m items blank)
-      (items_marks y m items tail rest) (λ h. items_operand h m items tail rest good.1 stop) b.later
-      (first_comments items tail) d.f (first_good items tail good.1 comments) d.at in
-      let s = span o q d.f in
-      let falls_is : falls_through (asked S Command b.e).token ≡ mark.falls = ap falls_through d.token_is
-      ∙ falls_as mark.falls in
-      let it_mark : ACaseMark = record { mark = s; falls = falls_through (asked S Command b.e).token } in
-      let it = case_item before (patterns_of (v.value ∷ vs.value)) (entries_of b.list.entries) it_mark in
-      let others = cases_read l.later m items tail
-      (acc ++ it ∷ []) l.comments l.e rest blank good.1 comments parts.1 stop l.shape l.at in
-      let body_low = gives_on (a_body (level room) (asked S Command (z + 1))) _ _ _ b.reads in
-      let patterns_low = gives_on
-      (many (pattern_turn (level room)) (patterns_so_far (v.value ∷ []) (asked S Suffix v.e))) _ _ _ vs.reads in
-      let lines_low = gives_on (many join_turn (join_so_far (a_join_of false []) (asked S Command d.f))) _ _ _
-      l.reads in
-      let ended : Gives (g S) (an_item_end (level room) (body_end (o + (z + 1)) b.list) (asked S Command b.e))
-      (state b.later (past_blanks T b.e)) (item_end (o + d.f) l.comments (asked S Command l.e))
-      (state l.later (past_blanks T l.e)) =
-      first_of _ _ (ap ends_item d.token_is ∙ ender_ends mark.falls)
-      (told_here (ender_told (falls_through (asked S Command b.e).token)) d.on ⟫ seen_here the_place ⟫ next_read S
-      b.later Command d.f ⟫ l.reads ⟫ given_here) in
-      let listed : Gives (g S) (a_pattern_list (level room) n) (state h q)
-      (patterns_so_far (v.value ∷ vs.value) (asked S Suffix vs.e)) (state h z) =
-      first_of _ _ v.begin ((v.reads ⟫ pushed_here [] v.value ⟫ next_read S h Suffix v.e ⟫ given_here) ⟫
-      vs.reads) in
-      let turned : Gives (g S) (case_turn (level room) (cases_so_far acc before n)) (state h q)
-      (again (cases_so_far (acc ++ it ∷ []) l.comments (asked S Command l.e))) (state l.later (past_blanks T l.e)) =
-      second_of _ _ other.esac
-      (seen_here the_place ⟫ second_of _ _ other.bracket given_here ⟫ listed
-      ⟫ first_of _ _ (ap (λ (n : Next). is_closing closings.Paren n.token) bracket.0)
-      (paren_alone S h (closing_text closings.Paren) z the_paren.place_after)
-      ⟫ b.reads ⟫ ended ⟫ pushed_here acc it ⟫ given_here) in
-      let onward : q < past_blanks T l.e =
-      omega (
-        arith,
-        v.on,
-        blanks_low T v.e,
-        patterns_low,
-        blanks_low T (z + 1),
-        body_low,
-        d.low,
-        blanks_low T d.f,
-        lines_low,
-      ) in
-      let on = leads S h l.later q (past_blanks T l.e) onward v.within in
-      record {
-        value = it ∷ others.value;
-        comments = others.comments;
-        f = others.f;
-        later = others.later;
-        key = others.key;
-        reads = subst (λ all. Gives (g S) (many (case_turn (level room)) (cases_so_far acc before n)) (state h q)
-            (cases_so_far all others.comments (asked S Command others.f)) (state others.later (past_blanks T others.f)))
-            (append_assoc acc (it ∷ []) others.value) (one_turn (case_turn (level room)) turned on others.reads);
-        shape = cases_shape it others.value (case_item cs (more_patterns w ws) body mark) items
-            (item_shape_of before v.value vs.value b.list.entries it_mark cs w ws body mark falls_is same v.shape
-            vs.shape b.shape) others.shape;
-        texts = λ ts. others.texts ts ∙ l.texts (cases_bodies items ts) ∙ b.texts (cases_bodies items ts);
-        tail_shape = others.tail_shape;
-      }
+      let c = case_item cs (more_patterns w ws) body mark in
+      let parts = and_parts (is_normal_case c) (are_normal_cases items) normal in
+      let first = one_case_read h m cs w ws body mark items tail acc before e rest blank good comments parts.0 stop
+      same at in
+      cases_on h acc before e c items (first_comments items tail) tail (items_margin y m items)
+      (items_marks y m items tail rest) rest first
+      (cases_read first.later m items tail (acc ++ first.value ∷ []) first.comments first.f rest blank good.1
+      comments parts.1 stop first.comments_shape first.at)
 
   -- the shape of a `case` by those of its parts
   case_shape : (v : AWord) (vs : Row ACaseItem) (cs : Row Span) (w : Shape AWordOf) (items : Shape CaseItemsOf)
@@ -734,7 +876,7 @@ module _ {edition : Edition} {B T : List ℕ} {o : ℕ} {S : StandsIn edition B 
       (rest : Marks) → all_blank m ≡ true → GoodForm edition room (case_in w items tail)
       → is_normal_form (case_in w items tail) ≡ true → Ends rest →
       At S h f (text (codes " ") ∷ (print_word w ++ case_marks y m items tail rest))
-      → Finished S h AForm (a_case (level room) (asked S Suffix f)) (past_blanks T f) rest
+      → Finished S h AForm (a_case (level room) (edition_next S Suffix f)) (past_blanks T f) rest
       (form_bodies (case_in w items tail)) (λ v. shape_of_form B v ≡ open_form [] (case_in w items tail))
   unfolding a_case a_case_head a_case_word a_linebreak form_bodies
   case_read h m w items tail f rest blank good normal stop at =
@@ -757,7 +899,7 @@ module _ {edition : Edition} {B T : List ℕ} {o : ℕ} {S : StandsIn edition B 
         at = c.key.at;
         texts = λ ts. c.texts ts ∙ l.texts (cases_bodies items ts);
         reads = (first_of _ _ v.begin (v.reads ⟫ next_read S h Command v.e ⟫ given_here) ⟫ no_lines S h
-            (asked S Command v.e) (past_blanks T v.e) k.not_comment (ap is_newline_token k.token_is)
+            (edition_next S Command v.e) (past_blanks T v.e) k.not_comment (ap is_newline_token k.token_is)
             ⟫ closing_read S room h closings.In reserved.In v.e X refl refl k ⟫ l.reads ⟫ given_here) ⟫ c.reads ⟫
             closing_read S room c.later closings.Esac reserved.Esac c.f rest refl refl c.key ⟫ given_here;
         is = case_shape v.value c.value c.comments w items tail v.shape c.shape c.tail_shape;

@@ -20,7 +20,7 @@ use Rattle.shgrammar.specs.Levels.{level}
 use Rattle.shast.specs.Nodes.{word_span}
 use Rattle.shast.specs.Normal.{is_normal_and_or, are_normal_and_ors, is_normal_pipeline, are_normal_pipes, is_normal_join, is_normal_compound, is_normal_command}
 use Rattle.shgrammar.specs.Commands.{an_and_or, one_pipeline, and_or_turn, and_or_so_far, a_bang, a_pipeline, begins_pipeline, and_or_operator_of, is_pipe, pipes_so_far, one_command, pipe_turn, a_command, a_join, begins_simple, opener_of, is_newline_token, is_bang, with_redirect_list, is_word, is_paren, a_word_command, compound_by}
-use Rattle.shgrammar.proofs.Anywhere.{word_span as spanned}
+use Rattle.shgrammar.proofs.WordsAnywhere.{word_span as spanned}
 use Rattle.shast.specs.Opened.{items_bodies, and_or_bodies, and_or_parts_bodies, pipeline_bodies, pipes_bodies, command_bodies, compound_bodies, open_items, open_and_or, open_and_or_parts, open_pipeline, open_pipes, open_command, open_compound, open_form}
 use Rattle.shast.specs.declared.tree.AndOrOperator.{AndOrOperator}
 use Rattle.shast.specs.declared.tree.AndOrOperator.TheVariants.{And, Or}
@@ -35,7 +35,7 @@ use Rattle.shprint.proofs.Tokens.{open_token, bang_here, byte_here, start_here, 
 use Rattle.shprint.proofs.Gives.{Gives, gives_on, told_here, ◌⟫◌, given_here, seen_here, pushed_here, first_of, second_of, last_turn, one_turn}
 use Rattle.shprint.proofs.Held.{At, Followed, Held, StandsIn, g, lay, state, text_of_span, texts_of}
 use Rattle.shprint.proofs.Good.{of_command, GoodRedirects, GoodAndOr, GoodParts, GoodPipeline, GoodPipes, GoodCompound, GoodCommand, GoodComments, GoodItems, none_more, one_more, SomeItem, GoodBody, GoodFunction, parts_of_function}
-use Rattle.shprint.proofs.PrintedText.{laid_text, deeper_blank, deeper_some, operand_blank, begins_command, no_other, join_rest, join_parted, operator_token, Adds, at_text, some_here, leads, told, asked, asked_after, tell, next_read, Got, Follower, Opens, margin_gap, join_read, follower_after, space_then, pipe_follower, operator_follower, Begins, no_sharp, begins_operand, PipelineBegins, printed_word, one_moved}
+use Rattle.shprint.proofs.PrintedText.{laid_text, deeper_blank, deeper_some, operand_blank, begins_command, no_other, join_rest, join_parted, operator_token, AddsBodies, at_text, some_here, leads, edition_token, edition_next, edition_next_after, edition_same, next_read, RowRead, Follower, Opens, margin_gap, join_read, follower_after, space_then, pipe_follower, operator_follower, Begins, no_sharp, begins_operand, PipelineBegins, printed_word, one_moved}
 use Rattle.shprint.proofs.PrintedItems.{items_follow, ItemThere, item_there, items_read, simple_command}
 
 -- ---- commands
@@ -83,24 +83,24 @@ module _ (y : Layout) where
       (append_assoc (print_function_gap y m cs body) (print_compound y m body) rest)
 
 -- what is known of the compound commands at this level
-pub record Fine {edition : Edition} {B T : List ℕ} {o : ℕ} (S : StandsIn edition B T o) (room : ℕ)
+pub record CompoundsRead {edition : Edition} {B T : List ℕ} {o : ℕ} (S : StandsIn edition B T o) (room : ℕ)
     (y : Layout) : Type 0 where
   pub opens : (h : Held) (m : Text) (c : Shape ACompoundOf) (p : ℕ) (rest : Marks) → GoodCompound edition room c →
       At S h p (print_compound y m c ++ rest) → (o : Opener) × Opens S p o
   pub back : (h : Held) (m : Text) (c : Shape ACompoundOf) (p : ℕ) (rest : Marks) (o : Opener) →
       all_blank m ≡ true → GoodCompound edition room c → is_normal_compound c ≡ true
       → Followed rest → Opens S p o → At S h p (print_compound y m (bare_compound c) ++ rest) →
-      Got S h ((level room).compound o) p rest (compound_bodies (bare_compound c))
+      RowRead S h ((level room).compound o) p rest (compound_bodies (bare_compound c))
       (λ v. shape_of_command B v ≡ open_command [] (compound (bare_compound c)))
   pub function_back : (h : Held) (m : Text) (name : Span) (cs : Row Text) (body : Shape ACompoundOf) (p : ℕ)
       (rest : Marks) (t : Token) → all_blank m ≡ true → GoodComments cs → GoodBody edition room body
       → is_normal_compound body ≡ true → Follower S rest t → begins_simple t ≡ false →
       At S h p (text (codes "()") ∷ (print_function_gap y m cs body ++ (print_compound y m body ++ rest)))
-      → Got S h ((level room).function name) p rest (compound_bodies body)
+      → RowRead S h ((level room).function name) p rest (compound_bodies body)
       (λ v. shape_of_command B v ≡ open_command [] (function (text_at B name) cs body))
 
 module _ {edition : Edition} {B T : List ℕ} {o : ℕ} {S : StandsIn edition B T o} {room : ℕ} {y : Layout}
-    (fine : Fine S room y) where
+    (fine : CompoundsRead S room y) where
   -- ---- a command
 
   -- the redirections of a good command are good
@@ -146,25 +146,36 @@ module _ {edition : Edition} {B T : List ℕ} {o : ℕ} {S : StandsIn edition B 
       GoodCommand edition room c → Followed rest → At S h p (print_command y m c ++ rest) → Begins S p
   command_begins h m (simple is) p rest good follow at =
       let b = simple_begins h m p rest good.items good.some follow at in
-      record { start = b.start; command = begins_by (told S Command p) b.begins }
+      record { start = b.start; command = begins_by (edition_token S Command p) b.begins }
   command_begins h m (compound c) p rest good follow at =
       let b = fine.opens h m c p rest good at in
-      record { start = b.1.start; command = opens_by (told S Command p) b.0 b.1.opener }
+      record { start = b.1.start; command = opens_by (edition_token S Command p) b.0 b.1.opener }
   command_begins h m (function name comments body) p rest good follow at =
       let before = (parts_of_function edition room name comments body good).before in
       let found = before.there (g S) p _ (name_there h m name comments body p rest at) in
       record {
         start = record { place = found.place; no_blank = found.no_blank };
-        command = begins_by (told S Command p) (ap begins_simple (tell S found.token_is));
+        command = begins_by (edition_token S Command p) (ap begins_simple (edition_same S found.token_is));
       }
+
+  -- just after the name of a function its `(` is told
+  bracket_after_name : (h : Held) (e : ℕ) (ms : Marks) → At S h e (text (codes "()") ∷ ms) →
+      (is_paren (edition_next S Suffix e).token ≡ true) × (past_blanks T e ≡ e)
+  bracket_after_name h e ms at =
+      let head = at ∙ laid_text h (codes "()") ms in
+      let gap = no_gap (start_here (byte_here T e left_parenthesis (right_parenthesis ∷ lay h ms) refl head) refl) in (
+        ap (λ (n : Next). is_paren n.token) (edition_next_after S Suffix gap)
+            ∙ ap is_paren (edition_same S (open_token Suffix T e (right_parenthesis ∷ lay h ms) head)),
+        gap.blanks,
+      )
 
   -- a function is read by its name, the brackets and what stands after them
   function_command : (h : Held) (m name : Text) (cs : Row Text) (body : Shape ACompoundOf) (n : Next) (p : ℕ)
       (rest : Marks) (t : Token) → all_blank m ≡ true → GoodFunction edition room name cs body →
       is_normal_compound body ≡ true
-      → Follower S rest t → begins_simple t ≡ false → n.token ≡ told S Command p →
+      → Follower S rest t → begins_simple t ≡ false → n.token ≡ edition_token S Command p →
       At S h p (print_command y m (function name cs body) ++ rest) →
-      Got S h (a_command (level room) n) p rest (command_bodies (function name cs body))
+      RowRead S h (a_command (level room) n) p rest (command_bodies (function name cs body))
       (λ v. shape_of_command B v ≡ open_command [] (function name cs body))
   unfolding a_command a_word_command open_command command_bodies
   function_command h m name cs body n p rest t blank good normal f none token_is at =
@@ -174,10 +185,7 @@ module _ {edition : Edition} {B T : List ℕ} {o : ℕ} {S : StandsIn edition B 
       let e = p + length name in
       let X = function_rest y m cs body rest in
       let at_e = at_text S h p name (text (codes "()") ∷ X) (at ∙ ap (lay h) (function_is y m name cs body rest)) in
-      let head = at_e ∙ laid_text h (codes "()") X in
-      let gap = no_gap (start_here (byte_here T e left_parenthesis (right_parenthesis ∷ lay h X) refl head) refl) in
-      let paren = ap (λ (n : Next). is_paren n.token) (asked_after S Suffix gap)
-      ∙ ap is_paren (tell S (open_token Suffix T e (right_parenthesis ∷ lay h X) head)) in
+      let bracket = bracket_after_name h e X at_e in
       let r = fine.function_back h m
       (span o p e) cs body e rest t blank good.own good.inside normal f none at_e in
       let name_is = good.before.names T p _ there in
@@ -185,18 +193,18 @@ module _ {edition : Edition} {B T : List ℕ} {o : ℕ} {S : StandsIn edition B 
       ap word_span (spanned (level room) (g S) (state h p) (state h e) v.0 _
       (printed_word S room h name no_subst p v).reads).1 in
       let on_blank = subst (λ q. Gives (g S) ((level room).function (span o p e)) (state h q)
-      (r.value, asked S Command r.«end») (state r.later (past_blanks T r.«end»))) (sym gap.blanks) r.reads in
+      (r.value, edition_next S Command r.«end») (state r.later (past_blanks T r.«end»))) (sym bracket.1) r.reads in
       let after_name = subst (λ z. Gives (g S) ((level room).function z) (state h (past_blanks T e))
-      (r.value, asked S Command r.«end») (state r.later (past_blanks T r.«end»))) (sym place) on_blank in
+      (r.value, edition_next S Command r.«end») (state r.later (past_blanks T r.«end»))) (sym place) on_blank in
       record {
         value = r.value;
         «end» = r.«end»;
         later = r.later;
         at = r.at;
         texts = r.texts;
-        reads = first_of _ _ (ap is_word (token_is ∙ tell S found.token_is))
-            (seen_here is_a_name ⟫ printed_word S room h name no_subst p v ⟫ next_read S h Suffix e ⟫ first_of _ _ paren
-            (first_of _ _ name_is after_name));
+        reads = first_of _ _ (ap is_word (token_is ∙ edition_same S found.token_is))
+            (seen_here is_a_name ⟫ printed_word S room h name no_subst p v ⟫ next_read S h Suffix e
+            ⟫ first_of _ _ bracket.0 (first_of _ _ name_is after_name));
         is = r.is ∙ ap (λ z. open_command [] (function z cs body))
             (text_of_span S p name (left_parenthesis ∷ right_parenthesis ∷ lay h X) there);
       }
@@ -204,9 +212,9 @@ module _ {edition : Edition} {B T : List ℕ} {o : ℕ} {S : StandsIn edition B 
   -- a compound command with the redirections after it
   pub whole_compound : (h : Held) (m : Text) (c : Shape ACompoundOf) (n : Next) (p : ℕ) (rest : Marks) (t : Token)
       → all_blank m ≡ true → GoodCompound edition room c → is_normal_compound c ≡ true
-      → Follower S rest t → begins_simple t ≡ false → n.token ≡ told S Command p →
+      → Follower S rest t → begins_simple t ≡ false → n.token ≡ edition_token S Command p →
       At S h p (print_compound y m c ++ rest) →
-      Got S h (compound_by (level room) n (opener_of n.token)) p rest (compound_bodies c)
+      RowRead S h (compound_by (level room) n (opener_of n.token)) p rest (compound_bodies c)
       (λ v. shape_of_command B v ≡ open_command [] (compound c))
   unfolding with_redirect_list
   whole_compound h m c n p rest t blank good normal f none token_is at =
@@ -220,7 +228,7 @@ module _ {edition : Edition} {B T : List ℕ} {o : ℕ} {S : StandsIn edition B 
       (follower_after S f none) r.later
       (good_redirects c good).items [] r.«end» tt r.at in
       let read : Gives (g S) ((level room).compound b.0 >>= with_redirect_list (level room)) (state h p)
-      (with_redirects r.value (items_of is.more_items_read), asked S Command is.«end»)
+      (with_redirects r.value (items_of is.more_items_read), edition_next S Command is.«end»)
       (state is.later (past_blanks T is.«end»)) =
       r.reads ⟫ (is.reads ⟫ given_here) in
       record {
@@ -237,9 +245,9 @@ module _ {edition : Edition} {B T : List ℕ} {o : ℕ} {S : StandsIn edition B 
   -- each command is read where it is printed
   pub command_read : (h : Held) (m : Text) (c : Shape ACommandOf) (n : Next) (p : ℕ) (rest : Marks) (t : Token) →
       all_blank m ≡ true → GoodCommand edition room c → is_normal_command c ≡ true
-      → Follower S rest t → begins_simple t ≡ false → n.token ≡ told S Command p →
+      → Follower S rest t → begins_simple t ≡ false → n.token ≡ edition_token S Command p →
       At S h p (print_command y m c ++ rest) →
-      Got S h (a_command (level room) n) p rest (command_bodies c) (λ v. shape_of_command B v ≡ open_command [] c)
+      RowRead S h (a_command (level room) n) p rest (command_bodies c) (λ v. shape_of_command B v ≡ open_command [] c)
   unfolding a_command command_bodies
   command_read h m (simple is) n p rest t blank good normal f none token_is at =
       let d = deeper_some y m in
@@ -255,7 +263,7 @@ module _ {edition : Edition} {B T : List ℕ} {o : ℕ} {S : StandsIn edition B 
         later = r.later;
         at = r.at;
         texts = r.texts;
-        reads = second_of _ _ (ap is_word token_is ∙ no_word (told S Command p) b.1.no_item)
+        reads = second_of _ _ (ap is_word token_is ∙ no_word (edition_token S Command p) b.1.no_item)
             (second_of _ _ (ap begins_simple token_is ∙ b.1.no_item) r.reads);
         is = r.is;
       }
@@ -306,9 +314,9 @@ module _ {edition : Edition} {B T : List ℕ} {o : ℕ} {S : StandsIn edition B 
     later : Held
     at : At S later «end» rest
     reads : Gives (g S) (many (pipe_turn (level room)) (pipes_so_far acc n)) (state h p)
-        (pipes_so_far (acc ++ parts) (asked S Command «end»)) (state later (past_blanks T «end»))
+        (pipes_so_far (acc ++ parts) (edition_next S Command «end»)) (state later (past_blanks T «end»))
     shape : shape_of_pipes B (pipeline_parts_of parts) ≡ open_pipes [] cs
-    texts : Adds S h later (pipes_bodies cs)
+    texts : AddsBodies S h later (pipes_bodies cs)
 
   -- the shape of further commands by that of the first and those of the others
   pipes_shape : (q : APipelinePart) (qs : Row APipelinePart) (j : AJoinOf Text) (c : Shape ACommandOf)
@@ -341,11 +349,11 @@ module _ {edition : Edition} {B T : List ℕ} {o : ℕ} {S : StandsIn edition B 
     later : Held
     at : At S later «end» ms
     reads : Gives (g S) (pipe_turn (level room) (pipes_so_far acc n)) (state h p)
-        (again (pipes_so_far (acc ++ part ∷ []) (asked S Command «end»))) (state later (past_blanks T «end»))
+        (again (pipes_so_far (acc ++ part ∷ []) (edition_next S Command «end»))) (state later (past_blanks T «end»))
     on : leads_on (g S) (state h p) (state later (past_blanks T «end»)) ≡ true
     join_is : shape_of_join B part.join ≡ j
     command_is : shape_of_command B part.command ≡ open_command [] c
-    texts : Adds S h later (command_bodies c)
+    texts : AddsBodies S h later (command_bodies c)
 
   -- a `|` is read with its join and its command
   one_pipe : (h : Held) (m : Text) (d : Text) (j : AJoinOf Text) (c : Shape ACommandOf) (acc : Row APipelinePart)
@@ -388,7 +396,7 @@ module _ {edition : Edition} {B T : List ℕ} {o : ℕ} {S : StandsIn edition B 
   pipes_read : (h : Held) (m : Text) (b : Bool) (cs : Shape PipelinePartsOf) (acc : Row APipelinePart) (e : ℕ)
       (rest : Marks) (t : Token) → all_blank m ≡ true → GoodPipes edition room cs → are_normal_pipes cs ≡ true
       → Follower S rest t → begins_simple t ≡ false → is_pipe t ≡ false → At S h e (print_pipes y m b cs ++ rest) →
-      PipesRead h acc (asked S Command e) (past_blanks T e) cs rest
+      PipesRead h acc (edition_next S Command e) (past_blanks T e) cs rest
   unfolding pipe_turn open_pipes pipes_bodies
   pipes_read h m b no_pipe acc e rest t blank good normal f none not_pipe at = record {
     parts = [];
@@ -415,7 +423,7 @@ module _ {edition : Edition} {B T : List ℕ} {o : ℕ} {S : StandsIn edition B 
       let at_q = subst (λ r. At S h r (text (codes "|") ∷ (join_rest y m j ++ X))) (sym gap.blanks)
       (at_text S h e (codes " ") (text (codes "|") ∷ (join_rest y m j ++ X)) there) in
       let follow = pipes_follow m (b || breaks_line j) cs rest t f none in
-      let one = one_pipe h m d j c acc (asked S Command e) q ms follow.token blank
+      let one = one_pipe h m d j c acc (edition_next S Command e) q ms follow.token blank
       (operand_blank y m (b || breaks_line j) blank) first_parts.0 good.0 good.1 first_parts.1 follow.follower
       follow.no_item
       (ap (λ (n : Next). is_pipe n.token) n_is) (ap (λ (n : Next). n.broken) n_is) at_q in
@@ -426,8 +434,9 @@ module _ {edition : Edition} {B T : List ℕ} {o : ℕ} {S : StandsIn edition B 
         «end» = others.«end»;
         later = others.later;
         at = others.at;
-        reads = pipes_more h one.later others.later acc (asked S Command e) q one.part (asked S Command one.«end»)
-            (past_blanks T one.«end») others.parts (asked S Command others.«end»)
+        reads = pipes_more h one.later others.later acc (edition_next S Command e) q one.part
+            (edition_next S Command one.«end»)
+            (past_blanks T one.«end») others.parts (edition_next S Command others.«end»)
             (past_blanks T others.«end») one.reads one.on others.reads;
         shape = pipes_shape one.part others.parts j c cs one.join_is one.command_is others.shape;
         texts = λ ts. others.texts ts ∙ one.texts (pipes_bodies cs ts);
@@ -440,25 +449,25 @@ module _ {edition : Edition} {B T : List ℕ} {o : ℕ} {S : StandsIn edition B 
   -- a command begins a pipeline, and so does `!`
   command_pipeline : (p : ℕ) → Begins S p → PipelineBegins S p
   command_pipeline p b =
-      let t = told S Command p in
+      let t = edition_token S Command p in
       record {
         operand = begins_operand S p b;
         begins = or_between (begins_simple t) (is_bang t) (is_some (opener_of t)) b.command;
       }
 
   bang_begins : (h : Held) (p : ℕ) (ms : Marks) → At S h p (text (codes "! ") ∷ ms) → PipelineBegins S p
-      × (is_bang (told S Command p) ≡ true)
+      × (is_bang (edition_token S Command p) ≡ true)
   bang_begins h p ms at =
       let k = bang_here T p space (lay h ms) refl refl (at ∙ laid_text h (codes "! ") ms) in (
         record {
           operand = record {
             start = k.start;
-            no_comment = no_sharp S p k.start.place (ap is_comment (tell S k.token));
-            no_newline = ap is_newline_token (tell S k.token);
+            no_comment = no_sharp S p k.start.place (ap is_comment (edition_same S k.token));
+            no_newline = ap is_newline_token (edition_same S k.token);
           };
-          begins = ap begins_pipeline (tell S k.token);
+          begins = ap begins_pipeline (edition_same S k.token);
         },
-        ap is_bang (tell S k.token),
+        ap is_bang (edition_same S k.token),
       )
 
   -- what is printed of a pipeline, by its parts
@@ -490,16 +499,16 @@ module _ {edition : Edition} {B T : List ℕ} {o : ℕ} {S : StandsIn edition B 
     q : ℕ
     reads : Gives (g S) (a_bang n) (state h p) (value, next) (state h q)
     at : At S h q ms
-    token_is : next.token ≡ told S Command q
+    token_is : next.token ≡ edition_token S Command q
     shape : shape_of_bang value ≡ bang
 
   -- `!` is read, or none
   bang_read : (h : Held) (n : Next) (p : ℕ) (bang : Option (Unit {0})) (ms : Marks) →
-      ((q : ℕ) → At S h q ms → Begins S q) → n.token ≡ told S Command p → At S h p (print_bang bang ++ ms) →
+      ((q : ℕ) → At S h q ms → Begins S q) → n.token ≡ edition_token S Command p → At S h p (print_bang bang ++ ms) →
       BangRead h n p bang ms
   unfolding a_bang
   bang_read h n p None ms begins token_is at =
-      let other = no_other (told S Command p) (begins p at).command in
+      let other = no_other (edition_token S Command p) (begins p at).command in
       record {
         value = None;
         next = n;
@@ -518,7 +527,7 @@ module _ {edition : Edition} {B T : List ℕ} {o : ℕ} {S : StandsIn edition B 
       let gap = margin_gap S h (codes " ") (p + 1) ms refl at_space (begins (p + 1 + 1) at_after).start in
       record {
         value = Some (span o p (p + 1));
-        next = asked S Command (p + 1);
+        next = edition_next S Command (p + 1);
         q = past_blanks T (p + 1);
         reads = first_of _ _ (ap is_bang token_is ∙ (bang_begins h p ms at).1)
             (told_here (by (codes "!")) moved ⟫ next_read S h Command (p + 1) ⟫ given_here);
@@ -539,9 +548,10 @@ module _ {edition : Edition} {B T : List ℕ} {o : ℕ} {S : StandsIn edition B 
   -- a pipeline is read where it is printed
   pub pipeline_read : (h : Held) (m : Text) (x : Shape APipelineOf) (n : Next) (p : ℕ) (rest : Marks) (t : Token)
       → all_blank m ≡ true → GoodPipeline edition room x → is_normal_pipeline x ≡ true
-      → Follower S rest t → begins_simple t ≡ false → is_pipe t ≡ false → n.token ≡ told S Command p →
+      → Follower S rest t → begins_simple t ≡ false → is_pipe t ≡ false → n.token ≡ edition_token S Command p →
       At S h p (print_pipeline y m x ++ rest)
-      → Got S h (a_pipeline (level room) n) p rest (pipeline_bodies x) (λ v. shape_of_pipeline B v ≡ open_pipeline [] x)
+      → RowRead S h (a_pipeline (level room) n) p rest (pipeline_bodies x)
+      (λ v. shape_of_pipeline B v ≡ open_pipeline [] x)
   unfolding a_pipeline pipeline_bodies
   pipeline_read h m (pipeline bang c cs) n p rest t blank good normal f none not_pipe token_is at =
       let parts = and_parts _ _ normal in
@@ -646,12 +656,12 @@ module _ {edition : Edition} {B T : List ℕ} {o : ℕ} {S : StandsIn edition B 
     later : Held
     at : At S later «end» ms
     reads : Gives (g S) (and_or_turn (level room) (and_or_so_far acc n)) (state h p)
-        (again (and_or_so_far (acc ++ part ∷ []) (asked S Command «end»))) (state later (past_blanks T «end»))
+        (again (and_or_so_far (acc ++ part ∷ []) (edition_next S Command «end»))) (state later (past_blanks T «end»))
     on : leads_on (g S) (state h p) (state later (past_blanks T «end»)) ≡ true
     operator_is : part.operator ≡ k
     join_is : shape_of_join B part.join ≡ j
     pipeline_is : shape_of_pipeline B part.pipeline ≡ open_pipeline [] x
-    texts : Adds S h later (pipeline_bodies x)
+    texts : AddsBodies S h later (pipeline_bodies x)
 
   -- each of the two operators has two bytes
   operator_length : (k : AndOrOperator) → length (and_or_text k) ≡ 2
@@ -712,9 +722,9 @@ module _ {edition : Edition} {B T : List ℕ} {o : ℕ} {S : StandsIn edition B 
     later : Held
     at : At S later «end» rest
     reads : Gives (g S) (many (and_or_turn (level room)) (and_or_so_far acc n)) (state h p)
-        (and_or_so_far (acc ++ parts) (asked S Command «end»)) (state later (past_blanks T «end»))
+        (and_or_so_far (acc ++ parts) (edition_next S Command «end»)) (state later (past_blanks T «end»))
     shape : shape_of_and_or_parts B (and_or_parts_of parts) ≡ open_and_or_parts [] xs
-    texts : Adds S h later (and_or_parts_bodies xs)
+    texts : AddsBodies S h later (and_or_parts_bodies xs)
 
   -- one pipeline before others
   parts_more : (h k later : Held) (acc : Row AnAndOrPart) (n : Next) (p : ℕ) (q : AnAndOrPart) (next : Next)
@@ -752,7 +762,7 @@ module _ {edition : Edition} {B T : List ℕ} {o : ℕ} {S : StandsIn edition B 
       (rest : Marks) (t : Token) → all_blank m ≡ true → GoodParts edition room xs → are_normal_and_ors xs ≡ true
       → Follower S rest t → begins_simple t ≡ false → is_pipe t ≡ false → and_or_operator_of t ≡ None →
       At S h e (print_and_or_parts y m b xs ++ rest) →
-      PartsRead h acc (asked S Command e) (past_blanks T e) xs rest
+      PartsRead h acc (edition_next S Command e) (past_blanks T e) xs rest
   unfolding open_and_or_parts and_or_parts_bodies
   parts_read h m b no_and_or acc e rest t blank good normal f none not_pipe no_operator at = record {
     parts = [];
@@ -761,7 +771,7 @@ module _ {edition : Edition} {B T : List ℕ} {o : ℕ} {S : StandsIn edition B 
     at = at;
     reads = rw (append-nil acc)
         (last_turn (and_or_turn (level room))
-        (no_part h acc (asked S Command e) (past_blanks T e)
+        (no_part h acc (edition_next S Command e) (past_blanks T e)
         (ap (λ (n : Next). and_or_operator_of n.token) (f.seen_as h e at Command) ∙ no_operator)));
     shape = refl;
     texts = λ ts. refl;
@@ -779,7 +789,7 @@ module _ {edition : Edition} {B T : List ℕ} {o : ℕ} {S : StandsIn edition B 
       let at_q = subst (λ r. At S h r (text (and_or_text k) ∷ (join_rest y m j ++ X))) (sym gap.blanks)
       (at_text S h e (codes " ") (text (and_or_text k) ∷ (join_rest y m j ++ X)) there) in
       let follow = parts_follow m (b || breaks_line j) xs rest t f none not_pipe in
-      let one = one_part h m d k j x acc (asked S Command e) q ms follow.token blank
+      let one = one_part h m d k j x acc (edition_next S Command e) q ms follow.token blank
       (operand_blank y m (b || breaks_line j) blank) first_parts.0 good.0 good.1 first_parts.1 follow.follower
       follow.no_item follow.not_pipe
       (ap (λ (n : Next). and_or_operator_of n.token) n_is ∙ (operator_no_item k).2)
@@ -791,8 +801,9 @@ module _ {edition : Edition} {B T : List ℕ} {o : ℕ} {S : StandsIn edition B 
         «end» = others.«end»;
         later = others.later;
         at = others.at;
-        reads = parts_more h one.later others.later acc (asked S Command e) q one.part (asked S Command one.«end»)
-            (past_blanks T one.«end») others.parts (asked S Command others.«end»)
+        reads = parts_more h one.later others.later acc (edition_next S Command e) q one.part
+            (edition_next S Command one.«end»)
+            (past_blanks T one.«end») others.parts (edition_next S Command others.«end»)
             (past_blanks T others.«end») one.reads one.on others.reads;
         shape = parts_shape one.part others.parts k j x xs one.operator_is one.join_is one.pipeline_is
             others.shape;
@@ -825,8 +836,8 @@ module _ {edition : Edition} {B T : List ℕ} {o : ℕ} {S : StandsIn edition B 
   pub and_or_read : (h : Held) (m : Text) (a : Shape AnAndOrOf) (n : Next) (p : ℕ) (rest : Marks) (t : Token) →
       all_blank m ≡ true → GoodAndOr edition room a → is_normal_and_or a ≡ true
       → Follower S rest t → begins_simple t ≡ false → is_pipe t ≡ false → and_or_operator_of t ≡ None →
-      n.token ≡ told S Command p → At S h p (print_and_or y m a ++ rest)
-      → Got S h (an_and_or (level room) n) p rest (and_or_bodies a) (λ v. shape_of_and_or B v ≡ open_and_or [] a)
+      n.token ≡ edition_token S Command p → At S h p (print_and_or y m a ++ rest)
+      → RowRead S h (an_and_or (level room) n) p rest (and_or_bodies a) (λ v. shape_of_and_or B v ≡ open_and_or [] a)
   unfolding an_and_or and_or_bodies
   and_or_read h m (and_or x xs) n p rest t blank good normal f none not_pipe no_operator token_is at =
       let parts = and_parts _ _ normal in

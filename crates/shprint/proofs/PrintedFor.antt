@@ -15,7 +15,7 @@ use Rattle.shast.specs.Normal.{is_normal_form, are_normal_words}
 use Rattle.shgrammar.specs.Compounds.{a_for, a_for_head, a_for_name, a_sequential_sep, for_words, headed, a_group, closing_text, is_closing}
 use Rattle.shgrammar.specs.Commands.{a_semicolon, is_semicolon, join_so_far, a_join_of, is_newline_token, begins_word}
 use Rattle.shast.specs.Opened.{entries_bodies, form_bodies, opened, open_form}
-use Rattle.shgrammar.proofs.Elsewhere.{item_is_word}
+use Rattle.shgrammar.proofs.ItemsAnywhere.{item_is_word}
 use Rattle.shast.specs.Shape.{Text, Shape, shape_of, shape_of_form, shape_of_for_words, shape_of_word}
 use Rattle.shast.specs.Tree.{AWordOf, ForWordsOf, ForWords, no_in, in_words, AWord, EntriesOf, Entries, AForm, for_in, items_of, ItemsOf}
 use Rattle.shprint.specs.declared.layout.Layout.{Layout}
@@ -26,9 +26,9 @@ use Rattle.shprint.proofs.Gives.{Gives, ◌⟫◌, given_here, seen_here, first_
 use Rattle.shprint.proofs.Held.{At, Followed, Held, StandsIn, g, held_bytes, lay, state, texts_of}
 use Rattle.shprint.proofs.BodiesOfParts.{for_words_open, for_words_bodies}
 use Rattle.shprint.proofs.Good.{GoodForWords, GoodName, GoodForm}
-use Rattle.shprint.proofs.PrintedText.{laid_text, Alike, laid_same, deeper_blank, deeper_some, no_more, Adds, at_text, asked, asked_after, tell_word, next_read, margin_gap, follower_after, printed_word, one_moved}
+use Rattle.shprint.proofs.PrintedText.{laid_text, Alike, laid_same, deeper_blank, deeper_some, no_more, AddsBodies, at_text, edition_next, edition_next_after, edition_word, next_read, margin_gap, follower_after, printed_word, one_moved}
 use Rattle.shprint.proofs.PrintedItems.{items_follow, items_read}
-use Rattle.shprint.proofs.PrintedCommands.{Fine}
+use Rattle.shprint.proofs.PrintedCommands.{CompoundsRead}
 use Rattle.shprint.proofs.PrintedReserved.{follows_end, Ends, line_end_end, Key, ReservedRead, reserved_read, do_key, done_key, in_key, Finished, semicolon_follower, no_lines, no_semicolon, closing_read}
 use Rattle.shprint.proofs.PrintedGroups.{block_marks, body_read}
 
@@ -60,7 +60,7 @@ module _ (y : Layout) where
       (λ held. refl) held)
 
 module _ {edition : Edition} {B T : List ℕ} {o : ℕ} {S : StandsIn edition B T o} {room : ℕ} {y : Layout}
-    (fine : Fine S room y) where
+    (fine : CompoundsRead S room y) where
   -- ---- the name
 
   -- the name of a for
@@ -68,8 +68,8 @@ module _ {edition : Edition} {B T : List ℕ} {o : ℕ} {S : StandsIn edition B 
     value : AWord
     e : ℕ
     at : At S h e ms
-    reads : Gives (g S) (a_for_name (level room) (asked S Suffix f)) (state h (past_blanks T f))
-        (value, asked S Command e)
+    reads : Gives (g S) (a_for_name (level room) (edition_next S Suffix f)) (state h (past_blanks T f))
+        (value, edition_next S Command e)
         (state h (past_blanks T e))
     shape : shape_of_word B value ≡ name
 
@@ -90,8 +90,8 @@ module _ {edition : Edition} {B T : List ℕ} {o : ℕ} {S : StandsIn edition B 
       let at_q = subst (λ r. At S h r (text t ∷ ms)) (sym gap.blanks) at_after in
       let there_q = at_q ∙ laid_text h t ms in
       let v = (good.reads.there (g S) q (lay h ms) there_q (follow (held_bytes h.waiting))).word B (sym S.here) in
-      let begins = ap (λ (n : Next). begins_word n.token) (asked_after S Suffix gap)
-      ∙ ap begins_word (tell_word S (item_is_word good.token good.begins) found.token_is) ∙ good.begins in
+      let begins = ap (λ (n : Next). begins_word n.token) (edition_next_after S Suffix gap)
+      ∙ ap begins_word (edition_word S (item_is_word good.token good.begins) found.token_is) ∙ good.begins in
       record {
         value = v.0;
         e = e;
@@ -111,17 +111,17 @@ module _ {edition : Edition} {B T : List ℕ} {o : ℕ} {S : StandsIn edition B 
     e : ℕ
     later : Held
     key : ReservedRead S later e reserved.Do ms
-    reads : Gives (g S) (a_for_head (level room) (asked S Command f)) (state h (past_blanks T f))
-        (headed value (join_so_far (a_join_of false []) (asked S Command e))) (state later (past_blanks T e))
+    reads : Gives (g S) (a_for_head (level room) (edition_next S Command f)) (state h (past_blanks T f))
+        (headed value (join_so_far (a_join_of false []) (edition_next S Command e))) (state later (past_blanks T e))
     shape : shape_of_for_words B value ≡ words
-    texts : Adds S h later no_more
+    texts : AddsBodies S h later no_more
 
   -- `;` and the word after it
   sequential_sep_read : (h : Held) (e : ℕ) (w : Text) (r : Reserved) (ms : Marks) → Key S w r ms →
       At S h e (text (codes "; ") ∷ text w ∷ ms)
       → (k : ReservedRead S h (past_blanks T e + 1) r ms)
-      × Gives (g S) (a_sequential_sep (level room) [] (asked S Command e)) (state h (past_blanks T e))
-      (join_so_far (a_join_of false []) (asked S Command (past_blanks T e + 1)))
+      × Gives (g S) (a_sequential_sep (level room) [] (edition_next S Command e)) (state h (past_blanks T e))
+      (join_so_far (a_join_of false []) (edition_next S Command (past_blanks T e + 1)))
       (state h (past_blanks T (past_blanks T e + 1)))
   unfolding a_sequential_sep a_semicolon
   sequential_sep_read h e w r ms key at =
@@ -137,7 +137,7 @@ module _ {edition : Edition} {B T : List ℕ} {o : ℕ} {S : StandsIn edition B 
         k,
         first_of _ _ (ap (λ (n : Next). is_semicolon n.token) n_is)
             (moved ⟫ next_read S h Command (q + 1) ⟫ given_here)
-            ⟫ no_lines S h (asked S Command (q + 1)) (past_blanks T (q + 1)) k.not_comment
+            ⟫ no_lines S h (edition_next S Command (q + 1)) (past_blanks T (q + 1)) k.not_comment
             (ap is_newline_token k.token_is) ⟫ given_here,
       )
 
@@ -158,7 +158,7 @@ module _ {edition : Edition} {B T : List ℕ} {o : ℕ} {S : StandsIn edition B 
       (deeper_blank y m blank) some_margin.2 X follower.follow
       (follower_after S follower refl) h good.items [] k.f (λ none. (and_parts _ _ normal).0) k.at in
       let sep = sequential_sep_read is.later is.«end» (codes "do") reserved.Do ms (do_key S ms stop) is.at in
-      let n = asked S Command f in
+      let n = edition_next S Command f in
       let q = past_blanks T f in
       record {
         value = in_words (items_of is.more_items_read);
@@ -181,7 +181,7 @@ module _ {edition : Edition} {B T : List ℕ} {o : ℕ} {S : StandsIn edition B 
   unfolding a_for_head
   head_read h m no_in f ms blank good normal stop at =
       let k = reserved_read S h (codes " ") (codes "do") reserved.Do f ms refl (do_key S ms stop) at in
-      let n = asked S Command f in
+      let n = edition_next S Command f in
       let q = past_blanks T f in
       record {
         value = no_in;
@@ -212,7 +212,7 @@ module _ {edition : Edition} {B T : List ℕ} {o : ℕ} {S : StandsIn edition B 
       → is_normal_form (for_in name words body) ≡ true → Ends rest →
       At S h f (text (codes " ") ∷
       (print_word name ++ head_marks y m words (block_marks y m body (text (codes "done") ∷ rest))))
-      → Finished S h AForm (a_for (level room) (asked S Suffix f)) (past_blanks T f) rest
+      → Finished S h AForm (a_for (level room) (edition_next S Suffix f)) (past_blanks T f) rest
       (form_bodies (for_in name words body)) (λ v. shape_of_form B v ≡ open_form [] (for_in name words body))
   unfolding a_for a_group form_bodies
   for_read h m name words body f rest blank good normal stop at =

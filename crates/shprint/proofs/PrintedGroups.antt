@@ -31,8 +31,8 @@ use Rattle.shprint.proofs.Tokens.{close_token, byte_here, start_here, all_blank,
 use Rattle.shprint.proofs.Gives.{Gives, gives_on, ◌⟫◌, given_here, pushed_here, first_of, last_turn, one_turn}
 use Rattle.shprint.proofs.Held.{At, Held, StandsIn, g, lay, state}
 use Rattle.shprint.proofs.Good.{GoodEntries, GoodAndOr}
-use Rattle.shprint.proofs.PrintedText.{laid_text, deeper_blank, Adds, at_text, leads, told, asked, tell, no_byte, no_newline_read, no_comment_read, margin_gap, PipelineBegins}
-use Rattle.shprint.proofs.PrintedCommands.{Fine, and_or_begins, and_or_read}
+use Rattle.shprint.proofs.PrintedText.{laid_text, deeper_blank, AddsBodies, at_text, leads, edition_token, edition_next, edition_same, no_byte, no_newline_read, no_comment_read, margin_gap, PipelineBegins}
+use Rattle.shprint.proofs.PrintedCommands.{CompoundsRead, and_or_begins, and_or_read}
 use Rattle.shprint.proofs.PrintedLists.{at_line_start, on_this_line, some_separator, no_remark, pipeline_within, Closes, no_entry_turn, list_of, block_read}
 use Rattle.shprint.proofs.PrintedReserved.{Ends, line_end_end, space_end, Key, ReservedRead, paren_alone, reserved_read, reserved_closes, brace_key, Finished, semicolon_follower, closing_read}
 
@@ -80,7 +80,7 @@ module _ (y : Layout) where
       (print_entries y (deeper y m) es ++ one m) ms
 
 module _ {edition : Edition} {B T : List ℕ} {o : ℕ} {S : StandsIn edition B T o} {room : ℕ} {y : Layout}
-    (fine : Fine S room y) where
+    (fine : CompoundsRead S room y) where
   -- ---- bodies
 
   -- a list in a compound command, and the reserved word after it
@@ -89,11 +89,11 @@ module _ {edition : Edition} {B T : List ℕ} {o : ℕ} {S : StandsIn edition B 
     pub e : ℕ
     pub later : Held
     pub key : ReservedRead S later e r ms
-    pub reads : Gives (g S) (a_list (level room) (asked S Command f)) (state h (past_blanks T f))
-        (value, asked S Command e)
+    pub reads : Gives (g S) (a_list (level room) (edition_next S Command f)) (state h (past_blanks T f))
+        (value, edition_next S Command e)
         (state later (past_blanks T e))
     pub shape : shape_of B value ≡ opened [] es
-    pub texts : Adds S h later (entries_bodies es)
+    pub texts : AddsBodies S h later (entries_bodies es)
 
   -- a list on lines of its own is read, up to the word after its margin
   pub body_read : (h : Held) (m : Text) (es : Shape EntriesOf) (f : ℕ) (w : Text) (r : Reserved) (ms : Marks) →
@@ -122,14 +122,15 @@ module _ {edition : Edition} {B T : List ℕ} {o : ℕ} {S : StandsIn edition B 
     later : Held
     at : At S later f (text (codes " ") ∷ ms)
     reads : Gives (g S) (an_entry (level room) false n) (state h p)
-        (record { entry = value; parted = Some (o + f); next = asked S Command f }) (state later (past_blanks T f))
+        (record { entry = value; parted = Some (o + f); next = edition_next S Command f })
+        (state later (past_blanks T f))
     on : p < past_blanks T f
     shape : shape_of_entry B value ≡ open_entry [] (entry (command a) false false None)
-    texts : Adds S h later (and_or_bodies a)
+    texts : AddsBodies S h later (and_or_bodies a)
 
   -- the command of a condition is read with the `;` after it
   short_read : (h : Held) (m : Text) (a : Shape AnAndOrOf) (n : Next) (p : ℕ) (ms : Marks) → all_blank m ≡ true →
-      GoodAndOr edition room a → is_normal_and_or a ≡ true → n.token ≡ told S Command p
+      GoodAndOr edition room a → is_normal_and_or a ≡ true → n.token ≡ edition_token S Command p
       → ((h : Held) (f : ℕ) → At S h f (text (codes " ") ∷ ms) → Closes S f) →
       At S h p (print_and_or y m a ++ (text (codes "; ") ∷ ms)) → ShortRead h n p a ms
   unfolding an_entry open_entry open_content
@@ -151,22 +152,41 @@ module _ {edition : Edition} {B T : List ℕ} {o : ℕ} {S : StandsIn edition B 
         f = q + 1;
         later = k;
         at = at_after;
-        reads = and_or_got.reads ⟫ some_separator S k (asked S Command and_or_got.«end») q Semicolon
+        reads = and_or_got.reads ⟫ some_separator S k (edition_next S Command and_or_got.«end») q Semicolon
             (ap (λ (n : Next). separator_of n.token) n_is) the_semicolon.place_after
-            ⟫ no_comment_read S k (asked S Command (q + 1)) (past_blanks T (q + 1))
+            ⟫ no_comment_read S k (edition_next S Command (q + 1)) (past_blanks T (q + 1))
             (closes k (q + 1) at_after).not_comment ⟫ given_here;
         on = omega (arith, low, blanks_low T (q + 1));
         shape = ap (λ a. entry (command a) false false None) and_or_got.is;
         texts = and_or_got.texts;
       }
 
-  -- so is the whole condition, up to the word after that
+  -- the line of that entry is read, up to what ends the list
+  short_entry_line : (h : Held) (n : Next) (p : ℕ) (a : Shape AnAndOrOf) (ms : Marks) (r : ShortRead h n p a ms) →
+      Closes S r.f → begins_pipeline n.token ≡ true → p < length T
+      → Gives (g S) (list_turn (level room) (list_so_far (none_listed false) n)) (state h p)
+      (done (list_so_far (at_line_start (r.value ∷ []) false true (Some (o + r.f))) (edition_next S Command r.f)))
+      (state r.later (past_blanks T r.f))
+  unfolding list_turn on_line entry_turn one_entry
+  short_entry_line h n p a ms r c begins within =
+      let k = r.later in
+      let z = edition_next S Command r.f in
+      let q = past_blanks T r.f in
+      let l = on_this_line (r.value ∷ []) false true (Some (o + r.f)) in
+      let one_entry_read : Gives (g S) (entry_turn (level room) (list_so_far (none_listed false) n)) (state h p)
+      (again (list_so_far l z)) (state k q) =
+      first_of _ _ begins (r.reads ⟫ pushed_here [] r.value ⟫ given_here) in
+      let entries_read = one_turn (entry_turn (level room)) one_entry_read (leads S h k p q r.on within)
+      (last_turn (entry_turn (level room)) (no_entry_turn fine k l z q c.not_entry)) in
+      (entries_read ⟫ no_remark S k l z q c.not_comment) ⟫ no_newline_read S k z q c.not_newline ⟫ given_here
+
+  -- so is the whole condition on one line, up to the word after that
   short_line : (h : Held) (m : Text) (a : Shape AnAndOrOf) (f : ℕ) (w : Text) (r : Reserved) (ms : Marks) →
       all_blank m ≡ true → GoodAndOr edition room a → is_normal_and_or a ≡ true → Key S w r ms
       → begins_pipeline (tokens.Reserved r) ≡ false →
       At S h f (text (codes " ") ∷ (print_and_or y m a ++ (text (codes "; ") ∷ text w ∷ ms))) →
       InnerList h f (one_command_list a) r ms
-  unfolding list_turn on_line entry_turn one_entry a_list opened entries_bodies entry_bodies content_bodies
+  unfolding a_list opened entries_bodies entry_bodies content_bodies
   short_line h m a f w r ms blank good normal key none at =
       let A = print_and_or y m a ++ (text (codes "; ") ∷ text w ∷ ms) in
       let follower = semicolon_follower S (text w ∷ ms) in
@@ -178,27 +198,14 @@ module _ {edition : Edition} {B T : List ℕ} {o : ℕ} {S : StandsIn edition B 
       let p = past_blanks T f in
       let at_p = subst (λ q. At S h q A) (sym gap.blanks) at_after in
       let b = begins p at_p in
-      let n = asked S Command f in
+      let n = edition_next S Command f in
       let closes = reserved_closes S (codes " ") w r ms refl key none in
       let one_read = short_read h m a n p (text w ∷ ms) blank good normal refl closes at_p in
-      let k = one_read.later in
-      let c = closes k one_read.f one_read.at in
-      let v = one_read.value in
-      let z = asked S Command one_read.f in
-      let q = past_blanks T one_read.f in
-      let past = Some (o + one_read.f) in
-      let l = on_this_line (v ∷ []) false true past in
-      let one_entry_read : Gives (g S) (entry_turn (level room) (list_so_far (none_listed false) n)) (state h p)
-      (again (list_so_far l z)) (state k q) =
-      first_of _ _ b.begins (one_read.reads ⟫ pushed_here [] v ⟫ given_here) in
-      let entries_read = one_turn (entry_turn (level room)) one_entry_read
-      (leads S h k p q one_read.on (pipeline_within S p b))
-      (last_turn (entry_turn (level room)) (no_entry_turn fine k l z q c.not_entry)) in
-      let line_read : Gives (g S) (list_turn (level room) (list_so_far (none_listed false) n)) (state h p)
-      (done (list_so_far (at_line_start (v ∷ []) false true past) z)) (state k q) =
-      (entries_read ⟫ no_remark S k l z q c.not_comment) ⟫ no_newline_read S k z q c.not_newline ⟫ given_here in
-      let got = list_of fine h k (one_command_list a) n p (text (codes " ") ∷ text w ∷ ms)
-      (v ∷ []) false past one_read.f (last_turn (list_turn (level room)) line_read) refl one_read.at one_read.texts
+      let line_read = short_entry_line h n p a (text w ∷ ms) one_read (closes one_read.later one_read.f one_read.at)
+      b.begins (pipeline_within S p b) in
+      let got = list_of fine h one_read.later (one_command_list a) n p (text (codes " ") ∷ text w ∷ ms)
+      (one_read.value ∷ []) false (Some (o + one_read.f)) one_read.f (last_turn (list_turn (level room)) line_read) refl
+      one_read.at one_read.texts
       (ap (λ x. more_entries x no_entry) one_read.shape) in
       record {
         value = got.value;
@@ -236,7 +243,7 @@ module _ {edition : Edition} {B T : List ℕ} {o : ℕ} {S : StandsIn edition B 
 
   -- after a margin a `)` closes
   paren_line : (h : Held) (m : Text) (e : ℕ) (ms : Marks) → all_blank m ≡ true →
-      At S h e (text m ∷ text (codes ")") ∷ ms) → (told S Command (past_blanks T e) ≡ tokens.CloseParen)
+      At S h e (text m ∷ text (codes ")") ∷ ms) → (edition_token S Command (past_blanks T e) ≡ tokens.CloseParen)
       × At S h (past_blanks T e) (text (codes ")") ∷ ms)
   paren_line h m e ms blank at =
       let at_after = at_text S h e m (text (codes ")") ∷ ms) at in
@@ -244,7 +251,7 @@ module _ {edition : Edition} {B T : List ℕ} {o : ℕ} {S : StandsIn edition B 
       (start_here (byte_here T (e + length m) right_parenthesis (lay h ms) refl (at_after ∙ laid_text h (codes ")") ms))
       refl) in
       let at_q = subst (λ q. At S h q (text (codes ")") ∷ ms)) (sym gap.blanks) at_after in
-      (tell S (close_token Command T (past_blanks T e) (lay h ms) (at_q ∙ laid_text h (codes ")") ms)), at_q)
+      (edition_same S (close_token Command T (past_blanks T e) (lay h ms) (at_q ∙ laid_text h (codes ")") ms)), at_q)
 
   -- so no line of a list begins there
   paren_closes : (m : Text) (ms : Marks) → all_blank m ≡ true → (h : Held) (e : ℕ) →
@@ -262,7 +269,7 @@ module _ {edition : Edition} {B T : List ℕ} {o : ℕ} {S : StandsIn edition B 
   pub group_read : (h : Held) (m : Text) (es : Shape EntriesOf) (f : ℕ) (rest : Marks) → all_blank m ≡ true →
       GoodEntries edition room es → is_whole es ≡ true → are_normal es ≡ true → Ends rest
       → At S h f (block_marks y m es (text (codes "}") ∷ rest)) →
-      Finished S h Entries (a_group (level room) closings.Brace (asked S Command f)) (past_blanks T f) rest
+      Finished S h Entries (a_group (level room) closings.Brace (edition_next S Command f)) (past_blanks T f) rest
       (entries_bodies es) (λ v. shape_of B v ≡ opened [] es)
   unfolding a_group
   group_read h m es f rest blank good whole normal stop at =
@@ -284,7 +291,7 @@ module _ {edition : Edition} {B T : List ℕ} {o : ℕ} {S : StandsIn edition B 
   pub subshell_read : (h : Held) (m : Text) (es : Shape EntriesOf) (f : ℕ) (rest : Marks) → all_blank m ≡ true →
       GoodEntries edition room es → is_whole es ≡ true → are_normal es ≡ true
       → At S h f (block_marks y m es (text (codes ")") ∷ rest)) →
-      Finished S h Entries (a_group (level room) closings.Paren (asked S Command f)) (past_blanks T f) rest
+      Finished S h Entries (a_group (level room) closings.Paren (edition_next S Command f)) (past_blanks T f) rest
       (entries_bodies es) (λ v. shape_of B v ≡ opened [] es)
   unfolding a_group closing
   subshell_read h m es f rest blank good whole normal at =

@@ -25,19 +25,19 @@ use Rattle.shgrammar.specs.Commands.{Entered, an_entry, a_separator, separator_o
 use Rattle.shgrammar.proofs.MovedTrees.{pushed_some}
 use Rattle.shgrammar.proofs.Places.{blanks_low}
 use Rattle.shast.specs.Opened.{entries_bodies, entry_bodies, content_bodies, opened, open_entry, open_content, open_and_or}
-use Rattle.shgrammar.proofs.CommentsElsewhere.{CommentAnywhere}
+use Rattle.shgrammar.proofs.CommentsAnywhere.{CommentAnywhere}
 use Rattle.shast.specs.declared.tree.Span.{Span}
 use Rattle.shast.specs.Shape.{Text, Shape, shape_of_and_or, shape_of_comment, shape_of_entry, shape_of}
 use Rattle.shast.specs.Tree.{EntriesOf, no_entry, more_entries, entries_of, AContentOf, remark, AnEntryOf, AnEntry, entry, command, AnAndOr, AnAndOrOf}
 use Rattle.shprint.specs.declared.layout.Layout.{Layout}
 use Rattle.shprint.specs.Marks.{text, line_end, Marks, laid_after, one}
 use Rattle.shprint.specs.Printed.{print_content, print_entry, print_entries, print_blank, print_background, print_own_comment, print_and_or}
-use Rattle.shprint.proofs.Tokens.{ampersand_token, first, byte_here, newline_token, start_here, Start, all_blank, blank_gap, no_gap, next_one}
+use Rattle.shprint.proofs.Tokens.{ampersand_token, byte_here, newline_token, start_here, Start, all_blank, blank_gap, no_gap, next_one}
 use Rattle.shprint.proofs.Gives.{Gives, gives_on, told_here, ◌⟫◌, given_here, pushed_here, first_of, second_of, last_turn, one_turn}
 use Rattle.shprint.proofs.Held.{At, Held, StandsIn, g, lay, state}
 use Rattle.shprint.proofs.Good.{GoodContent, GoodEntries, GoodOwnComment, GoodAndOr}
-use Rattle.shprint.proofs.PrintedText.{laid_text, after_line, laid_line, Parted, no_more, Adds, at_text, some_here, leads, told, asked, asked_after, tell, next_read, Got, Follower, no_byte, newline_next, newline_read, no_newline_read, no_comment_read, comment_read, comment_shape, comment_start, margin_gap, PipelineBegins, one_moved}
-use Rattle.shprint.proofs.PrintedCommands.{Fine, and_or_begins, and_or_read}
+use Rattle.shprint.proofs.PrintedText.{laid_text, after_line, laid_line, Parted, no_more, AddsBodies, at_text, some_here, leads, edition_token, edition_next, edition_next_after, edition_same, next_read, RowRead, Follower, no_byte, newline_next, newline_read, no_newline_read, no_comment_read, comment_read, comment_shape, comment_start, margin_gap, PipelineBegins, one_moved}
+use Rattle.shprint.proofs.PrintedCommands.{CompoundsRead, and_or_begins, and_or_read}
 
 -- ---- entries and lines as they are printed
 
@@ -117,9 +117,10 @@ module _ {edition : Edition} {B T : List ℕ} {o : ℕ} (S : StandsIn edition B 
   }
 
   -- where a number sign is read a comment is told
-  sharp_token : (position : Position) (q : ℕ) → byte_at T q ≡ Some number_sign → told S position q ≡ tokens.Comment
+  sharp_token : (position : Position) (q : ℕ) → byte_at T q ≡ Some number_sign →
+      edition_token S position q ≡ tokens.Comment
   unfolding token_at
-  sharp_token position q e = tell S (ap (token_of position T q) e)
+  sharp_token position q e = edition_same S (ap (token_of position T q) e)
 
   -- a comment is told after its space
   comment_follower : (c : Text) (rest : Marks) → CommentAnywhere c →
@@ -134,7 +135,7 @@ module _ {edition : Edition} {B T : List ℕ} {o : ℕ} (S : StandsIn edition B 
         (at_after ∙ laid_text h c (line_end ∷ rest) ∙ ap (λ z. c ++ z) (laid_line h rest)) in
         let gap = margin_gap S h (codes " ") e (text c ∷ line_end ∷ rest) refl at
         (comment_start S h c (e + 1) rest good at_after) in
-        asked_after S position gap ∙ ap (λ t. record { token = t; broken = false })
+        edition_next_after S position gap ∙ ap (λ t. record { token = t; broken = false })
         (sharp_token position (e + 1) found.4);
   }
 
@@ -150,7 +151,7 @@ module _ {edition : Edition} {B T : List ℕ} {o : ℕ} (S : StandsIn edition B 
         let amp = next_one T e space (ampersand ∷ lay h ms) there in
         let start = start_here (byte_here T (e + 1) ampersand (lay h ms) refl amp) refl in
         let gap = blank_gap refl there (no_gap start) in
-        asked_after S position gap ∙ ap (λ t. record { token = token_in edition t; broken = false })
+        edition_next_after S position gap ∙ ap (λ t. record { token = token_in edition t; broken = false })
         (ampersand_token position T (e + 1) (parted h).c (parted h).cs (parted h).no_backslash
         (parted h).no_ampersand (amp ∙ ap (λ z. ampersand ∷ z) (parted h).is));
   }
@@ -188,7 +189,8 @@ module _ {edition : Edition} {B T : List ℕ} {o : ℕ} (S : StandsIn edition B 
     separator : Option ASeparator
     f : ℕ
     at : At S h f ms
-    reads : Gives (g S) (a_separator (asked S Command e)) (state h (past_blanks T e)) (separator, asked S Command f)
+    reads : Gives (g S) (a_separator (edition_next S Command e)) (state h (past_blanks T e))
+        (separator, edition_next S Command f)
         (state h (past_blanks T f))
     background_is : is_background separator ≡ background
     parted_is : is_some (past_separator separator) ≡ background
@@ -202,7 +204,7 @@ module _ {edition : Edition} {B T : List ℕ} {o : ℕ} (S : StandsIn edition B 
   -- a separator of one byte is read
   pub some_separator : (h : Held) (n : Next) (q : ℕ) (k : Separator) → separator_of n.token ≡ Some k →
       past_byte T q ≡ q + 1
-      → Gives (g S) (a_separator n) (state h q) (Some (k, o + (q + 1)), asked S Command (q + 1))
+      → Gives (g S) (a_separator n) (state h q) (Some (k, o + (q + 1)), edition_next S Command (q + 1))
       (state h (past_blanks T (q + 1)))
   unfolding a_separator
   some_separator h n q k e after_is =
@@ -227,7 +229,7 @@ module _ {edition : Edition} {B T : List ℕ} {o : ℕ} (S : StandsIn edition B 
         separator = Some (Ampersand, o + (q + 1));
         f = q + 1;
         at = the_ampersand.rest;
-        reads = some_separator h (asked S Command e) q Ampersand
+        reads = some_separator h (edition_next S Command e) q Ampersand
             (ap (λ (n : Next). separator_of n.token) n_is) the_ampersand.place_after;
         background_is = refl;
         parted_is = refl;
@@ -236,7 +238,7 @@ module _ {edition : Edition} {B T : List ℕ} {o : ℕ} (S : StandsIn edition B 
     separator = None;
     f = e;
     at = at;
-    reads = no_separator h (asked S Command e) (past_blanks T e)
+    reads = no_separator h (edition_next S Command e) (past_blanks T e)
         (ap (λ (n : Next). separator_of n.token) ((line_follower rest).seen_as h e at Command));
     background_is = refl;
     parted_is = refl;
@@ -245,7 +247,7 @@ module _ {edition : Edition} {B T : List ℕ} {o : ℕ} (S : StandsIn edition B 
     separator = None;
     f = e;
     at = at;
-    reads = no_separator h (asked S Command e) (past_blanks T e)
+    reads = no_separator h (edition_next S Command e) (past_blanks T e)
         (ap (λ (n : Next). separator_of n.token) ((comment_follower c rest good).seen_as h e at Command));
     background_is = refl;
     parted_is = refl;
@@ -256,7 +258,8 @@ module _ {edition : Edition} {B T : List ℕ} {o : ℕ} (S : StandsIn edition B 
     own : Option Span
     «end» : ℕ
     at : At S h «end» (line_end ∷ rest)
-    reads : Gives (g S) (a_comment (asked S Command f)) (state h (past_blanks T f)) (own, asked S Command «end»)
+    reads : Gives (g S) (a_comment (edition_next S Command f)) (state h (past_blanks T f))
+        (own, edition_next S Command «end»)
         (state h (past_blanks T «end»))
     shape : option_map (shape_of_comment B) own ≡ comment
 
@@ -270,7 +273,7 @@ module _ {edition : Edition} {B T : List ℕ} {o : ℕ} (S : StandsIn edition B 
         own = None;
         «end» = f;
         at = at;
-        reads = no_comment_read S h (asked S Command f) (past_blanks T f)
+        reads = no_comment_read S h (edition_next S Command f) (past_blanks T f)
             (no_byte S (past_blanks T f) newline_char (after_line h rest) number_sign refl (at_q ∙ laid_line h rest));
         shape = refl;
       }
@@ -284,7 +287,7 @@ module _ {edition : Edition} {B T : List ℕ} {o : ℕ} (S : StandsIn edition B 
         own = Some (span o q (q + length c));
         «end» = q + length c;
         at = at_text S h q c (line_end ∷ rest) at_q;
-        reads = comment_read S h c (asked S Command f) q rest good at_q;
+        reads = comment_read S h c (edition_next S Command f) q rest good at_q;
         shape = ap Some (comment_shape S h c q (line_end ∷ rest) at_q);
       }
 
@@ -298,7 +301,7 @@ module _ {edition : Edition} {B T : List ℕ} {o : ℕ} (S : StandsIn edition B 
 
   -- at the end of a line a newline token stands, and no blank or comment before it
   pub record LineEnd (h : Held) (e : ℕ) (rest : Marks) : Type 0 where
-    pub n_is : asked S Command e ≡ record { token = tokens.Newline; broken = false }
+    pub n_is : edition_next S Command e ≡ record { token = tokens.Newline; broken = false }
     pub q_is : past_blanks T e ≡ e
     pub at_q : At S h (past_blanks T e) (line_end ∷ rest)
     pub no_comment_q : raw_stands T (past_blanks T e) number_sign ≡ false
@@ -329,12 +332,12 @@ module _ {edition : Edition} {B T : List ℕ} {o : ℕ} (S : StandsIn edition B 
 
   -- what ends a list begins none of its lines
   pub record Closes (e : ℕ) : Type 0 where
-    pub not_entry : begins_pipeline (told S Command (past_blanks T e)) ≡ false
-    pub not_newline : is_newline_token (told S Command (past_blanks T e)) ≡ false
+    pub not_entry : begins_pipeline (edition_token S Command (past_blanks T e)) ≡ false
+    pub not_newline : is_newline_token (edition_token S Command (past_blanks T e)) ≡ false
     pub not_comment : raw_stands T (past_blanks T e) number_sign ≡ false
 
 module _ {edition : Edition} {B T : List ℕ} {o : ℕ} {S : StandsIn edition B T o} {room : ℕ} {y : Layout}
-    (fine : Fine S room y) where
+    (fine : CompoundsRead S room y) where
   -- ---- entries
 
   -- what is read of an entry, with the offset after its separator, up to the end of its line
@@ -346,11 +349,11 @@ module _ {edition : Edition} {B T : List ℕ} {o : ℕ} {S : StandsIn edition B 
     pub at : At S later «end» (line_end ∷ rest)
     pub parted : Option ℕ
     pub reads : Gives (g S) (an_entry (level room) blank n) (state h p)
-        (record { entry = value; parted = parted; next = asked S Command «end» })
+        (record { entry = value; parted = parted; next = edition_next S Command «end» })
         (state later (past_blanks T «end»))
     pub parted_is : is_some parted ≡ background
     pub shape : shape_of_entry B value ≡ open_entry [] (entry (command a) background blank comment)
-    pub texts : Adds S h later (entry_bodies (entry (command a) background blank comment))
+    pub texts : AddsBodies S h later (entry_bodies (entry (command a) background blank comment))
 
   -- an entry is in the background as its separator says
   entered_is : (blank : Bool) (a : AnAndOr) (s : Option ASeparator) (c : Option Span) (n : Next)
@@ -372,7 +375,7 @@ module _ {edition : Edition} {B T : List ℕ} {o : ℕ} {S : StandsIn edition B 
   -- an entry is read as it is printed, up to the end of its line
   pub entry_read : (h : Held) (m : Text) (blank : Bool) (a : Shape AnAndOrOf) (background : Bool)
       (comment : Option Text) (n : Next) (p : ℕ) (rest : Marks) → all_blank m ≡ true → GoodAndOr edition room a
-      → GoodOwnComment comment → is_normal_and_or a ≡ true → n.token ≡ told S Command p →
+      → GoodOwnComment comment → is_normal_and_or a ≡ true → n.token ≡ edition_token S Command p →
       At S h p (print_and_or y m a ++ entry_rest background comment rest) →
       EntryRead h blank n p a background comment rest
   unfolding an_entry entry_bodies content_bodies
@@ -385,7 +388,7 @@ module _ {edition : Edition} {B T : List ℕ} {o : ℕ} {S : StandsIn edition B 
       and_or_got.at in
       let comment_got = own_read S and_or_got.later comment rest separator_got.f good_c separator_got.at in
       let last_state = state and_or_got.later (past_blanks T comment_got.«end») in
-      let n_end = asked S Command comment_got.«end» in
+      let n_end = edition_next S Command comment_got.«end» in
       let is_entered = entered_is blank and_or_got.value separator_got.separator comment_got.own n_end background
       separator_got.background_is in
       record {
@@ -429,10 +432,11 @@ module _ {edition : Edition} {B T : List ℕ} {o : ℕ} {S : StandsIn edition B 
     pub later : Held
     pub at : At S later «end» (line_end ∷ rest)
     pub reads : Gives (g S) (on_line (level room) (list_so_far (at_line_start acc blank commands before) n)) (state h p)
-        (list_so_far (on_this_line (acc ++ value ∷ []) blank (commands || is_a_command) parted) (asked S Command «end»))
+        (list_so_far (on_this_line (acc ++ value ∷ []) blank (commands || is_a_command) parted)
+        (edition_next S Command «end»))
         (state later (past_blanks T «end»))
     pub shape : shape_of_entry B value ≡ open_entry [] e
-    pub texts : Adds S h later (entry_bodies e)
+    pub texts : AddsBodies S h later (entry_bodies e)
 
   -- the turns on a line read its one entry, by what is known of it
   one_entry_by : (h : Held) (acc : Row AnEntry) (blank commands : Bool) (before : Option ℕ) (n : Next) (p : ℕ)
@@ -441,33 +445,47 @@ module _ {edition : Edition} {B T : List ℕ} {o : ℕ} {S : StandsIn edition B 
       (r : EntryRead h (blank && true) n p a background comment rest) → p < past_blanks T r.«end»
       → Gives (g S) (many (entry_turn (level room)) (list_so_far (at_line_start acc blank commands before) n))
       (state h p)
-      (list_so_far (on_this_line (acc ++ r.value ∷ []) blank true r.parted) (asked S Command r.«end»))
+      (list_so_far (on_this_line (acc ++ r.value ∷ []) blank true r.parted) (edition_next S Command r.«end»))
       (state r.later (past_blanks T r.«end»))
   unfolding entry_turn one_entry
   one_entry_by h acc blank commands before n p a true comment rest begins within r on =
       let line = line_end_here S r.later r.«end» rest r.at in
-      let more = list_so_far (on_this_line (acc ++ r.value ∷ []) blank true r.parted) (asked S Command r.«end») in
+      let more = list_so_far (on_this_line (acc ++ r.value ∷ []) blank true r.parted)
+      (edition_next S Command r.«end») in
       let turned = first_of _ _ begins (r.reads ⟫ pushed_here acc r.value ⟫ given_here) in
       let read_one = subst (λ b. Gives (g S)
       (entry_turn (level room) (list_so_far (at_line_start acc blank commands before) n))
       (state h p) (step_if b more) (state r.later (past_blanks T r.«end»))) r.parted_is turned in
       one_turn (entry_turn (level room)) read_one (leads S h r.later p (past_blanks T r.«end») on within)
       (last_turn (entry_turn (level room))
-      (no_entry_turn r.later (on_this_line (acc ++ r.value ∷ []) blank true r.parted) (asked S Command r.«end»)
+      (no_entry_turn r.later (on_this_line (acc ++ r.value ∷ []) blank true r.parted) (edition_next S Command r.«end»)
       (past_blanks T r.«end») (ap (λ (n : Next). begins_pipeline n.token) line.n_is)))
   one_entry_by h acc blank commands before n p a false comment rest begins within r on =
-      let more = list_so_far (on_this_line (acc ++ r.value ∷ []) blank true r.parted) (asked S Command r.«end») in
+      let more = list_so_far (on_this_line (acc ++ r.value ∷ []) blank true r.parted)
+      (edition_next S Command r.«end») in
       let turned = first_of _ _ begins (r.reads ⟫ pushed_here acc r.value ⟫ given_here) in
       last_turn (entry_turn (level room))
       (subst (λ b. Gives (g S) (entry_turn (level room) (list_so_far (at_line_start acc blank commands before) n))
       (state h p)
       (step_if b more) (state r.later (past_blanks T r.«end»))) r.parted_is turned)
 
+  -- between a place where a pipeline begins and one where the line ends the reading has moved
+  moved_to_line_end : (h : Held) (p q : ℕ) (rest : Marks) → p ≤ q → PipelineBegins S p →
+      At S h q (line_end ∷ rest) → p < q
+  moved_to_line_end h p q rest low b at_q =
+      ⊎_elim (λ lt. lt) (λ ge. let same : p ≡ q = omega (arith, low, ge) in
+      absurd (both_ways (is_newline_token (edition_token S Command p)) b.operand.no_newline
+      (ap is_newline_token (edition_same S
+      (newline_token Command T p (after_line h rest)
+      (subst (λ r. drop r T ≡ newline_char ∷ after_line h rest) (sym same) (at_q ∙ laid_line h rest)))))))
+      (cases_lt p q)
+
   -- a command is read on its line
   command_on_line : (h : Held) (m : Text) (acc : Row AnEntry) (blank commands : Bool) (before : Option ℕ)
       (a : Shape AnAndOrOf) (background : Bool) (comment : Option Text) (n : Next) (p : ℕ) (rest : Marks) →
       all_blank m ≡ true
-      → GoodAndOr edition room a → GoodOwnComment comment → is_normal_and_or a ≡ true → n.token ≡ told S Command p →
+      → GoodAndOr edition room a → GoodOwnComment comment → is_normal_and_or a ≡ true →
+      n.token ≡ edition_token S Command p →
       At S h p (print_and_or y m a ++ entry_rest background comment rest)
       → OnLine h acc blank commands before n p (entry (command a) background blank comment) true rest
   unfolding on_line entry_bodies content_bodies
@@ -481,7 +499,8 @@ module _ {edition : Edition} {B T : List ℕ} {o : ℕ} {S : StandsIn edition B 
       at in
       let line = line_end_here S r.later r.«end» rest r.at in
       let low = gives_on (an_entry (level room) (blank && true) n) _ _ _ r.reads in
-      let on : p < past_blanks T r.«end» = must_move r.later p (past_blanks T r.«end») low b line.at_q in
+      let on : p < past_blanks T r.«end» = moved_to_line_end r.later p (past_blanks T r.«end») rest low b
+      line.at_q in
       let turns = one_entry_by h acc blank commands before n p a background comment rest
       (ap begins_pipeline token_is ∙ b.begins) (pipeline_within S p b) r on in
       record {
@@ -491,28 +510,19 @@ module _ {edition : Edition} {B T : List ℕ} {o : ℕ} {S : StandsIn edition B 
         later = r.later;
         at = r.at;
         reads = subst (λ c. Gives (g S) (on_line (level room) (list_so_far (at_line_start acc blank commands before) n))
-            (state h p) (list_so_far (on_this_line (acc ++ r.value ∷ []) blank c r.parted) (asked S Command r.«end»))
+            (state h p) (list_so_far (on_this_line (acc ++ r.value ∷ []) blank c r.parted)
+            (edition_next S Command r.«end»))
             (state r.later (past_blanks T r.«end»)))
             (sym (or-true commands)) (turns ⟫ no_remark S r.later
-            (on_this_line (acc ++ r.value ∷ []) blank true r.parted) (asked S Command r.«end»)
+            (on_this_line (acc ++ r.value ∷ []) blank true r.parted) (edition_next S Command r.«end»)
             (past_blanks T r.«end») line.no_comment_q);
         shape = r.shape ∙ ap (λ b. open_entry [] (entry (command a) background b comment)) (and-true blank);
         texts = r.texts;
       }
-    where
-      -- between a place where a pipeline begins and one where the line ends the reading has moved
-      must_move : (h : Held) (p q : ℕ) → p ≤ q → PipelineBegins S p → At S h q (line_end ∷ rest) → p < q
-      must_move h p q low b at_q =
-          ⊎_elim (λ lt. lt) (λ ge. let same : p ≡ q = omega (arith, low, ge) in
-          absurd (both_ways (is_newline_token (told S Command p)) b.operand.no_newline
-          (ap is_newline_token (tell S
-          (newline_token Command T p (after_line h rest)
-          (subst (λ r. drop r T ≡ newline_char ∷ after_line h rest) (sym same) (at_q ∙ laid_line h rest)))))))
-          (cases_lt p q)
 
   -- a comment is read on a line of its own
   remark_on_line : (h : Held) (acc : Row AnEntry) (blank commands : Bool) (before : Option ℕ) (c : Text)
-      (n : Next) (p : ℕ) (rest : Marks) → CommentAnywhere c → n.token ≡ told S Command p →
+      (n : Next) (p : ℕ) (rest : Marks) → CommentAnywhere c → n.token ≡ edition_token S Command p →
       At S h p (text c ∷ line_end ∷ rest)
       → OnLine h acc blank commands before n p (entry (remark c) false blank None) false rest
   unfolding on_line a_remark open_entry open_content entry_bodies content_bodies
@@ -529,7 +539,7 @@ module _ {edition : Edition} {B T : List ℕ} {o : ℕ} {S : StandsIn edition B 
         later = h;
         at = at_text S h p c (line_end ∷ rest) at;
         reads = subst (λ k. Gives (g S) (on_line (level room) (list_so_far (at_line_start acc blank commands before) n))
-            (state h p) (list_so_far (on_this_line (acc ++ v ∷ []) blank k before) (asked S Command e))
+            (state h p) (list_so_far (on_this_line (acc ++ v ∷ []) blank k before) (edition_next S Command e))
             (state h (past_blanks T e)))
             (sym (or-false commands))
             (last_turn (entry_turn (level room))
@@ -550,7 +560,7 @@ module _ {edition : Edition} {B T : List ℕ} {o : ℕ} {S : StandsIn edition B 
       (what : Shape AContentOf) (background : Bool) (comment : Option Text) (n : Next) (p : ℕ) (rest : Marks) →
       all_blank m ≡ true
       → GoodContent edition room what → GoodOwnComment comment →
-      is_normal_entry (entry what background blank comment) ≡ true → n.token ≡ told S Command p
+      is_normal_entry (entry what background blank comment) ≡ true → n.token ≡ edition_token S Command p
       → At S h p (print_content y m what ++ entry_rest background comment rest) →
       OnLine h acc blank commands before n p (entry what background blank comment)
       (is_command (entry what background blank comment)) rest
@@ -589,10 +599,10 @@ module _ {edition : Edition} {B T : List ℕ} {o : ℕ} {S : StandsIn edition B 
     at : At S later f rest
     reads : Gives (g S) (list_turn (level room) (list_so_far (at_line_start acc blank commands before) n)) (state h p)
         (again (list_so_far (at_line_start (acc ++ value ∷ []) false (commands || is_command x) parted)
-        (asked S Command f))) (state later (past_blanks T f))
+        (edition_next S Command f))) (state later (past_blanks T f))
     on : leads_on (g S) (state h p) (state later (past_blanks T f)) ≡ true
     shape : shape_of_entry B value ≡ open_entry [] x
-    texts : Adds S h later (entry_bodies x)
+    texts : AddsBodies S h later (entry_bodies x)
 
   -- the line is read with its newline, by what is read of its entry
   line_by : (h : Held) (acc : Row AnEntry) (blank commands : Bool) (before : Option ℕ) (n : Next) (p : ℕ)
@@ -605,7 +615,7 @@ module _ {edition : Edition} {B T : List ℕ} {o : ℕ} {S : StandsIn edition B 
       let low = gives_on (on_line (level room) (list_so_far (at_line_start acc blank commands before) n)) _ _ _
       r.reads in
       let within = some_here S q newline_char (after_line r.later rest) (line.at_q ∙ laid_line r.later rest) in
-      let z = newline_read S r.later (asked S Command r.«end») q rest
+      let z = newline_read S r.later (edition_next S Command r.«end») q rest
       (ap (λ (n : Next). is_newline_token n.token) line.n_is) line.at_q in
       record {
         value = r.value;
@@ -628,12 +638,12 @@ module _ {edition : Edition} {B T : List ℕ} {o : ℕ} {S : StandsIn edition B 
     pub q : ℕ
     pub at : At S later q rest
     pub reads : Gives (g S) (list_turn (level room)
-        (list_so_far (at_line_start acc blank commands before) (asked S Command e)))
+        (list_so_far (at_line_start acc blank commands before) (edition_next S Command e)))
         (state h (past_blanks T e))
-        (again (list_so_far (at_line_start acc (not (is_empty acc)) commands before) (asked S Command q)))
+        (again (list_so_far (at_line_start acc (not (is_empty acc)) commands before) (edition_next S Command q)))
         (state later (past_blanks T q))
     pub on : leads_on (g S) (state h (past_blanks T e)) (state later (past_blanks T q)) ≡ true
-    pub texts : Adds S h later no_more
+    pub texts : AddsBodies S h later no_more
 
   -- an empty line is read
   pub empty_line : (h : Held) (acc : Row AnEntry) (blank commands : Bool) (before : Option ℕ) (e : ℕ) (rest : Marks) →
@@ -642,13 +652,13 @@ module _ {edition : Edition} {B T : List ℕ} {o : ℕ} {S : StandsIn edition B 
   empty_line h acc blank commands before e rest at =
       let line = line_end_here S h e rest at in
       let p = past_blanks T e in
-      let z = newline_read S h (asked S Command e) p rest
+      let z = newline_read S h (edition_next S Command e) p rest
       (ap (λ (n : Next). is_newline_token n.token) line.n_is) line.at_q in
       record {
         later = z.later;
         q = z.q;
         at = z.at;
-        reads = nothing_on_line h (at_line_start acc blank commands before) (asked S Command e) p
+        reads = nothing_on_line h (at_line_start acc blank commands before) (edition_next S Command e) p
             (ap (λ (n : Next). begins_pipeline n.token) line.n_is) line.no_comment_q ⟫ z.reads ⟫ given_here;
         on = leads S h z.later p (past_blanks T z.q) (omega (arith, z.on, blanks_low T z.q))
             (some_here S p newline_char (after_line h rest) (line.at_q ∙ laid_line h rest));
@@ -666,21 +676,23 @@ module _ {edition : Edition} {B T : List ℕ} {o : ℕ} {S : StandsIn edition B 
     pub at : At S later «end» rest
     pub reads : Gives (g S) (many (list_turn (level room)) (list_so_far (at_line_start acc false commands before) n))
         (state h p)
-        (list_so_far (at_line_start (acc ++ value) blank (commands || holds_command es) parted) (asked S Command «end»))
+        (list_so_far (at_line_start (acc ++ value) blank (commands || holds_command es) parted)
+        (edition_next S Command «end»))
         (state later (past_blanks T «end»))
     pub shape : shape_of B (entries_of value) ≡ opened [] es
-    pub texts : Adds S h later (entries_bodies es)
+    pub texts : AddsBodies S h later (entries_bodies es)
 
   -- a list ends where what closes it stands
   pub list_ends : (h : Held) (acc : Row AnEntry) (blank commands : Bool) (before : Option ℕ) (e : ℕ) → Closes S e
-      → Gives (g S) (list_turn (level room) (list_so_far (at_line_start acc blank commands before) (asked S Command e)))
+      → Gives (g S) (list_turn (level room)
+      (list_so_far (at_line_start acc blank commands before) (edition_next S Command e)))
       (state h (past_blanks T e))
-      (done (list_so_far (at_line_start acc (not (is_empty acc)) commands before) (asked S Command e)))
+      (done (list_so_far (at_line_start acc (not (is_empty acc)) commands before) (edition_next S Command e)))
       (state h (past_blanks T e))
   unfolding list_turn
   list_ends h acc blank commands before e c =
-      nothing_on_line h (at_line_start acc blank commands before) (asked S Command e)
-      (past_blanks T e) c.not_entry c.not_comment ⟫ no_newline_read S h (asked S Command e)
+      nothing_on_line h (at_line_start acc blank commands before) (edition_next S Command e)
+      (past_blanks T e) c.not_entry c.not_comment ⟫ no_newline_read S h (edition_next S Command e)
       (past_blanks T e) c.not_newline ⟫ given_here
 
   -- what is read of the lines of a list, of which the first entry is blank or not
@@ -693,11 +705,13 @@ module _ {edition : Edition} {B T : List ℕ} {o : ℕ} {S : StandsIn edition B 
     later : Held
     at : At S later «end» rest
     reads : Gives (g S) (many (list_turn (level room))
-        (list_so_far (at_line_start acc first_blank commands before) (asked S Command e))) (state h (past_blanks T e))
-        (list_so_far (at_line_start (acc ++ value) blank (commands || holds_command es) parted) (asked S Command «end»))
+        (list_so_far (at_line_start acc first_blank commands before) (edition_next S Command e)))
+        (state h (past_blanks T e))
+        (list_so_far (at_line_start (acc ++ value) blank (commands || holds_command es) parted)
+        (edition_next S Command «end»))
         (state later (past_blanks T «end»))
     shape : shape_of B (entries_of value) ≡ opened [] es
-    texts : Adds S h later (entries_bodies es)
+    texts : AddsBodies S h later (entries_bodies es)
 
   -- a line that is read, and the further ones that are, make one row of entries
   list_turned : (h k later : Held) (acc : Row AnEntry) (b commands : Bool) (before between last : Option ℕ)
@@ -736,7 +750,7 @@ module _ {edition : Edition} {B T : List ℕ} {o : ℕ} {S : StandsIn edition B 
       → GoodContent edition room what → GoodOwnComment comment →
       is_normal_entry (entry what background blank comment) ≡ true →
       At S h e (text d ∷ (print_content y d what ++ entry_rest background comment rest))
-      → LineRead h acc blank commands before (asked S Command e) (past_blanks T e)
+      → LineRead h acc blank commands before (edition_next S Command e) (past_blanks T e)
       (entry what background blank comment) rest
   first_line h d acc blank commands before what background comment e rest blank_d good good_c normal at =
       let ms = print_content y d what ++ entry_rest background comment rest in
@@ -745,9 +759,9 @@ module _ {edition : Edition} {B T : List ℕ} {o : ℕ} {S : StandsIn edition B 
       (content_start h d what background blank comment (e + length d) rest good good_c normal at_after) in
       let q = past_blanks T e in
       let at_q = subst (λ r. At S h r ms) (sym gap.blanks) at_after in
-      line_by h acc blank commands before (asked S Command e) q (entry what background blank comment) rest
+      line_by h acc blank commands before (edition_next S Command e) q (entry what background blank comment) rest
       (entry_on_line h d acc blank commands before what background comment
-      (asked S Command e) q rest blank_d good good_c normal refl at_q)
+      (edition_next S Command e) q rest blank_d good good_c normal refl at_q)
 
   -- the lines of a list are read: the first with its margin, and then the others by what is known of them
   list_by : (h : Held) (d : Text) (what : Shape AContentOf) (background blank : Bool) (comment : Option Text)
@@ -757,7 +771,7 @@ module _ {edition : Edition} {B T : List ℕ} {o : ℕ} {S : StandsIn edition B 
       are_normal (more_entries (entry what background blank comment) es) ≡ true
       → ((h : Held) (acc : Row AnEntry) (commands : Bool) (before : Option ℕ) (f : ℕ) → is_empty acc ≡ false →
       At S h f (print_entries y d es ++ rest) →
-      ListRead h acc commands before (asked S Command f) (past_blanks T f) es rest)
+      ListRead h acc commands before (edition_next S Command f) (past_blanks T f) es rest)
       → At S h e (text d ∷ (print_content y d what ++ entry_rest background comment (print_entries y d es ++ rest)))
       → ListBy h acc blank commands before e (more_entries (entry what background blank comment) es) rest
   unfolding entries_bodies
@@ -776,77 +790,70 @@ module _ {edition : Edition} {B T : List ℕ} {o : ℕ} {S : StandsIn edition B 
         later = others.later;
         at = others.at;
         reads = list_turned h one_line.later others.later acc blank commands before one_line.parted others.parted
-            (asked S Command e) (past_blanks T e) one_line.value (is_command x) (asked S Command one_line.f)
+            (edition_next S Command e) (past_blanks T e) one_line.value (is_command x)
+            (edition_next S Command one_line.f)
             (past_blanks T one_line.f) others.value others.blank (holds_command es)
-            (asked S Command others.«end») (past_blanks T others.«end») one_line.reads one_line.on others.reads;
+            (edition_next S Command others.«end») (past_blanks T others.«end») one_line.reads one_line.on others.reads;
         shape = entries_shape one_line.value others.value x es one_line.shape others.shape;
         texts = λ ts. others.texts ts ∙ one_line.texts (entries_bodies es ts);
       }
 
-  -- all lines of a list are read
-  pub list_read : (h : Held) (d : Text) (es : Shape EntriesOf) (acc : Row AnEntry) (commands : Bool)
-      (before : Option ℕ) (e : ℕ) (rest : Marks) → all_blank d ≡ true → GoodEntries edition room es →
-      are_normal es ≡ true
-      → (is_empty acc ≡ true → first_not_blank es ≡ true) → ((h : Held) (f : ℕ) → At S h f rest → Closes S f) →
-      At S h e (print_entries y d es ++ rest) →
-      ListRead h acc commands before (asked S Command e) (past_blanks T e) es rest
+  -- where no entry is left the list ends before what closes it
+  no_line_read : (h : Held) (acc : Row AnEntry) (commands : Bool) (before : Option ℕ) (e : ℕ) (rest : Marks) →
+      Closes S e → At S h e rest →
+      ListRead h acc commands before (edition_next S Command e) (past_blanks T e) no_entry rest
   unfolding opened entries_bodies
-  list_read h d no_entry acc commands before e rest blank_d good normal first closes at =
-      let c = closes h e at in
-      record {
-        value = [];
-        «end» = e;
-        blank = not (is_empty acc);
-        parted = before;
-        later = h;
-        at = at;
-        reads = subst (λ k. Gives (g S)
-            (many (list_turn (level room)) (list_so_far (at_line_start acc false commands before) (asked S Command e)))
-            (state h (past_blanks T e))
-            (list_so_far (at_line_start (acc ++ []) (not (is_empty acc)) k before) (asked S Command e))
-            (state h (past_blanks T e))) (sym (or-false commands))
-            (subst (λ es. Gives (g S) (many (list_turn (level room))
-            (list_so_far (at_line_start acc false commands before) (asked S Command e))) (state h (past_blanks T e))
-            (list_so_far (at_line_start es (not (is_empty acc)) commands before) (asked S Command e))
-            (state h (past_blanks T e))) (sym (append-nil acc))
-            (last_turn (list_turn (level room)) (list_ends h acc false commands before e c)));
-        shape = refl;
-        texts = λ ts. refl;
-      }
-  list_read h d (more_entries (entry what background false comment) es) acc commands before e rest blank_d good
-      normal first closes at =
-      let r = list_by h d what background false comment es acc commands before e rest blank_d good normal
-      (λ k more_acc some past f filled there. list_read k d es more_acc some past f rest blank_d good.1
-      (and_parts _ _ normal).1 (λ none. absurd (both_ways (is_empty more_acc) filled none)) closes there)
-      (at ∙ ap (lay h) (entry_marks y d what background false comment es rest)) in
-      record {
-        value = r.value;
-        «end» = r.«end»;
-        blank = r.blank;
-        parted = r.parted;
-        later = r.later;
-        at = r.at;
-        reads = r.reads;
-        shape = r.shape;
-        texts = r.texts;
-      }
-  list_read h d (more_entries (entry what background true comment) es) acc commands before e rest blank_d good
-      normal first closes at =
-      let more = text d ∷ (print_content y d what
-      ++ entry_rest background comment (print_entries y d es ++ rest)) in
-      let there = at ∙ ap (lay h) (entry_marks y d what background true comment es rest) in
-      let filled = blank_first acc first in
-      let line = empty_line h acc false commands before e more there in
-      let others = list_by line.later d what background true comment es acc commands before line.q rest blank_d
-      good normal
-      (λ k more_acc some past f filled there. list_read k d es more_acc some past f rest blank_d good.1
-      (and_parts _ _ normal).1 (λ none. absurd (both_ways (is_empty more_acc) filled none)) closes there)
-      line.at in
+  no_line_read h acc commands before e rest closes at = record {
+    value = [];
+    «end» = e;
+    blank = not (is_empty acc);
+    parted = before;
+    later = h;
+    at = at;
+    reads = subst (λ k. Gives (g S)
+        (many (list_turn (level room))
+        (list_so_far (at_line_start acc false commands before) (edition_next S Command e)))
+        (state h (past_blanks T e))
+        (list_so_far (at_line_start (acc ++ []) (not (is_empty acc)) k before) (edition_next S Command e))
+        (state h (past_blanks T e))) (sym (or-false commands))
+        (subst (λ es. Gives (g S) (many (list_turn (level room))
+        (list_so_far (at_line_start acc false commands before) (edition_next S Command e)))
+        (state h (past_blanks T e))
+        (list_so_far (at_line_start es (not (is_empty acc)) commands before) (edition_next S Command e))
+        (state h (past_blanks T e))) (sym (append-nil acc))
+        (last_turn (list_turn (level room)) (list_ends h acc false commands before e closes)));
+    shape = refl;
+    texts = λ ts. refl;
+  }
+
+  -- a list whose first entry stands after no empty line is read by its lines
+  list_at_once : (h : Held) (acc : Row AnEntry) (commands : Bool) (before : Option ℕ) (e : ℕ) (es : Shape EntriesOf)
+      (rest : Marks) → ListBy h acc false commands before e es rest →
+      ListRead h acc commands before (edition_next S Command e) (past_blanks T e) es rest
+  list_at_once h acc commands before e es rest r = record {
+    value = r.value;
+    «end» = r.«end»;
+    blank = r.blank;
+    parted = r.parted;
+    later = r.later;
+    at = r.at;
+    reads = r.reads;
+    shape = r.shape;
+    texts = r.texts;
+  }
+
+  -- one whose first entry stands after an empty line is read by that line and its own
+  list_after_blank : (h : Held) (acc : Row AnEntry) (commands : Bool) (before : Option ℕ) (e : ℕ)
+      (es : Shape EntriesOf) (more rest : Marks) → is_empty acc ≡ false →
+      (line : EmptyLine h acc false commands before e more) →
+      ListBy line.later acc true commands before line.q es rest
+      → ListRead h acc commands before (edition_next S Command e) (past_blanks T e) es rest
+  list_after_blank h acc commands before e es more rest filled line others =
       let flag : not (is_empty acc) ≡ true = ap not filled in
       let one_line = subst (λ b. Gives (g S)
-      (list_turn (level room) (list_so_far (at_line_start acc false commands before) (asked S Command e)))
+      (list_turn (level room) (list_so_far (at_line_start acc false commands before) (edition_next S Command e)))
       (state h (past_blanks T e))
-      (again (list_so_far (at_line_start acc b commands before) (asked S Command line.q)))
+      (again (list_so_far (at_line_start acc b commands before) (edition_next S Command line.q)))
       (state line.later (past_blanks T line.q))) flag line.reads in
       record {
         value = others.value;
@@ -857,9 +864,37 @@ module _ {edition : Edition} {B T : List ℕ} {o : ℕ} {S : StandsIn edition B 
         at = others.at;
         reads = one_turn (list_turn (level room)) one_line line.on others.reads;
         shape = others.shape;
-        texts = λ ts. others.texts ts
-            ∙ line.texts (entries_bodies (more_entries (entry what background true comment) es) ts);
+        texts = λ ts. others.texts ts ∙ line.texts (entries_bodies es ts);
       }
+
+  -- all lines of a list are read, up to what closes it
+  pub list_read : (h : Held) (d : Text) (es : Shape EntriesOf) (acc : Row AnEntry) (commands : Bool)
+      (before : Option ℕ) (e : ℕ) (rest : Marks) → all_blank d ≡ true → GoodEntries edition room es →
+      are_normal es ≡ true
+      → (is_empty acc ≡ true → first_not_blank es ≡ true) → ((h : Held) (f : ℕ) → At S h f rest → Closes S f) →
+      At S h e (print_entries y d es ++ rest) →
+      ListRead h acc commands before (edition_next S Command e) (past_blanks T e) es rest
+  list_read h d no_entry acc commands before e rest blank_d good normal first closes at =
+      no_line_read h acc commands before e rest (closes h e at) at
+  list_read h d (more_entries (entry what background false comment) es) acc commands before e rest blank_d good
+      normal first closes at =
+      list_at_once h acc commands before e (more_entries (entry what background false comment) es) rest
+      (list_by h d what background false comment es acc commands before e rest blank_d good normal
+      (λ k more_acc some past f filled there. list_read k d es more_acc some past f rest blank_d good.1
+      (and_parts _ _ normal).1 (λ none. absurd (both_ways (is_empty more_acc) filled none)) closes there)
+      (at ∙ ap (lay h) (entry_marks y d what background false comment es rest)))
+  list_read h d (more_entries (entry what background true comment) es) acc commands before e rest blank_d good
+      normal first closes at =
+      let more = text d ∷ (print_content y d what
+      ++ entry_rest background comment (print_entries y d es ++ rest)) in
+      let line = empty_line h acc false commands before e more
+      (at ∙ ap (lay h) (entry_marks y d what background true comment es rest)) in
+      list_after_blank h acc commands before e (more_entries (entry what background true comment) es) more rest
+      (blank_first acc first) line
+      (list_by line.later d what background true comment es acc commands before line.q rest blank_d good normal
+      (λ k more_acc some past f filled there. list_read k d es more_acc some past f rest blank_d good.1
+      (and_parts _ _ normal).1 (λ none. absurd (both_ways (is_empty more_acc) filled none)) closes there)
+      line.at)
 
   -- ---- lists
 
@@ -867,11 +902,11 @@ module _ {edition : Edition} {B T : List ℕ} {o : ℕ} {S : StandsIn edition B 
   pub list_of : (h later : Held) (es : Shape EntriesOf) (n : Next) (p : ℕ) (rest : Marks) (acc : Row AnEntry)
       (blank : Bool) (parted : Option ℕ) (e : ℕ)
       → Gives (g S) (many (list_turn (level room)) (list_so_far (none_listed false) n)) (state h p)
-      (list_so_far (at_line_start acc blank (holds_command es) parted) (asked S Command e))
+      (list_so_far (at_line_start acc blank (holds_command es) parted) (edition_next S Command e))
       (state later (past_blanks T e))
-      → holds_command es ≡ true → At S later e rest → Adds S h later (entries_bodies es) →
+      → holds_command es ≡ true → At S later e rest → AddsBodies S h later (entries_bodies es) →
       shape_of B (entries_of acc) ≡ opened [] es
-      → Got S h (a_list (level room) n) p rest (entries_bodies es) (λ v. shape_of B v ≡ opened [] es)
+      → RowRead S h (a_list (level room) n) p rest (entries_bodies es) (λ v. shape_of B v ≡ opened [] es)
   unfolding a_list
   list_of h later es n p rest acc blank parted e turns holds_it at texts shape =
       record {
@@ -888,7 +923,7 @@ module _ {edition : Edition} {B T : List ℕ} {o : ℕ} {S : StandsIn edition B 
   pub block_read : (h : Held) (d : Text) (es : Shape EntriesOf) (e : ℕ) (rest : Marks) → all_blank d ≡ true →
       GoodEntries edition room es → is_whole es ≡ true → are_normal es ≡ true
       → ((h : Held) (f : ℕ) → At S h f rest → Closes S f) → At S h e (line_end ∷ (print_entries y d es ++ rest))
-      → Got S h (a_list (level room) (asked S Command e)) (past_blanks T e) rest (entries_bodies es)
+      → RowRead S h (a_list (level room) (edition_next S Command e)) (past_blanks T e) rest (entries_bodies es)
       (λ v. shape_of B v ≡ opened [] es)
   block_read h d es e rest blank_d good whole normal closes at =
       let line = empty_line h [] false false None e (print_entries y d es ++ rest) at in
@@ -896,6 +931,6 @@ module _ {edition : Edition} {B T : List ℕ} {o : ℕ} {S : StandsIn edition B 
       let r = list_read line.later d es [] false None line.q rest blank_d good normal
       (λ none. parts.1) closes line.at in
       let turns = one_turn (list_turn (level room)) line.reads line.on r.reads in
-      list_of h r.later es (asked S Command e)
+      list_of h r.later es (edition_next S Command e)
       (past_blanks T e) rest r.value r.blank r.parted r.«end» turns parts.0 r.at
       (λ ts. r.texts ts ∙ line.texts (entries_bodies es ts)) r.shape

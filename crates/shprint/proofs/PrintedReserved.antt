@@ -20,14 +20,14 @@ use Rattle.shgrammar.specs.Form.{Spelled, Form, by, move}
 use Rattle.shgrammar.specs.Levels.{level}
 use Rattle.shgrammar.specs.Compounds.{a_linebreak, Closed, reserved_or_paren, closing, closing_text, is_closing, is_close_paren}
 use Rattle.shgrammar.specs.Commands.{a_semicolon, is_semicolon, begins_pipeline, join_turn, join_so_far, a_join_of, is_newline_token}
-use Rattle.shgrammar.proofs.Elsewhere.{follows}
+use Rattle.shgrammar.proofs.ItemsAnywhere.{follows}
 use Rattle.shast.specs.declared.tree.Span.{Span}
 use Rattle.shast.specs.Shape.{Text}
 use Rattle.shprint.specs.Marks.{text, line_end, Marks, laid_after}
 use Rattle.shprint.proofs.Tokens.{in_here, then_here, elif_here, else_here, fi_here, do_here, done_here, close_brace_here, semicolon_token, ReservedWord, byte_here, start_here, all_blank, no_gap}
 use Rattle.shprint.proofs.Gives.{Gives, told_here, ◌⟫◌, given_here, moved_here, first_of, second_of, last_turn}
 use Rattle.shprint.proofs.Held.{At, Held, StandsIn, g, lay, state}
-use Rattle.shprint.proofs.PrintedText.{laid_text, after_line, Adds, at_text, told, asked, asked_after, tell, next_read, Follower, margin_gap, last_join_turn, no_sharp, one_moved}
+use Rattle.shprint.proofs.PrintedText.{laid_text, after_line, AddsBodies, at_text, edition_token, edition_next, edition_next_after, edition_same, next_read, Follower, margin_gap, last_join_turn, no_sharp, one_moved}
 use Rattle.shprint.proofs.PrintedLists.{Closes}
 
 -- ---- the end of a word
@@ -73,18 +73,18 @@ module _ {edition : Edition} {B T : List ℕ} {o : ℕ} (S : StandsIn edition B 
 
   -- a reserved word after a margin
   pub record ReservedRead (h : Held) (e : ℕ) (r : Reserved) (ms : Marks) : Type 0 where
-    pub token_is : told S Command (past_blanks T e) ≡ tokens.Reserved r
+    pub token_is : edition_token S Command (past_blanks T e) ≡ tokens.Reserved r
     pub not_comment : raw_stands T (past_blanks T e) number_sign ≡ false
     pub s : Span
     pub f : ℕ
     pub at : At S h f ms
     pub reads : (label : Spelled) (position : Position) →
-        Gives (g S) (reserved_or_paren label false position) (state h (past_blanks T e)) (s, asked S position f)
+        Gives (g S) (reserved_or_paren label false position) (state h (past_blanks T e)) (s, edition_next S position f)
         (state h (past_blanks T f))
 
   -- the reserved word in hand is passed, and the next token read
   pub reserved_or_paren_by : (h : Held) (label : Spelled) (position : Position) (q f : ℕ) → past_reserved T q ≡ f →
-      Gives (g S) (reserved_or_paren label false position) (state h q) (span o q f, asked S position f)
+      Gives (g S) (reserved_or_paren label false position) (state h q) (span o q f, edition_next S position f)
       (state h (past_blanks T f))
   unfolding reserved_or_paren
   reserved_or_paren_by h label position q f is =
@@ -94,7 +94,7 @@ module _ {edition : Edition} {B T : List ℕ} {o : ℕ} (S : StandsIn edition B 
 
   -- so is a bracket, where the next byte is read as it stands
   pub paren_alone : (h : Held) (label : Spelled) (q : ℕ) → past_byte T q ≡ q + 1 →
-      Gives (g S) (reserved_or_paren label true Command) (state h q) (span o q (q + 1), asked S Command (q + 1))
+      Gives (g S) (reserved_or_paren label true Command) (state h q) (span o q (q + 1), edition_next S Command (q + 1))
       (state h (past_blanks T (q + 1)))
   unfolding reserved_or_paren
   paren_alone h label q is =
@@ -112,8 +112,8 @@ module _ {edition : Edition} {B T : List ℕ} {o : ℕ} (S : StandsIn edition B 
       let at_q = subst (λ p. At S h p (text w ∷ ms)) (sym gap.blanks) at_after in
       let kq = key h q (at_q ∙ laid_text h w ms) in
       record {
-        token_is = tell S kq.token;
-        not_comment = no_sharp S q kq.start.place (ap is_comment (tell S kq.token));
+        token_is = edition_same S kq.token;
+        not_comment = no_sharp S q kq.start.place (ap is_comment (edition_same S kq.token));
         s = span o q (q + length w);
         f = q + length w;
         at = at_text S h q w ms at_q;
@@ -182,10 +182,10 @@ module _ {edition : Edition} {B T : List ℕ} {o : ℕ} (S : StandsIn edition B 
     pub e : ℕ
     pub later : Held
     pub at : At S later e rest
-    pub reads : Gives (g S) r (state h p) (record { what = value; closer = closer; next = asked S Command e })
+    pub reads : Gives (g S) r (state h p) (record { what = value; closer = closer; next = edition_next S Command e })
         (state later (past_blanks T e))
     pub is : Is value
-    pub texts : Adds S h later more
+    pub texts : AddsBodies S h later more
 
   -- ---- semicolons, and where no line ends
 
@@ -197,7 +197,7 @@ module _ {edition : Edition} {B T : List ℕ} {o : ℕ} (S : StandsIn edition B 
     no_round = refl;
     seen_as = λ h e at position.
         let there = at ∙ laid_text h (codes "; ") ms in
-        asked_after S position (no_gap (start_here (byte_here T e semicolon (space ∷ lay h ms) refl there) refl))
+        edition_next_after S position (no_gap (start_here (byte_here T e semicolon (space ∷ lay h ms) refl there) refl))
         ∙ ap (λ t. record { token = token_in edition t; broken = false })
         (semicolon_token position T e space (lay h ms) refl refl refl there);
   }
@@ -220,7 +220,8 @@ module _ {edition : Edition} {B T : List ℕ} {o : ℕ} (S : StandsIn edition B 
   -- it is read where it is printed, and the token after it
   pub closing_read : (h : Held) (c : Closing) (r : Reserved) (e : ℕ) (ms : Marks) →
       is_closing c (tokens.Reserved r) ≡ true → is_close_paren c ≡ false → (k : ReservedRead S h e r ms)
-      → Gives (g S) (closing (level room) c (asked S Command e)) (state h (past_blanks T e)) (k.s, asked S Command k.f)
+      → Gives (g S) (closing (level room) c (edition_next S Command e)) (state h (past_blanks T e))
+      (k.s, edition_next S Command k.f)
       (state h (past_blanks T k.f))
   unfolding closing
   closing_read h c r e ms closes no_paren k =

@@ -24,14 +24,14 @@ use Rattle.shgrammar.specs.Sights.{the_token, the_comment, blanks, one_byte, a_c
 use Rattle.shgrammar.specs.Form.{Form, give, move, leads_on, again, done, many}
 use Rattle.shgrammar.specs.Words.{a_word}
 use Rattle.shgrammar.specs.Levels.{level}
-use Rattle.shgrammar.proofs.Anywhere.{WordOf}
+use Rattle.shgrammar.proofs.WordsAnywhere.{WordOf}
 use Rattle.shgrammar.proofs.WordsWaiting.{word_waiting}
 use Rattle.shast.specs.Normal.{is_normal_join}
 use Rattle.shgrammar.specs.Commands.{begins_pipeline, a_newline, a_comment, join_turn, join_so_far, a_join_of, a_join, begins_simple, opener_of, is_newline_token, is_bang, next_token, is_paren}
 use Rattle.shgrammar.proofs.Stretches.{byte_is}
 use Rattle.shgrammar.proofs.Places.{blanks_low}
-use Rattle.shgrammar.proofs.Elsewhere.{is_a_word}
-use Rattle.shgrammar.proofs.CommentsElsewhere.{CommentAnywhere}
+use Rattle.shgrammar.proofs.ItemsAnywhere.{is_a_word}
+use Rattle.shgrammar.proofs.CommentsAnywhere.{CommentAnywhere}
 use Rattle.shast.specs.declared.tree.AndOrOperator.{AndOrOperator}
 use Rattle.shast.specs.declared.tree.AndOrOperator.TheVariants.{And, Or}
 use Rattle.shast.specs.declared.tree.Span.{Span}
@@ -41,7 +41,7 @@ use Rattle.shast.specs.Tree.{AJoinOf, AJoin, SubstsOf, word}
 use Rattle.shprint.specs.declared.layout.Layout.{Layout}
 use Rattle.shprint.specs.Marks.{text, line_end, document, Marks, laid_after, one, step, deeper}
 use Rattle.shprint.specs.Printed.{operand_margin, breaks_line, print_comments, print_further_comments}
-use Rattle.shprint.proofs.Tokens.{pipe_token, and_token, or_token, first, byte_here, newline_token, start_here, skip, Gap, Start, all_blank, blanks_gap, no_gap, next_after, word_stays}
+use Rattle.shprint.proofs.Tokens.{pipe_token, and_token, or_token, first_stands, byte_here, newline_token, start_here, past_text_stands, Gap, Start, all_blank, blanks_gap, no_gap, next_after, word_stays}
 use Rattle.shprint.proofs.Gives.{Gives, gives, ◌⟫◌, given_here, seen_here, moved_here, pushed_here, first_of, second_of, last_turn, one_turn}
 use Rattle.shprint.proofs.Held.{At, Followed, Held, StandsIn, emptied, g, held_bytes, lay, state, text_of_span, texts_of}
 use Rattle.shprint.proofs.Good.{GoodComments}
@@ -208,12 +208,12 @@ module _ {edition : Edition} {B T : List ℕ} {o : ℕ} (S : StandsIn edition B 
   -- ---- one text, from the offset o of the printed text on
 
   -- the bodies of all documents after a row, read or not, are those before it, and then these
-  abbrev pub Adds : Held → Held → (Row Text → Row Text) → Type 0
-  Adds h later more = (ts : Row Text) → texts_of S later ++ ts ≡ texts_of S h ++ more ts
+  abbrev pub AddsBodies : Held → Held → (Row Text → Row Text) → Type 0
+  AddsBodies h later more = (ts : Row Text) → texts_of S later ++ ts ≡ texts_of S h ++ more ts
 
   -- after a text that stands here the other marks stand
   pub at_text : (h : Held) (p : ℕ) (t : Text) (ms : Marks) → At S h p (text t ∷ ms) → At S h (p + length t) ms
-  at_text h p t ms at = skip T p t (lay h ms) (at ∙ laid_text h t ms)
+  at_text h p t ms at = past_text_stands T p t (lay h ms) (at ∙ laid_text h t ms)
 
   -- something stands at p
   pub some_here : (p c : ℕ) (xs : List ℕ) → drop p T ≡ c ∷ xs → p < length T
@@ -224,27 +224,27 @@ module _ {edition : Edition} {B T : List ℕ} {o : ℕ} (S : StandsIn edition B 
   leads h later p q on within = lt-ltb _ _ (omega (arith, on, within))
 
   -- the token at p, and the next one from e on, as the edition has them
-  abbrev pub told : Position → ℕ → Token
-  told position p = token_in edition (token_at position T p)
+  abbrev pub edition_token : Position → ℕ → Token
+  edition_token position p = token_in edition (token_at position T p)
 
-  abbrev pub asked : Position → ℕ → Next
-  asked position e = next_in edition (next_at position T e)
+  abbrev pub edition_next : Position → ℕ → Next
+  edition_next position e = next_in edition (next_at position T e)
 
   -- it is told after a gap
-  pub asked_after : {e q : ℕ} {broken : Bool} (position : Position) → Gap T e q broken →
-      asked position e ≡ record { token = told position q; broken = broken }
-  asked_after position gap = ap (next_in edition) (next_after position gap)
+  pub edition_next_after : {e q : ℕ} {broken : Bool} (position : Position) → Gap T e q broken →
+      edition_next position e ≡ record { token = edition_token position q; broken = broken }
+  edition_next_after position gap = ap (next_in edition) (next_after position gap)
 
   -- the edition makes the same of equal tokens, and leaves a word as it is
-  pub tell : {s t : Token} → s ≡ t → token_in edition s ≡ token_in edition t
-  tell e = ap (token_in edition) e
+  pub edition_same : {s t : Token} → s ≡ t → token_in edition s ≡ token_in edition t
+  edition_same e = ap (token_in edition) e
 
-  pub tell_word : {s t : Token} → is_a_word t ≡ true → s ≡ t → token_in edition s ≡ t
-  tell_word {t = t} is e = tell e ∙ word_stays edition t is
+  pub edition_word : {s t : Token} → is_a_word t ≡ true → s ≡ t → token_in edition s ≡ t
+  edition_word {t = t} is e = edition_same e ∙ word_stays edition t is
 
   -- the next token, asked for at e
   pub next_read : (h : Held) (position : Position) (e : ℕ) →
-      Gives (g S) (next_token position) (state h e) (asked position e) (state h (past_blanks T e))
+      Gives (g S) (next_token position) (state h e) (edition_next position e) (state h (past_blanks T e))
   unfolding next_token
   next_read h position e = seen_here (the_token position) ⟫ moved_here blanks ⟫ given_here
 
@@ -271,25 +271,25 @@ module _ {edition : Edition} {B T : List ℕ} {o : ℕ} (S : StandsIn edition B 
 
   -- of two bytes that stand here the second stands one place on
   pub byte_after : (p c d : ℕ) (xs : Text) → drop p T ≡ c ∷ d ∷ xs → drop (p + 1) T ≡ d ∷ xs
-  byte_after p c d xs at = skip T p (c ∷ []) (d ∷ xs) at
+  byte_after p c d xs at = past_text_stands T p (c ∷ []) (d ∷ xs) at
 
   -- A token that begins no item stands after e, whatever was asked for.
   pub record NoItemAfter (e : ℕ) : Type 0 where
     pub token : Token
-    pub seen_as : (position : Position) → asked position e ≡ record { token = token; broken = false }
+    pub seen_as : (position : Position) → edition_next position e ≡ record { token = token; broken = false }
     pub no_item : begins_simple token ≡ false
     pub no_round : is_paren token ≡ false
 
   -- a row of the grammar that reads something and hands on the next token: what is
   -- read, where it ends, and with which bodies
-  pub record Got (h : Held) {X : Type 0} (r : Form (X × Next)) (p : ℕ) (rest : Marks) (more : Row Text → Row Text)
+  pub record RowRead (h : Held) {X : Type 0} (r : Form (X × Next)) (p : ℕ) (rest : Marks) (more : Row Text → Row Text)
       (Is : X → Type 0) : Type 0 where
     pub value : X
     pub «end» : ℕ
     pub later : Held
     pub at : At S later «end» rest
-    pub texts : Adds h later more
-    pub reads : Gives (g S) r (state h p) (value, asked Command «end») (state later (past_blanks T «end»))
+    pub texts : AddsBodies h later more
+    pub reads : Gives (g S) r (state h p) (value, edition_next Command «end») (state later (past_blanks T «end»))
     pub is : Is value
 
   -- What follows begins with this token, whatever is asked for, with no continuation before it.
@@ -297,28 +297,28 @@ module _ {edition : Edition} {B T : List ℕ} {o : ℕ} (S : StandsIn edition B 
     pub follow : Followed rest
     pub no_round : is_paren t ≡ false
     pub seen_as : (h : Held) (e : ℕ) → At S h e rest → (position : Position) →
-        asked position e ≡ record { token = t; broken = false }
+        edition_next position e ≡ record { token = t; broken = false }
 
   -- what a compound command opens with
   pub record Opens (p : ℕ) (opener_is : Opener) : Type 0 where
     pub start : Start T p
-    pub no_item : begins_simple (told Command p) ≡ false
-    pub opener : opener_of (told Command p) ≡ Some opener_is
+    pub no_item : begins_simple (edition_token Command p) ≡ false
+    pub opener : opener_of (edition_token Command p) ≡ Some opener_is
 
   -- ---- comments and newlines
 
   -- another byte stands here than this one
   pub no_byte : (p c : ℕ) (xs : List ℕ) (x : ℕ) → (c == x) ≡ false → drop p T ≡ c ∷ xs → raw_stands T p x ≡ false
   unfolding raw_stands
-  no_byte p c xs x e at = ap (λ b. is_byte b x) (first T p c xs at) ∙ e
+  no_byte p c xs x e at = ap (λ b. is_byte b x) (first_stands T p c xs at) ∙ e
 
   -- after e the line ends
   pub newline_next : (h : Held) (position : Position) (e : ℕ) (ms : Marks) → At S h e (line_end ∷ ms) →
-      (asked position e ≡ record { token = tokens.Newline; broken = false }) × (past_blanks T e ≡ e)
+      (edition_next position e ≡ record { token = tokens.Newline; broken = false }) × (past_blanks T e ≡ e)
   newline_next h position e ms at =
       let there = at ∙ laid_line h ms in
       let gap = no_gap (start_here (byte_here T e newline_char (after_line h ms) refl there) refl) in (
-        asked_after position gap ∙ ap (λ t. record { token = token_in edition t; broken = false })
+        edition_next_after position gap ∙ ap (λ t. record { token = token_in edition t; broken = false })
             (newline_token position T e (after_line h ms) there),
         gap.blanks,
       )
@@ -329,8 +329,8 @@ module _ {edition : Edition} {B T : List ℕ} {o : ℕ} (S : StandsIn edition B 
     pub q : ℕ
     pub on : p + 1 ≤ q
     pub at : At S later q ms
-    pub reads : Gives (g S) (a_newline n) (state h p) (true, asked Command q) (state later (past_blanks T q))
-    pub texts : Adds h later no_more
+    pub reads : Gives (g S) (a_newline n) (state h p) (true, edition_next Command q) (state later (past_blanks T q))
+    pub texts : AddsBodies h later no_more
 
   -- a newline is read with the bodies that wait for it
   pub newline_read : (h : Held) (n : Next) (p : ℕ) (ms : Marks) → is_newline_token n.token ≡ true →
@@ -363,7 +363,7 @@ module _ {edition : Edition} {B T : List ℕ} {o : ℕ} (S : StandsIn edition B 
   -- a comment is read, up to the end of its line
   pub comment_read : (h : Held) (c : Text) (n : Next) (p : ℕ) (ms : Marks) → CommentAnywhere c →
       At S h p (text c ∷ line_end ∷ ms)
-      → Gives (g S) (a_comment n) (state h p) (Some (span o p (p + length c)), asked Command (p + length c))
+      → Gives (g S) (a_comment n) (state h p) (Some (span o p (p + length c)), edition_next Command (p + length c))
       (state h (past_blanks T (p + length c)))
   unfolding a_comment
   comment_read h c n p ms good at =
@@ -399,7 +399,7 @@ module _ {edition : Edition} {B T : List ℕ} {o : ℕ} (S : StandsIn edition B 
   pub record Operand (p : ℕ) : Type 0 where
     pub start : Start T p
     pub no_comment : raw_stands T p number_sign ≡ false
-    pub no_newline : is_newline_token (told Command p) ≡ false
+    pub no_newline : is_newline_token (edition_token Command p) ≡ false
 
   -- where neither a comment nor a newline stands the turns of a join end
   pub last_join_turn : (h : Held) (b : Bool) (acc : Row Span) (n : Next) (p : ℕ) → raw_stands T p number_sign ≡ false →
@@ -418,9 +418,9 @@ module _ {edition : Edition} {B T : List ℕ} {o : ℕ} (S : StandsIn edition B 
     pub q : ℕ
     pub at : At S later q ms
     pub reads : Gives (g S) (join_turn (join_so_far (a_join_of b acc) n)) (state h p)
-        (again (join_so_far (a_join_of true all) (asked Command q))) (state later (past_blanks T q))
+        (again (join_so_far (a_join_of true all) (edition_next Command q))) (state later (past_blanks T q))
     pub on : leads_on (g S) (state h p) (state later (past_blanks T q)) ≡ true
-    pub texts : Adds h later no_more
+    pub texts : AddsBodies h later no_more
 
   -- a comment that stands here begins before the end of the text
   comment_within : (h : Held) (c : Text) (p : ℕ) (ms : Marks) → CommentAnywhere c → At S h p (text c ∷ ms) →
@@ -438,9 +438,9 @@ module _ {edition : Edition} {B T : List ℕ} {o : ℕ} (S : StandsIn edition B 
       let line = newline_next h Command e ms at_after in
       let s = span o p e in
       let at_e = subst (λ q. At S h q (line_end ∷ ms)) (sym line.1) at_after in
-      let r = newline_read h (asked Command e) (past_blanks T e) ms
+      let r = newline_read h (edition_next Command e) (past_blanks T e) ms
       (ap (λ (n : Next). is_newline_token n.token) line.0) at_e in
-      let z = asked Command r.q in
+      let z = edition_next Command r.q in
       let last_state = state r.later (past_blanks T r.q) in
       record {
         later = r.later;
@@ -462,7 +462,7 @@ module _ {edition : Edition} {B T : List ℕ} {o : ℕ} (S : StandsIn edition B 
   newline_join_turn h b acc n p ms is at =
       let there = at ∙ laid_line h ms in
       let r = newline_read h n p ms is at in
-      let z = asked Command r.q in
+      let z = edition_next Command r.q in
       let last_state = state r.later (past_blanks T r.q) in
       record {
         later = r.later;
@@ -489,9 +489,9 @@ module _ {edition : Edition} {B T : List ℕ} {o : ℕ} (S : StandsIn edition B 
     pub reads : Gives (g S) (many join_turn (join_so_far (a_join_of b acc) n)) (state h p)
         (join_so_far (a_join_of true (acc ++ comments)) next) (state later q)
     pub at : At S later q ms
-    pub token_is : next.token ≡ told Command q
+    pub token_is : next.token ≡ edition_token Command q
     pub shape : shape_of_comments B comments ≡ cs
-    pub texts : Adds h later no_more
+    pub texts : AddsBodies h later no_more
 
   -- the texts of comments by that of the first and those of the others
   pub cons_shape : (s : Span) (ss : Row Span) (c : Text) (cs : Row Text) → text_at B s ≡ c →
@@ -499,13 +499,14 @@ module _ {edition : Edition} {B T : List ℕ} {o : ℕ} (S : StandsIn edition B 
   cons_shape s ss c cs e f = rw (e, f) refl
 
   -- a comment before those that are read, and those, are one row of comments
-  pub joined : (h later : Held) (b : Bool) (n : Next) (p : ℕ) (acc : Row Span) (s : Span) (ss : Row Span) (q : ℕ)
+  pub comments_joined : (h later : Held) (b : Bool) (n : Next) (p : ℕ) (acc : Row Span) (s : Span) (ss : Row Span)
+      (q : ℕ)
       (next : Next)
       → Gives (g S) (many join_turn (join_so_far (a_join_of b acc) n)) (state h p)
       (join_so_far (a_join_of true ((acc ++ s ∷ []) ++ ss)) next) (state later q)
       → Gives (g S) (many join_turn (join_so_far (a_join_of b acc) n)) (state h p)
       (join_so_far (a_join_of true (acc ++ s ∷ ss)) next) (state later q)
-  joined h later b n p acc s ss q next r =
+  comments_joined h later b n p acc s ss q next r =
       subst (λ all. Gives (g S) (many join_turn (join_so_far (a_join_of b acc) n)) (state h p)
       (join_so_far (a_join_of true all) next) (state later q)) (append_assoc acc (s ∷ []) ss) r
 
@@ -517,26 +518,26 @@ module _ {edition : Edition} {B T : List ℕ} {o : ℕ} (S : StandsIn edition B 
     pub later : Held
     pub reads : Gives (g S) (a_join false) (state h e) (join, next) (state later q)
     pub at : At S later q ms
-    pub token_is : next.token ≡ told Command q
+    pub token_is : next.token ≡ edition_token Command q
     pub shape : shape_of_join B join ≡ j
-    pub texts : Adds h later no_more
+    pub texts : AddsBodies h later no_more
 
   module _ (d : Text) (blank : all_blank d ≡ true) (ms : Marks)
       (operand : (h : Held) (p : ℕ) → At S h p ms → Operand p) where
     -- after a newline the margin of the operand is passed, and no comment is read
     operand_line : (h : Held) (b : Bool) (acc : Row Span) (e : ℕ) → At S h e (text d ∷ ms) →
-        JoinLines h true acc (asked Command e) (past_blanks T e) [] ms
+        JoinLines h true acc (edition_next Command e) (past_blanks T e) [] ms
     operand_line h b acc e at =
         let q = past_blanks T e in
         let at_after = at_text h e d ms at in
         let gap = margin_gap h d e ms blank at (operand h (e + length d) at_after).start in
         let at_q = subst (λ r. At S h r ms) (sym gap.blanks) at_after in
         let it = operand h q at_q in
-        let last_one = last_join_turn h true acc (asked Command e) q it.no_comment it.no_newline in
+        let last_one = last_join_turn h true acc (edition_next Command e) q it.no_comment it.no_newline in
         record {
           comments = [];
           q = q;
-          next = asked Command e;
+          next = edition_next Command e;
           reads = rw (append-nil acc) (last_turn join_turn last_one);
           later = h;
           at = at_q;
@@ -566,7 +567,7 @@ module _ {edition : Edition} {B T : List ℕ} {o : ℕ} (S : StandsIn edition B 
           comments = s ∷ rest.comments;
           q = rest.q;
           next = rest.next;
-          reads = joined h rest.later b n p acc s rest.comments rest.q rest.next
+          reads = comments_joined h rest.later b n p acc s rest.comments rest.q rest.next
               (one_turn join_turn turn.reads turn.on rest.reads);
           later = rest.later;
           at = rest.at;
@@ -581,13 +582,13 @@ module _ {edition : Edition} {B T : List ℕ} {o : ℕ} (S : StandsIn edition B 
         let gap = margin_gap turn.later d turn.q (text c2 ∷ further cs) blank turn.at
         (further_start turn.later c2 cs (turn.q + length d) good.1.0 margin_after) in
         let at_q = subst (λ r. At S turn.later r (text c2 ∷ further cs)) (sym gap.blanks) margin_after in
-        let rest = comment_lines turn.later c2 cs true (acc ++ s ∷ []) (asked Command turn.q)
+        let rest = comment_lines turn.later c2 cs true (acc ++ s ∷ []) (edition_next Command turn.q)
         (past_blanks T turn.q) good.1 at_q in
         record {
           comments = s ∷ rest.comments;
           q = rest.q;
           next = rest.next;
-          reads = joined h rest.later b n p acc s rest.comments rest.q rest.next
+          reads = comments_joined h rest.later b n p acc s rest.comments rest.q rest.next
               (one_turn join_turn turn.reads turn.on rest.reads);
           later = rest.later;
           at = rest.at;
@@ -599,7 +600,7 @@ module _ {edition : Edition} {B T : List ℕ} {o : ℕ} (S : StandsIn edition B 
 
     -- where the lines of a join are read, a broken join is
     join_of : (h : Held) (e : ℕ) (cs : Row Text) →
-        JoinLines h (is_broken_at T e) [] (asked Command e) (past_blanks T e) cs ms →
+        JoinLines h (is_broken_at T e) [] (edition_next Command e) (past_blanks T e) cs ms →
         JoinRead h e (record { broken = true; comments = cs }) ms
     unfolding a_join
     join_of h e cs r = record {
@@ -624,7 +625,7 @@ module _ {edition : Edition} {B T : List ℕ} {o : ℕ} (S : StandsIn edition B 
         let q = past_blanks T e in
         let at_q = subst (λ r. At S h r ms) (sym gap.blanks) at_after in
         let it = operand h q at_q in
-        let n = asked Command e in
+        let n = edition_next Command e in
         let last_one : Gives (g S) (many join_turn (join_so_far (a_join_of false []) n)) (state h q)
         (join_so_far (a_join_of false []) n) (state h q) =
         last_turn join_turn (last_join_turn h false [] n q it.no_comment it.no_newline) in
@@ -644,12 +645,12 @@ module _ {edition : Edition} {B T : List ℕ} {o : ℕ} (S : StandsIn edition B 
 
     -- a newline without a comment is read, and then the margin of the operand
     pub newline_lines : (h : Held) (b : Bool) (e : ℕ) → At S h e (line_end ∷ text d ∷ ms) →
-        JoinLines h b [] (asked Command e) (past_blanks T e) [] ms
+        JoinLines h b [] (edition_next Command e) (past_blanks T e) [] ms
     newline_lines h b e at =
         let line = newline_next h Command e (text d ∷ ms) at in
         let q = past_blanks T e in
         let at_q = subst (λ r. At S h r (line_end ∷ text d ∷ ms)) (sym line.1) at in
-        let turn = newline_join_turn h b [] (asked Command e) q (text d ∷ ms)
+        let turn = newline_join_turn h b [] (edition_next Command e) q (text d ∷ ms)
         (ap (λ (n : Next). is_newline_token n.token) line.0) at_q in
         let rest = operand_line turn.later true [] turn.q turn.at in
         record {
@@ -665,14 +666,14 @@ module _ {edition : Edition} {B T : List ℕ} {o : ℕ} (S : StandsIn edition B 
         }
 
     -- comments after a space are read, and then the margin of the operand
-    pub commented : (h : Held) (b : Bool) (c : Text) (cs : Row Text) (e : ℕ) → GoodComments (c ∷ cs) →
+    pub comments_after_space : (h : Held) (b : Bool) (c : Text) (cs : Row Text) (e : ℕ) → GoodComments (c ∷ cs) →
         At S h e (text (codes " ") ∷ text c ∷ further cs) →
-        JoinLines h b [] (asked Command e) (past_blanks T e) (c ∷ cs) ms
-    commented h b c cs e good at =
+        JoinLines h b [] (edition_next Command e) (past_blanks T e) (c ∷ cs) ms
+    comments_after_space h b c cs e good at =
         let at_after = at_text h e (codes " ") (text c ∷ further cs) at in
         let gap = margin_gap h (codes " ") e (text c ∷ further cs) refl at
         (further_start h c cs (e + 1) good.0 at_after) in
-        comment_lines h c cs b [] (asked Command e) (past_blanks T e) good
+        comment_lines h c cs b [] (edition_next Command e) (past_blanks T e) good
         (subst (λ r. At S h r (text c ∷ further cs)) (sym gap.blanks) at_after)
 
   -- a join is read as it is printed, up to the operand
@@ -690,7 +691,7 @@ module _ {edition : Edition} {B T : List ℕ} {o : ℕ} (S : StandsIn edition B 
       let d = deeper y m in
       let same = append_assoc (print_further_comments d cs) (line_end ∷ text d ∷ []) ms in
       join_of d blank ms operand h e (c ∷ cs)
-      (commented d blank ms operand h (is_broken_at T e) c cs e good
+      (comments_after_space d blank ms operand h (is_broken_at T e) c cs e good
       (at ∙ ap (λ ks. lay h (text (codes " ") ∷ text c ∷ ks)) same))
 
   -- ---- what follows a command
@@ -720,7 +721,7 @@ module _ {edition : Edition} {B T : List ℕ} {o : ℕ} (S : StandsIn edition B 
         let gap = space_then h e vertical_line [] ms refl refl at in
         let there = at_text h e (codes " ") (text (codes "|") ∷ ms) at ∙ laid_text h (codes "|") ms
         ∙ ap (λ z. vertical_line ∷ z) (parted h).is in
-        asked_after position gap ∙ ap (λ t. record { token = token_in edition t; broken = false })
+        edition_next_after position gap ∙ ap (λ t. record { token = token_in edition t; broken = false })
         (pipe_token position T (e + 1) (parted h).c (parted h).cs (parted h).no_backslash
         (parted h).no_bar there);
   }
@@ -733,7 +734,7 @@ module _ {edition : Edition} {B T : List ℕ} {o : ℕ} (S : StandsIn edition B 
     no_round = refl;
     seen_as = λ h e at position.
         let there = at_text h e (codes " ") (text (codes "&&") ∷ ms) at ∙ laid_text h (codes "&&") ms in
-        asked_after position (space_then h e ampersand (ampersand ∷ []) ms refl refl at)
+        edition_next_after position (space_then h e ampersand (ampersand ∷ []) ms refl refl at)
         ∙ ap (λ t. record { token = token_in edition t; broken = false })
         (and_token position T (e + 1) (lay h ms) there);
   }
@@ -742,7 +743,7 @@ module _ {edition : Edition} {B T : List ℕ} {o : ℕ} (S : StandsIn edition B 
     no_round = refl;
     seen_as = λ h e at position.
         let there = at_text h e (codes " ") (text (codes "||") ∷ ms) at ∙ laid_text h (codes "||") ms in
-        asked_after position (space_then h e vertical_line (vertical_line ∷ []) ms refl refl at)
+        edition_next_after position (space_then h e vertical_line (vertical_line ∷ []) ms refl refl at)
         ∙ ap (λ t. record { token = token_in edition t; broken = false })
         (or_token position T (e + 1) (lay h ms) there);
   }
@@ -752,10 +753,10 @@ module _ {edition : Edition} {B T : List ℕ} {o : ℕ} (S : StandsIn edition B 
   -- a command begins here
   pub record Begins (p : ℕ) : Type 0 where
     pub start : Start T p
-    pub command : begins_command (told Command p) ≡ true
+    pub command : begins_command (edition_token Command p) ≡ true
 
   -- where no comment is told no number sign stands
-  pub no_sharp : (p : ℕ) → past_continuations T p ≡ p → is_comment (told Command p) ≡ false →
+  pub no_sharp : (p : ℕ) → past_continuations T p ≡ p → is_comment (edition_token Command p) ≡ false →
       raw_stands T p number_sign ≡ false
   unfolding raw_stands token_at
   no_sharp p place none = false_from_ne_true (is_byte (slice_get T p) number_sign)
@@ -766,10 +767,10 @@ module _ {edition : Edition} {B T : List ℕ} {o : ℕ} (S : StandsIn edition B 
   -- a command may stand after an operator
   pub begins_operand : (p : ℕ) → Begins p → Operand p
   begins_operand p b =
-      let other = no_other (told Command p) b.command in
+      let other = no_other (edition_token Command p) b.command in
       record { start = b.start; no_comment = no_sharp p b.start.place other.comment; no_newline = other.newline }
 
   -- a pipeline begins here
   pub record PipelineBegins (p : ℕ) : Type 0 where
     pub operand : Operand p
-    pub begins : begins_pipeline (told Command p) ≡ true
+    pub begins : begins_pipeline (edition_token Command p) ≡ true

@@ -26,7 +26,7 @@ use Rattle.shgrammar.specs.Levels.{level}
 use Rattle.shgrammar.proofs.MovedTrees.{parted_some}
 use Rattle.shgrammar.proofs.BodiesAnywhere.{DocumentAnywhere}
 use Rattle.shgrammar.proofs.Spelling.{raw_at}
-use Rattle.shgrammar.proofs.Elsewhere.{ItemAnywhere, is_a_word, item_is_word, item_anywhere}
+use Rattle.shgrammar.proofs.ItemsAnywhere.{ItemAnywhere, is_a_word, item_is_word, item_anywhere}
 use Rattle.shprint.proofs.Tokens.{told_so, word_token}
 use Rattle.shprint.proofs.Digits.{digits_good, number_here}
 use Rattle.shprint.proofs.Due.{Due, due_at, BodyOf, docs_more, Opens, opens_nothing, opens_so, opens_one, opens_two, opens_document, opens_none, opens_last, opens_some, fill_all, SomeOf, some_last}
@@ -34,7 +34,7 @@ use Rattle.shast.specs.Bodies.{fill_here, fill_item_content, fill_item, fill_ite
 use Rattle.shast.proofs.Going.{items_going, and_or_parts_going, pipes_going}
 use Rattle.shprint.proofs.Good.{GoodHere, GoodOwnComment, an_item_of, a_redirect_of, GoodNumber, GoodRedirect, GoodRedirects, Kind, of_command, of_compound, GoodItem, of_word, of_redirect, of_redirect_after, GoodItems, none_more, SomeItem, GoodSimple, GoodEntry, GoodAndOr, GoodParts, GoodPipeline, GoodPipes, GoodCommand, GoodForm, GoodCompound}
 use Rattle.shprint.proofs.GoodRows.{with_last, items_more, items_last, pipes_more, joined_more}
-use Rattle.shprint.proofs.ReadableForms.{Quiet, Reads, gives, first, after, picks, with_its_bytes, stopped, Adds, add_gives, add_first, read_first, add_after, so_adds, add_sees, add_pushes, add_picks, add_stops, add_stopped, Turns, add_repeats, Stands, word_so, reads_next, reads_bang, reads_separator, WordRead, reads_word, reads_comment, Comments, reads_join}
+use Rattle.shprint.proofs.ReadableForms.{Quiet, AddsNone, gives, first, after, picks, with_its_bytes, stopped, Adds, add_gives, add_first, read_first, add_after, so_adds, add_sees, add_pushes, add_picks, add_stops, add_stopped, TurnGives, add_repeats, Stands, word_so, reads_next, reads_bang, reads_separator, WordRead, reads_word, reads_comment, Comments, reads_join}
 use Rattle.shast.specs.Nodes.{word_span}
 use Rattle.shgrammar.proofs.NamesBefore.{NameBefore, name_before}
 
@@ -194,7 +194,7 @@ module _ (B : List ℕ) (g : Given) (here : g.text ≡ drop g.offset B) where
     -- a word as an item
     reads_item : (C : Row Due) (i : ItemsSoFar) (next : Position) (D : Row Due) (p : ℕ) →
         after_word i.next.token ≡ Some next → ItemsSo C i D p
-        → Adds g D (an_item inner i next) (Turns g (ItemsOn C) (ItemsDone C)) p
+        → Adds g D (an_item inner i next) (TurnGives g (ItemsOn C) (ItemsDone C)) p
     unfolding an_item
     reads_item C i next D p is so =
         read_first g (reads_word g room p) (λ w q read. add_pushes g (read_first g (reads_next g next q) (λ n e stands.
@@ -217,7 +217,7 @@ module _ (B : List ℕ) (g : Given) (here : g.text ≡ drop g.offset B) where
 
     -- the number before an operator is digits
     reads_number : (position : Position) (n : Next) (p : ℕ) → Stands g position n p →
-        Reads g (a_number n) (λ x e. GoodNumber (bare_number x.0)) p
+        AddsNone g (a_number n) (λ x e. GoodNumber (bare_number x.0)) p
     unfolding a_number
     reads_number position n p so =
         picks g (is_number_token n.token)
@@ -237,7 +237,7 @@ module _ (B : List ℕ) (g : Given) (here : g.text ≡ drop g.offset B) where
         (gives g tt)
 
     -- an operator, whatever it is
-    reads_operator : (at : ℕ) (o : Option RedirectOperator) (p : ℕ) → Reads g (operator_by at o) (λ x e. Unit {0}) p
+    reads_operator : (at : ℕ) (o : Option RedirectOperator) (p : ℕ) → AddsNone g (operator_by at o) (λ x e. Unit {0}) p
     unfolding an_operator
     reads_operator at (Some o) p =
         after g (tt, (λ u. (picked (is_long o) _ _ tt tt, (λ v. picked (is_strip o) _ _ tt tt)))) (λ x e. gives g tt)
@@ -253,14 +253,14 @@ module _ (B : List ℕ) (g : Given) (here : g.text ≡ drop g.offset B) where
         × ItemAnywhere g.edition room Suffix tokens.Word x.1 ss
 
     -- the word of a redirection is one wherever it stands
-    reads_target : (p : ℕ) → Reads g (a_target inner) TargetGood p
+    reads_target : (p : ℕ) → AddsNone g (a_target inner) TargetGood p
     unfolding a_target
     reads_target p =
         first g (reads_next g Suffix p) (λ n e stands. picks g (is_word n.token)
         (λ is. first_so n e (word_token n.token is) stands) (stopped g inner n))
       where
         first_so : (n : Next) (e : ℕ) → n.token ≡ tokens.Word → Stands g Suffix n e →
-            Reads g (with_bytes (a_word inner)) TargetGood e
+            AddsNone g (with_bytes (a_word inner)) TargetGood e
         first_so n e is stands =
             with_its_bytes g (reads_word g room e) (λ w q read.
             let anywhere = subst (λ (t : Token). ItemAnywhere g.edition room Suffix t (text_of e q) (substs_in read)) is
@@ -355,7 +355,7 @@ module _ (B : List ℕ) (g : Given) (here : g.text ≡ drop g.offset B) where
     reads_redirect : (Q : ItemsSoFar → Row Due → ℕ → Type 0) (broken : Bool) (place next : Position) (is : Row AnItem)
         (n : Next) (D : Row Due) (p : ℕ) → Stands g place n p
         → ((i : AnItem) (m : Next) (E : Row Due) (e : ℕ) → OpenRedirect broken D i E → Stands g next m e →
-        Q (items_so_far (is ++ i ∷ []) next m) E e) → Adds g D (one_redirect inner broken next is n) (Turns g Q Q) p
+        Q (items_so_far (is ++ i ∷ []) next m) E e) → Adds g D (one_redirect inner broken next is n) (TurnGives g Q Q) p
     unfolding one_redirect
     reads_redirect Q broken place next is n D p so all =
         add_sees g (λ s. refl) (read_first g (reads_number place n p so)
@@ -368,12 +368,12 @@ module _ (B : List ℕ) (g : Given) (here : g.text ≡ drop g.offset B) where
 
     -- an item by the token in hand: a word, a redirection, or none
     reads_item_turn : (C : Row Due) (i : ItemsSoFar) (D : Row Due) (p : ℕ) → ItemsSo C i D p →
-        Adds g D (item_turn inner i) (Turns g (ItemsOn C) (ItemsDone C)) p
+        Adds g D (item_turn inner i) (TurnGives g (ItemsOn C) (ItemsDone C)) p
     unfolding item_turn
     reads_item_turn C i D p so = by_token (after_word i.next.token) refl
       where
-        on_done : (c : Step ItemsSoFar) (E : Row Due) (e : ℕ) → Turns g (ItemsOn C) (ItemsOn C) c E e →
-            Turns g (ItemsOn C) (ItemsDone C) c E e
+        on_done : (c : Step ItemsSoFar) (E : Row Due) (e : ℕ) → TurnGives g (ItemsOn C) (ItemsOn C) c E e →
+            TurnGives g (ItemsOn C) (ItemsDone C) c E e
         on_done (again j) E e on = on
         on_done (done j) E e on = simple_is C j E e on
 
@@ -385,7 +385,7 @@ module _ (B : List ℕ) (g : Given) (here : g.text ≡ drop g.offset B) where
 
         by_redirect : (b : Bool) → begins_redirect i.next.token ≡ b → after_word i.next.token ≡ None
             → Adds g D (pick b (one_redirect inner (breaks i) (after_redirect i.position) i.items i.next)
-            (give (done i))) (Turns g (ItemsOn C) (ItemsDone C)) p
+            (give (done i))) (TurnGives g (ItemsOn C) (ItemsDone C)) p
         by_redirect true is none =
             so_adds g (reads_redirect (ItemsOn C) (breaks i) i.position
             (after_redirect i.position) i.items i.next D p so.stands (λ j m E e one stands.
@@ -401,7 +401,7 @@ module _ (B : List ℕ) (g : Given) (here : g.text ≡ drop g.offset B) where
         by_redirect false is none = add_gives g (simple_is C i D p (so, so.begun (rw (none, is) refl)))
 
         by_token : (next : Option Position) → after_word i.next.token ≡ next →
-            Adds g D (item_by inner i next) (Turns g (ItemsOn C) (ItemsDone C)) p
+            Adds g D (item_by inner i next) (TurnGives g (ItemsOn C) (ItemsDone C)) p
         by_token (Some next) is = reads_item C i next D p is so
         by_token None is = by_redirect (begins_redirect i.next.token) refl is
 
@@ -440,26 +440,28 @@ module _ (B : List ℕ) (g : Given) (here : g.text ≡ drop g.offset B) where
         × Stands g Command c.1 e
 
     -- what is known of the compound commands and functions at this level
-    pub record Fine : Type 0 where
+    pub record CompoundsReadable : Type 0 where
       pub compound : (o : Opener) (D : Row Due) (p : ℕ) → Adds g D (inner.compound o) (Bare_is D) p
       pub function : (name : Span) (D : Row Due) (p : ℕ) → NameBefore room (text_at B name) →
           Adds g D (inner.function name) (Command_is D) p
 
-    module _ (fine : Fine) where
+    module _ (fine : CompoundsReadable) where
       -- the redirections after a compound command
       record RedirectsSo (C : Row Due) (r : ItemsSoFar) (D : Row Due) (p : ℕ) : Type 0 where
         pub position : r.position ≡ Command
         pub good : OpenItems of_compound Command C r.items D Command
         pub stands : Stands g Command r.next p
 
+      -- a redirection is good after a compound command
       is_after : (broken : Bool) (s : Shape AnItemOf) → IsRedirect broken s →
           GoodItem g.edition room of_compound Command s Command
       is_after broken s (number, o, t, ss, h, is, good) =
           subst (λ (r : Shape AnItemOf). GoodItem g.edition room of_compound Command r Command) (sym is)
           (of_redirect_after good)
 
+      -- one more redirection keeps those so far good
       reads_redirect_turn : (C : Row Due) (r : ItemsSoFar) (D : Row Due) (p : ℕ) → RedirectsSo C r D p →
-          Adds g D (redirect_turn inner r) (Turns g (RedirectsSo C) (RedirectsSo C)) p
+          Adds g D (redirect_turn inner r) (TurnGives g (RedirectsSo C) (RedirectsSo C)) p
       unfolding redirect_turn
       reads_redirect_turn C r D p so =
           add_picks g (begins_redirect r.next.token)
@@ -474,6 +476,7 @@ module _ (B : List ℕ) (g : Given) (here : g.text ≡ drop g.offset B) where
           }))
           (add_gives g so)
 
+      -- a compound command is good with the redirections after it, and so it is read, by its opener
       compound_open : {C D E : Row Due} (form : AForm) (mark : Span) (is : Row AnItem) → OpenUnder C form D →
           OpenItems of_compound Command D is E Command → OpenCompound C (formed form mark (items_of is)) E
       unfolding fill_compound
@@ -548,6 +551,7 @@ module _ (B : List ℕ) (g : Given) (here : g.text ≡ drop g.offset B) where
 
       -- ---- pipelines
 
+      -- the commands after the first one so far are good, and they are with one more after its join
       abbrev PipesGood : Row Due → PipesSoFar → Row Due → ℕ → Type 0
       PipesGood C x D p = Opens g (fill_all g fill_pipe)
           (λ ps. GoodPipes g.edition room (shape_of_pipes B (pipeline_parts_of ps))) C x.parts D
@@ -567,8 +571,9 @@ module _ (B : List ℕ) (g : Given) (here : g.text ≡ drop g.offset B) where
           part = opens_one g (record { join = j; command = c }) (λ d. record { join = j; command = d }) (λ ts. refl)
               (λ d good. (comments, good)) one
 
+      -- a command after a `|` is read so, each turn, and all of a pipeline
       reads_one_command : (C : Row Due) (x : PipesSoFar) (D : Row Due) (p : ℕ) → PipesGood C x D p →
-          Adds g D (one_command inner x) (Turns g (PipesGood C) (PipesGood C)) p
+          Adds g D (one_command inner x) (TurnGives g (PipesGood C) (PipesGood C)) p
       unfolding one_command
       reads_one_command C x D p so =
           add_after g tt (λ y e. read_first g (reads_join B g here x.next.broken e)
@@ -576,7 +581,7 @@ module _ (B : List ℕ) (g : Given) (here : g.text ≡ drop g.offset B) where
           add_pushes g (add_gives g (pipe_more x.parts j.0 c.0 join.0 good so)))))
 
       reads_pipe_turn : (C : Row Due) (x : PipesSoFar) (D : Row Due) (p : ℕ) → PipesGood C x D p →
-          Adds g D (pipe_turn inner x) (Turns g (PipesGood C) (PipesGood C)) p
+          Adds g D (pipe_turn inner x) (TurnGives g (PipesGood C) (PipesGood C)) p
       unfolding pipe_turn
       reads_pipe_turn C x D p so =
           add_picks g (is_pipe x.next.token) (λ is. reads_one_command C x D p so) (add_gives g so)
@@ -601,6 +606,7 @@ module _ (B : List ℕ) (g : Given) (here : g.text ≡ drop g.offset B) where
 
       -- ---- and-or lists
 
+      -- the pipelines after the first one so far are good, and they are with one more after its join
       abbrev AndOrGood : Row Due → AndOrSoFar → Row Due → ℕ → Type 0
       AndOrGood C a D p = Opens g (fill_all g fill_and_or_part)
           (λ ps. GoodParts g.edition room (shape_of_and_or_parts B (and_or_parts_of ps))) C a.parts D
@@ -623,9 +629,10 @@ module _ (B : List ℕ) (g : Given) (here : g.text ≡ drop g.offset B) where
           part = opens_one g (record { operator = o; join = j; pipeline = x })
               (λ y. record { operator = o; join = j; pipeline = y }) (λ ts. refl) (λ y good. (comments, good)) one
 
+      -- a pipeline after `&&` or `||` is read so, each turn, and all of an and-or list
       reads_one_pipeline : (C : Row Due) (a : AndOrSoFar) (o : AndOrOperator) (D : Row Due) (p : ℕ) → AndOrGood C a D p
           →
-          Adds g D (one_pipeline inner a o) (Turns g (AndOrGood C) (AndOrGood C)) p
+          Adds g D (one_pipeline inner a o) (TurnGives g (AndOrGood C) (AndOrGood C)) p
       unfolding one_pipeline
       reads_one_pipeline C a o D p so =
           add_after g (tt, (λ u. tt))
@@ -634,12 +641,12 @@ module _ (B : List ℕ) (g : Given) (here : g.text ≡ drop g.offset B) where
           add_pushes g (add_gives g (part_more a.parts o j.0 x.0 join.0 good so)))))
 
       reads_and_or_turn : (C : Row Due) (a : AndOrSoFar) (D : Row Due) (p : ℕ) → AndOrGood C a D p →
-          Adds g D (and_or_turn inner a) (Turns g (AndOrGood C) (AndOrGood C)) p
+          Adds g D (and_or_turn inner a) (TurnGives g (AndOrGood C) (AndOrGood C)) p
       unfolding and_or_turn
       reads_and_or_turn C a D p so = by_operator (and_or_operator_of a.next.token)
         where
           by_operator : (o : Option AndOrOperator) →
-              Adds g D (joined_by inner a o) (Turns g (AndOrGood C) (AndOrGood C)) p
+              Adds g D (joined_by inner a o) (TurnGives g (AndOrGood C) (AndOrGood C)) p
           by_operator (Some o) = reads_one_pipeline C a o D p so
           by_operator None = add_gives g so
 
@@ -662,6 +669,7 @@ module _ (B : List ℕ) (g : Given) (here : g.text ≡ drop g.offset B) where
           (opens_none g fill_and_or_part tt))
           (λ a E d all. add_gives g (and_or_open x.0 a.parts good all)))
 
+      -- an entry is good where its and-or list is, and so it is read, with its separator and its comment
       entry_open : {D E : Row Due} (a : AnAndOr) (background blank : Bool) (c : Option Span) →
           GoodOwnComment (option_map (shape_of_comment B) c) → OpenAndOr D a E
           → OpenEntry D (entry (command a) background blank c) E

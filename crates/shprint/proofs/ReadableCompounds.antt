@@ -35,8 +35,8 @@ use Rattle.shgrammar.proofs.OneOutcome.{computed_is_only}
 use Rattle.shgrammar.proofs.Holds.{Holds, Tells, tells_after, tells_change, tells_give, tells_level, tells_then, tells_moved}
 use Rattle.shgrammar.proofs.WordsWaiting.{place_of}
 use Rattle.shgrammar.proofs.Spelling.{raw_at}
-use Rattle.shgrammar.proofs.Elsewhere.{ItemAnywhere, NameAnywhere, is_a_word, item_is_word, token_anywhere, item_anywhere, name_anywhere}
-use Rattle.shgrammar.proofs.CommentsElsewhere.{CommentAnywhere}
+use Rattle.shgrammar.proofs.ItemsAnywhere.{ItemAnywhere, NameAnywhere, is_a_word, item_is_word, token_anywhere, item_anywhere, name_anywhere}
+use Rattle.shgrammar.proofs.CommentsAnywhere.{CommentAnywhere}
 use Rattle.shprint.proofs.Tokens.{word_token}
 use Rattle.shprint.proofs.Due.{Due, Docs, DocsAt, Feeds, no_docs, docs_done, docs_read, Opens, opens_nothing, opens_one, opens_two, opens_both, opens_none, opens_last, fill_all}
 use Rattle.shast.specs.Bodies.{fill_entries, fill_entry, fill_content, fill_command, fill_form, fill_branch, fill_else, fill_case, filled_row}
@@ -44,8 +44,8 @@ use Rattle.shast.proofs.FilledBack.{filled_is}
 use Rattle.shast.proofs.Going.{entries_going, branches_going, cases_going, row_filled}
 use Rattle.shprint.proofs.Good.{GoodOwnComment, an_item_of, of_for, of_argument, GoodItems, none_more, GoodWords, GoodForWords, GoodName, GoodEntries, GoodCommand, GoodForm, GoodBranch, GoodBranches, GoodElse, GoodWord, GoodPatterns, GoodCases, GoodCase}
 use Rattle.shprint.proofs.GoodRows.{branches_more, patterns_last, cases_more, entries_join}
-use Rattle.shprint.proofs.ReadableForms.{pattern_is_word, Reads, gives, first, after, sees, pushes, picks, stopped, Turned, repeats, Adds, add_gives, add_first, read_first, and_told, add_sees, add_pushes, add_picks, add_stops, add_stopped, Turns, turns_if, add_repeats, Stands, word_so, reads_next, reads_semicolon, reads_newline, reads_reserved_or_paren, reads_closing, WordRead, reads_word, reads_comment, Comments, reads_linebreak}
-use Rattle.shprint.proofs.ReadableCommands.{item_is, OpenCompound, OpenEntry, word_shape, text_of, substs_in, reads_anywhere, one_more_good, Fine, reads_compound_by, reads_entry}
+use Rattle.shprint.proofs.ReadableForms.{pattern_is_word, AddsNone, gives, first, after, sees, pushes, picks, stopped, Turned, repeats, Adds, add_gives, add_first, read_first, and_told, add_sees, add_pushes, add_picks, add_stops, add_stopped, TurnGives, turns_if, add_repeats, Stands, word_so, reads_next, reads_semicolon, reads_newline, reads_reserved_or_paren, reads_closing, WordRead, reads_word, reads_comment, Comments, reads_linebreak}
+use Rattle.shprint.proofs.ReadableCommands.{item_is, OpenCompound, OpenEntry, word_shape, text_of, substs_in, reads_anywhere, one_more_good, CompoundsReadable, reads_compound_by, reads_entry}
 use Rattle.shgrammar.proofs.NamesBefore.{NameBefore}
 
 module _ (B : List ℕ) (g : Given) (here : g.text ≡ drop g.offset B) where
@@ -86,7 +86,7 @@ module _ (B : List ℕ) (g : Given) (here : g.text ≡ drop g.offset B) where
     abbrev items : ItemsSoFar → Shape ItemsOf
     items i = shape_of_items B (items_of i.items)
 
-    module _ (fine : Fine B g here room) where
+    module _ (fine : CompoundsReadable B g here room) where
       -- ---- lists
 
       -- the entries of the list so far are good with their bodies; their documents are those that D has
@@ -107,7 +107,7 @@ module _ (B : List ℕ) (g : Given) (here : g.text ≡ drop g.offset B) where
       -- one more entry is read, and the entries are good; where a separator parts it from a next one, the
       -- next token stands where a command may begin
       reads_one_entry : (C : Row Due) (l : ListSoFar) (D : Row Due) (p : ℕ) → ListOn C l D p →
-          Adds g D (one_entry inner l) (Turns g (ListOn C) (Listing C)) p
+          Adds g D (one_entry inner l) (TurnGives g (ListOn C) (Listing C)) p
       unfolding one_entry
       reads_one_entry C l D p so =
           add_first g (reads_entry B g here room fine (is_blank_next l.list) l.next D p so.1)
@@ -117,7 +117,7 @@ module _ (B : List ℕ) (g : Given) (here : g.text ≡ drop g.offset B) where
 
       -- so the entries are good after each turn on a line, which reads one more where a pipeline begins
       reads_entry_turn : (C : Row Due) (l : ListSoFar) (D : Row Due) (p : ℕ) → ListOn C l D p →
-          Adds g D (entry_turn inner l) (Turns g (ListOn C) (Listing C)) p
+          Adds g D (entry_turn inner l) (TurnGives g (ListOn C) (Listing C)) p
       unfolding entry_turn
       reads_entry_turn C l D p so =
           add_picks g (begins_pipeline l.next.token) (λ is. reads_one_entry C l D p so) (add_gives g so.0)
@@ -152,7 +152,7 @@ module _ (B : List ℕ) (g : Given) (here : g.text ≡ drop g.offset B) where
 
       -- so they are after a turn of a list: what stands on a line, and then a newline or none
       reads_list_turn : (C : Row Due) (l : ListSoFar) (D : Row Due) (p : ℕ) → ListOn C l D p →
-          Adds g D (list_turn inner l) (Turns g (ListOn C) (Listing C)) p
+          Adds g D (list_turn inner l) (TurnGives g (ListOn C) (Listing C)) p
       unfolding list_turn
       reads_list_turn C l D p so =
           add_first g (reads_on_line C l D p so)
@@ -268,7 +268,7 @@ module _ (B : List ℕ) (g : Given) (here : g.text ≡ drop g.offset B) where
 
       -- a turn reads `elif` and one more branch, or neither, and the branches are good
       reads_elif : (C : Row Due) (b : BranchesSoFar) (D : Row Due) (p : ℕ) → BranchesGood C b D p →
-          Adds g D (elif_turn inner b) (Turns g (BranchesGood C) (BranchesGood C)) p
+          Adds g D (elif_turn inner b) (TurnGives g (BranchesGood C) (BranchesGood C)) p
       unfolding elif_turn
       reads_elif C b D p so =
           add_picks g (is_closing closings.Elif b.next.token)
@@ -358,7 +358,8 @@ module _ (B : List ℕ) (g : Given) (here : g.text ≡ drop g.offset B) where
 
       -- the name of a `for` is read as a good one
       reads_for_name : (n : Next) (p : ℕ) → Stands g Suffix n p →
-          Reads g (a_for_name inner n) (λ x e. GoodName g.edition room (shape_of_word B x.0) × Stands g Command x.1 e) p
+          AddsNone g (a_for_name inner n)
+          (λ x e. GoodName g.edition room (shape_of_word B x.0) × Stands g Command x.1 e) p
       unfolding a_for_name
       reads_for_name n p so =
           picks g (begins_word n.token)
@@ -372,7 +373,8 @@ module _ (B : List ℕ) (g : Given) (here : g.text ≡ drop g.offset B) where
       -- a semicolon or newlines, with comments, are read; the comments are good, and a token stands after
       -- them
       reads_sequential_sep : (cs : Row Span) (n : Next) (p : ℕ) → Comments B g here cs →
-          Reads g (a_sequential_sep inner cs n) (λ l e. Comments B g here l.join.comments × Stands g Command l.next e) p
+          AddsNone g (a_sequential_sep inner cs n)
+          (λ l e. Comments B g here l.join.comments × Stands g Command l.next e) p
       unfolding a_sequential_sep
       reads_sequential_sep cs n p good =
           first g (reads_semicolon g ⊥ n p (λ no. absurd no))
@@ -395,7 +397,7 @@ module _ (B : List ℕ) (g : Given) (here : g.text ≡ drop g.offset B) where
 
       -- a turn reads one more word and the token after it, or neither, and the words are good
       reads_word_turn : (i : ItemsSoFar) (p : ℕ) → WordsSo i p →
-          Reads g (word_turn inner i) (Turned g WordsSo WordsDone) p
+          AddsNone g (word_turn inner i) (Turned g WordsSo WordsDone) p
       unfolding word_turn an_item
       reads_word_turn i p so =
           picks g (is_word i.next.token)
@@ -420,7 +422,7 @@ module _ (B : List ℕ) (g : Given) (here : g.text ≡ drop g.offset B) where
           × Stands g Command h.next e
 
       -- `in`, the words after it and what ends them are read as good ones
-      reads_for_words : (cs : Row Span) (p : ℕ) → Comments B g here cs → Reads g (for_words inner cs) HeadGood p
+      reads_for_words : (cs : Row Span) (p : ℕ) → Comments B g here cs → AddsNone g (for_words inner cs) HeadGood p
       unfolding for_words
       reads_for_words cs p good =
           first g (reads_reserved_or_paren g _ _ _ p) (λ i e stands.
@@ -429,7 +431,7 @@ module _ (B : List ℕ) (g : Given) (here : g.text ≡ drop g.offset B) where
           first g (reads_sequential_sep cs ws.next f good) (λ l h lines. gives g (words, lines.0, lines.1))))
 
       -- what stands between the name of a `for` and `do` is read as good, be there an `in` or not
-      reads_for_head : (n : Next) (p : ℕ) → Stands g Command n p → Reads g (a_for_head inner n) HeadGood p
+      reads_for_head : (n : Next) (p : ℕ) → Stands g Command n p → AddsNone g (a_for_head inner n) HeadGood p
       unfolding a_for_head
       reads_for_head n p so =
           first g (reads_semicolon g (Unit {0}) n p (λ y. so))
@@ -494,7 +496,7 @@ module _ (B : List ℕ) (g : Given) (here : g.text ≡ drop g.offset B) where
 
       -- the word of a `case` is read as a good one, and a token stands after it
       reads_case_word : (n : Next) (p : ℕ) → Stands g Suffix n p →
-          Reads g (a_case_word inner n)
+          AddsNone g (a_case_word inner n)
           (λ x e. GoodWord g.edition room Suffix begins_word (shape_of_word B x.0) × Stands g Command x.1 e) p
       unfolding a_case_word
       reads_case_word n p so =
@@ -512,7 +514,7 @@ module _ (B : List ℕ) (g : Given) (here : g.text ≡ drop g.offset B) where
           Stands g position n p → begins n.token ≡ true → is_a_word n.token ≡ true
           → ((w : AWord) → GoodWord g.edition room position begins (shape_of_word B w) →
           GoodPatterns g.edition room (shape_of_patterns B (patterns_of (ws ++ w ∷ [])))) →
-          Reads g (a_pattern inner ws) PatternsGood p
+          AddsNone g (a_pattern inner ws) PatternsGood p
       unfolding a_pattern
       reads_pattern position begins ws n p so begin is_word all =
           first g (reads_word g room p)
@@ -521,7 +523,7 @@ module _ (B : List ℕ) (g : Given) (here : g.text ≡ drop g.offset B) where
 
       -- after a `|` one more pattern is read and the patterns are good, or no row goes on
       reads_one_pattern : (x : PatternsSoFar) (p : ℕ) → PatternsGood x p →
-          Reads g (one_pattern inner x.patterns) (Turned g PatternsGood PatternsGood) p
+          AddsNone g (one_pattern inner x.patterns) (Turned g PatternsGood PatternsGood) p
       unfolding one_pattern
       reads_one_pattern x p so =
           after g tt (λ y e. first g (reads_next g Suffix e) (λ n f stands. picks g (begins_word n.token)
@@ -532,12 +534,12 @@ module _ (B : List ℕ) (g : Given) (here : g.text ≡ drop g.offset B) where
 
       -- so the patterns are good after each turn
       reads_pattern_turn : (x : PatternsSoFar) (p : ℕ) → PatternsGood x p →
-          Reads g (pattern_turn inner x) (Turned g PatternsGood PatternsGood) p
+          AddsNone g (pattern_turn inner x) (Turned g PatternsGood PatternsGood) p
       unfolding pattern_turn
       reads_pattern_turn x p so = picks g (is_pipe x.next.token) (λ is. reads_one_pattern x p so) (gives g so)
 
       -- all patterns of an item are read as good ones
-      reads_patterns : (n : Next) (p : ℕ) → Stands g Command n p → Reads g (a_pattern_list inner n) PatternsGood p
+      reads_patterns : (n : Next) (p : ℕ) → Stands g Command n p → AddsNone g (a_pattern_list inner n) PatternsGood p
       unfolding a_pattern_list
       reads_patterns n p so =
           picks g (begins_pattern n.token)
@@ -549,7 +551,7 @@ module _ (B : List ℕ) (g : Given) (here : g.text ≡ drop g.offset B) where
 
       -- the bracket before the patterns is read, or none; after it a token stands where a command may begin
       reads_bracket : (n : Next) (p : ℕ) → Stands g Command n p →
-          Reads g (an_open_bracket n) (λ m e. Stands g Command m e) p
+          AddsNone g (an_open_bracket n) (λ m e. Stands g Command m e) p
       unfolding an_open_bracket
       reads_bracket n p so = picks g (is_paren n.token) (λ is. after g tt (λ u e. reads_next g Command e)) (gives g so)
 
@@ -578,7 +580,7 @@ module _ (B : List ℕ) (g : Given) (here : g.text ≡ drop g.offset B) where
       EndGood x e = Comments B g here x.comments × Onward x.next e
 
       -- the ender of an item is read, with the comments and newlines after it
-      reads_ender : (falling : Bool) (p : ℕ) → Reads g (an_ender falling) EndGood p
+      reads_ender : (falling : Bool) (p : ℕ) → AddsNone g (an_ender falling) EndGood p
       unfolding an_ender
       reads_ender falling p =
           after g (tt, (λ u. tt)) (λ y f. after g tt (λ q h. first g (reads_next g Command h) (λ n i stands.
@@ -586,7 +588,7 @@ module _ (B : List ℕ) (g : Given) (here : g.text ≡ drop g.offset B) where
           (λ l j so. gives g (so.0, (λ no. so.1 (inl tt)))))))
 
       -- an item ends with its ender or before `esac`; at another token no row goes on
-      reads_item_end : (there : ℕ) (n : Next) (p : ℕ) → Reads g (an_item_end inner there n) EndGood p
+      reads_item_end : (there : ℕ) (n : Next) (p : ℕ) → AddsNone g (an_item_end inner there n) EndGood p
       unfolding an_item_end
       reads_item_end there n p =
           picks g (ends_item n.token) (λ is. reads_ender (falls_through n.token) p)
@@ -624,7 +626,7 @@ module _ (B : List ℕ) (g : Given) (here : g.text ≡ drop g.offset B) where
       -- one more item is read, from its bracket to its end, and the items are good
       reads_one_case : (C : Row Due) (c : CasesSoFar) (D : Row Due) (p : ℕ) → CasesOn C c D p →
           Stands g Command c.next p →
-          Adds g D (one_case inner c) (Turns g (CasesOn C) (CasesDone C)) p
+          Adds g D (one_case inner c) (TurnGives g (CasesOn C) (CasesDone C)) p
       unfolding one_case
       reads_one_case C c D p so stands =
           add_sees g (λ s. refl) (read_first g (reads_bracket c.next p stands)
@@ -641,19 +643,19 @@ module _ (B : List ℕ) (g : Given) (here : g.text ≡ drop g.offset B) where
 
       -- so they are after each turn, which reads no item where `esac` stands
       reads_case_turn : (C : Row Due) (c : CasesSoFar) (D : Row Due) (p : ℕ) → CasesOn C c D p →
-          Adds g D (case_turn inner c) (Turns g (CasesOn C) (CasesDone C)) p
+          Adds g D (case_turn inner c) (TurnGives g (CasesOn C) (CasesDone C)) p
       unfolding case_turn
       reads_case_turn C c D p so = by_end (is_closing closings.Esac c.next.token) refl
         where
           by_end : (last : Bool) → is_closing closings.Esac c.next.token ≡ last →
-              Adds g D (pick last (give (done c)) (one_case inner c)) (Turns g (CasesOn C) (CasesDone C)) p
+              Adds g D (pick last (give (done c)) (one_case inner c)) (TurnGives g (CasesOn C) (CasesDone C)) p
           by_end true is = add_gives g (so.0, so.1)
           by_end false is = reads_one_case C c D p so (so.2 is)
 
       -- the word of a `case` and `in` are read, with good comments after both, and a token stands after
       -- them
       reads_case_head : (n : Next) (p : ℕ) → Stands g Suffix n p
-          → Reads g (a_case_head inner n)
+          → AddsNone g (a_case_head inner n)
           (λ h e. GoodWord g.edition room Suffix begins_word (shape_of_word B h.0) × Comments B g here h.1
           × Stands g Command h.2 e) p
       unfolding a_case_head
@@ -759,7 +761,7 @@ module _ (B : List ℕ) (g : Given) (here : g.text ≡ drop g.offset B) where
           (λ b E k one. add_gives g (under_good name l.join.comments b.0 one.0 one.1 before lines.0 one.2)))))
 
   -- all that is known of compound commands, at each level from that of the one below
-  reads_level : (room : ℕ) → Fine B g here room
+  reads_level : (room : ℕ) → CompoundsReadable B g here room
   unfolding level
   reads_level zero = record {
     compound = λ o D p. add_sees g (λ s. refl) (add_stops g);

@@ -29,10 +29,10 @@ use Rattle.shgrammar.specs.Levels.{level}
 use Rattle.shgrammar.proofs.Places.{place_same, blanks_stop}
 use Rattle.shgrammar.proofs.OneOutcome.{computed_is_only}
 use Rattle.shgrammar.proofs.Holds.{Holds, Tells, Stepped, tells_after, tells_change, tells_give, tells_then, tells_token, tells_so, tells_until, tells_seen, tells_moved, tells_pushed, tells_with_bytes, holds_and}
-use Rattle.shgrammar.proofs.Anywhere.{word_read, word_span as spanned}
+use Rattle.shgrammar.proofs.WordsAnywhere.{word_read, word_span as spanned}
 use Rattle.shgrammar.proofs.WordsWaiting.{blind_word, onto, place_of}
-use Rattle.shgrammar.proofs.Elsewhere.{is_a_word}
-use Rattle.shgrammar.proofs.CommentsElsewhere.{CommentAnywhere, comment_is, comment_anywhere}
+use Rattle.shgrammar.proofs.ItemsAnywhere.{is_a_word}
+use Rattle.shgrammar.proofs.CommentsAnywhere.{CommentAnywhere, comment_is, comment_anywhere}
 use Rattle.shprint.proofs.Tokens.{told_so}
 use Rattle.shprint.proofs.Due.{Due, Docs, DocsAt, done_docs, docs_read}
 use Rattle.shprint.proofs.Good.{GoodComments, GoodOwnComment}
@@ -118,18 +118,18 @@ module _ (g : Given) where
 
   -- P holds of what r reads from p on, and of the place after it. Whatever documents
   -- stand before p, they, and no others, stand before its end too.
-  pub record Reads {X : Type 0} (r : Form X) (P : X → ℕ → Type 0) (p : ℕ) : Type 0 where
+  pub record AddsNone {X : Type 0} (r : Form X) (P : X → ℕ → Type 0) (p : ℕ) : Type 0 where
     pub reads : (D : Row Due) (s : State) → DocsAt g D s → Tells Whole g r (Kept D P) (place_of s p)
 
   -- what is given
-  pub gives : {X : Type 0} {P : X → ℕ → Type 0} {x : X} {p : ℕ} → P x p → Reads (give x) P p
+  pub gives : {X : Type 0} {P : X → ℕ → Type 0} {x : X} {p : ℕ} → P x p → AddsNone (give x) P p
   gives so = record { reads = λ D s docs. tells_give Whole g (docs, so) }
 
   -- a form and then the next
   pub first : {X Y : Type 0} {P : X → ℕ → Type 0} {Q : Y → ℕ → Type 0} {r : Form X} {q : X → Form Y} {p : ℕ} →
-      Reads r P p →
-      ((x : X) (e : ℕ) → P x e → Reads (q x) Q e)
-      → Reads (both r q) Q p
+      AddsNone r P p →
+      ((x : X) (e : ℕ) → P x e → AddsNone (q x) Q e)
+      → AddsNone (both r q) Q p
   first {P = P} {Q = Q} one rest =
       record {
         reads = λ D s docs. tells_then Whole g {P = Kept D P} {Q = Kept D Q} (one.reads D s docs)
@@ -138,7 +138,7 @@ module _ (g : Given) where
 
   -- what a quiet form gives may be anything
   pub after : {X Y : Type 0} {Q : Y → ℕ → Type 0} {r : Form X} {q : X → Form Y} {p : ℕ} → Quiet r →
-      ((x : X) (e : ℕ) → Reads (q x) Q e) → Reads (both r q) Q p
+      ((x : X) (e : ℕ) → AddsNone (q x) Q e) → AddsNone (both r q) Q p
   after {Q = Q} {r = r} {p = p} only rest =
       record {
         reads = λ D s docs. tells_then Whole g {Q = Kept D Q} (quiet r only D (place_of s p) docs)
@@ -147,34 +147,35 @@ module _ (g : Given) where
 
   -- what is seen is the same whatever waits
   pub sees : {X Y : Type 0} {Q : Y → ℕ → Type 0} {f : Sight X} {q : X → Form Y} {p : ℕ} →
-      ((s : State) → seen f g (place_of s p) ≡ seen f g (standing p)) → Reads (q (seen f g (standing p))) Q p
-      → Reads (both (see f) q) Q p
+      ((s : State) → seen f g (place_of s p) ≡ seen f g (standing p)) → AddsNone (q (seen f g (standing p))) Q p
+      → AddsNone (both (see f) q) Q p
   sees {Q = Q} {f = f} {q = q} {p = p} same rest = record {
     reads = λ D s docs. tells_seen Whole g
         (subst (λ x. Tells Whole g (q x) (Kept D Q) (place_of s p)) (sym (same s)) (rest.reads D s docs));
   }
 
   -- a move
-  moves : {Y : Type 0} {Q : Y → ℕ → Type 0} {m : Move} {q : Unit {0} → Form Y} {p : ℕ} → Reads (q tt) Q (to m g.text p)
-      → Reads (both (move m) q) Q p
+  moves : {Y : Type 0} {Q : Y → ℕ → Type 0} {m : Move} {q : Unit {0} → Form Y} {p : ℕ} →
+      AddsNone (q tt) Q (to m g.text p)
+      → AddsNone (both (move m) q) Q p
   moves rest = record { reads = λ D s docs. tells_moved Whole g (rest.reads D s docs) }
 
   -- one thing more in a row
   pub pushes : {A Y : Type 0} {Q : Y → ℕ → Type 0} {xs : Row A} {x : A} {q : Row A → Form Y} {p : ℕ} →
-      Reads (q (xs ++ x ∷ [])) Q p → Reads (both (push xs x) q) Q p
+      AddsNone (q (xs ++ x ∷ [])) Q p → AddsNone (both (push xs x) q) Q p
   pushes rest = record { reads = λ D s docs. tells_pushed g (rest.reads D s docs) }
 
   -- one of two forms
-  pub picks : {X : Type 0} {P : X → ℕ → Type 0} (b : Bool) {r q : Form X} {p : ℕ} → (b ≡ true → Reads r P p) →
-      Reads q P p →
-      Reads (pick b r q) P p
+  pub picks : {X : Type 0} {P : X → ℕ → Type 0} (b : Bool) {r q : Form X} {p : ℕ} → (b ≡ true → AddsNone r P p) →
+      AddsNone q P p →
+      AddsNone (pick b r q) P p
   picks true one two = one refl
   picks false one two = two
 
   -- a form with its bytes
   pub with_its_bytes : {X : Type 0} {P : X → ℕ → Type 0} {Q : X × Spelled → ℕ → Type 0} {r : Form X} {p : ℕ} →
-      Reads r P p →
-      ((x : X) (e : ℕ) → P x e → Q (x, raw g.text p e) e) → Reads (with_bytes r) Q p
+      AddsNone r P p →
+      ((x : X) (e : ℕ) → P x e → Q (x, raw g.text p e) e) → AddsNone (with_bytes r) Q p
   with_its_bytes one so = record {
     reads =
         λ D s docs. tells_with_bytes Whole g (one.reads D s docs) (λ x t good. (good.0, so x t.at good.1));
@@ -182,7 +183,7 @@ module _ (g : Given) where
 
   -- where no row goes on nothing is read
   pub stopped : {X : Type 0} {P : X → ℕ → Type 0} {p : ℕ} (inner : Inner) (n : Next) →
-      Reads (unexpected {X = X} inner n) P p
+      AddsNone (unexpected {X = X} inner n) P p
   stopped inner n = record { reads = λ D s docs. tells_after Whole g (λ w t. record { told = tt }) }
 
   -- what a turn gives: R where it goes on, and Q where it was the last
@@ -203,10 +204,10 @@ module _ (g : Given) where
   turned_if R Q false a p go last = last
 
   module _ {A : Type 0} (turn : A → Form (Step A)) (P R Q : A → ℕ → Type 0)
-      (each : (a : A) (p : ℕ) → P a p → Reads (turn a) (Turned R Q) p)
+      (each : (a : A) (p : ℕ) → P a p → AddsNone (turn a) (Turned R Q) p)
       (goes : (a : A) (p : ℕ) → R a p → P a p) (ends : (a : A) (p : ℕ) → R a p → Q a p) where
     -- a repetition, by its turn
-    pub repeats : (a : A) (p : ℕ) → P a p → Reads (many turn a) Q p
+    pub repeats : (a : A) (p : ℕ) → P a p → AddsNone (many turn a) Q p
     repeats a p so = record {
       reads = λ D s docs. tells_until Whole g turn (Kept D P) (Kept D R) (Kept D Q)
           (λ b t now. tells_so Whole g ((each b t.at now.1).reads D t now.0) (turned D R Q))
@@ -242,7 +243,7 @@ module _ (g : Given) where
 
   -- after a form that adds none
   pub read_first : {X Y : Type 0} {P : X → ℕ → Type 0} {Q : Y → Row Due → ℕ → Type 0} {D : Row Due} {r : Form X}
-      {q : X → Form Y} {p : ℕ} → Reads r P p
+      {q : X → Form Y} {p : ℕ} → AddsNone r P p
       → ((x : X) (e : ℕ) → P x e → Adds D (q x) Q e) → Adds D (both r q) Q p
   read_first {P = P} {Q = Q} {D = D} one rest =
       record {
@@ -305,25 +306,25 @@ module _ (g : Given) where
   add_stopped inner n = record { adds = λ s docs. tells_after Whole g (λ w t. record { told = tt }) }
 
   -- what a turn gives: R where it goes on, and Q where it was the last
-  abbrev pub Turns : {A : Type 0} → (A → Row Due → ℕ → Type 0) → (A → Row Due → ℕ → Type 0) → Step A → Row Due → ℕ →
+  abbrev pub TurnGives : {A : Type 0} → (A → Row Due → ℕ → Type 0) → (A → Row Due → ℕ → Type 0) → Step A → Row Due → ℕ →
       Type 0
-  Turns R Q (again a) E p = R a E p
-  Turns R Q (done a) E p = Q a E p
+  TurnGives R Q (again a) E p = R a E p
+  TurnGives R Q (done a) E p = Q a E p
 
   -- the same, as a repetition asks for it
-  turns : {A : Type 0} (R Q : A → Row Due → ℕ → Type 0) (c : Step A) (t : State) → Grown (Turns R Q) c t →
+  turns : {A : Type 0} (R Q : A → Row Due → ℕ → Type 0) (c : Step A) (t : State) → Grown (TurnGives R Q) c t →
       Stepped Whole g (Grown R) (Grown Q) c t
   turns R Q (again a) t so = so
   turns R Q (done a) t so = so
 
   -- a turn that goes on by a test
   pub turns_if : {A : Type 0} (R Q : A → Row Due → ℕ → Type 0) (b : Bool) (a : A) (E : Row Due) (p : ℕ) →
-      (b ≡ true → R a E p) → Q a E p → Turns R Q (step_if b a) E p
+      (b ≡ true → R a E p) → Q a E p → TurnGives R Q (step_if b a) E p
   turns_if R Q true a E p go last = go refl
   turns_if R Q false a E p go last = last
 
   module _ {A : Type 0} (turn : A → Form (Step A)) (P R Q : A → Row Due → ℕ → Type 0)
-      (each : (a : A) (D : Row Due) (p : ℕ) → P a D p → Adds D (turn a) (Turns R Q) p)
+      (each : (a : A) (D : Row Due) (p : ℕ) → P a D p → Adds D (turn a) (TurnGives R Q) p)
       (goes : (a : A) (D : Row Due) (p : ℕ) → R a D p → P a D p)
       (ends : (a : A) (D : Row Due) (p : ℕ) → R a D p → Q a D p) where
     -- a repetition, by its turn
@@ -350,7 +351,7 @@ module _ (g : Given) where
       told_so is_a_word refl refl g.edition (token_at position g.text p) n.token so.token_is is
 
   -- the next token stands where the reading stands then
-  pub reads_next : (position : Position) (p : ℕ) → Reads (next_token position) (Stands position) p
+  pub reads_next : (position : Position) (p : ℕ) → AddsNone (next_token position) (Stands position) p
   unfolding next_token past_blanks
   reads_next position p = sees (λ s. refl)
       (moves (gives (record { place = place_same g.text _; no_blank = blanks_stop g.text p; token_is = refl })))
@@ -358,22 +359,22 @@ module _ (g : Given) where
   -- on, and then the next token
   next_on : {X Y : Type 0} {P : Y → ℕ → Type 0} {r : Form X} {f : X → Next → Y} {p : ℕ} → Quiet r →
       ((x : X) (n : Next) (e : ℕ) → Stands Command n e → P (f x n) e)
-      → Reads (both r (λ x. both (next_token Command) (λ n. give (f x n)))) P p
+      → AddsNone (both r (λ x. both (next_token Command) (λ n. give (f x n)))) P p
   next_on only so = after only (λ x e. first (reads_next Command e) (λ n d stands. gives (so x n d stands)))
 
   -- rows of one token or none: after it the next token stands there
-  pub reads_bang : (n : Next) (p : ℕ) → Stands Command n p → Reads (a_bang n) (λ b e. Stands Command b.1 e) p
+  pub reads_bang : (n : Next) (p : ℕ) → Stands Command n p → AddsNone (a_bang n) (λ b e. Stands Command b.1 e) p
   unfolding a_bang
   reads_bang n p so = picks (is_bang n.token) (λ is. next_on tt (λ x m e stands. stands)) (gives so)
 
   pub reads_semicolon : (X : Type 0) (n : Next) (p : ℕ) → (X → Stands Command n p) →
-      Reads (a_semicolon n) (λ l e. (X → Stands Command l.1 e) × (l.0 ≡ true → Stands Command l.1 e)) p
+      AddsNone (a_semicolon n) (λ l e. (X → Stands Command l.1 e) × (l.0 ≡ true → Stands Command l.1 e)) p
   unfolding a_semicolon
   reads_semicolon X n p so = picks (is_semicolon n.token)
       (λ is. next_on tt (λ x m e stands. ((λ y. stands), (λ y. stands)))) (gives (so, (λ y. absurd cc)))
 
   -- a newline token reads the bodies of what waits
-  reads_bodies : (p : ℕ) → Reads (change bodies_here) (λ u e. Unit {0}) p
+  reads_bodies : (p : ℕ) → AddsNone (change bodies_here) (λ u e. Unit {0}) p
   reads_bodies p = record {
     reads = λ D s docs. tells_change Whole g
         (λ t is. let r = docs_read g (place_of s p) t docs is in
@@ -382,7 +383,7 @@ module _ (g : Given) where
 
   -- a newline token, and the token after the bodies
   pub reads_newline : (X : Type 0) (n : Next) (p : ℕ) → (X → Stands Command n p) →
-      Reads (a_newline n) (λ l e. (X → Stands Command l.1 e) × (l.0 ≡ true → Stands Command l.1 e)) p
+      AddsNone (a_newline n) (λ l e. (X → Stands Command l.1 e) × (l.0 ≡ true → Stands Command l.1 e)) p
   unfolding a_newline
   reads_newline X n p so =
       picks (is_newline_token n.token)
@@ -391,24 +392,25 @@ module _ (g : Given) where
       (gives (so, (λ y. absurd cc)))
 
   -- a separator, or none
-  pub reads_separator : (n : Next) (p : ℕ) → Reads (a_separator n) (λ s e. is_some s.0 ≡ true → Stands Command s.1 e) p
+  pub reads_separator : (n : Next) (p : ℕ) →
+      AddsNone (a_separator n) (λ s e. is_some s.0 ≡ true → Stands Command s.1 e) p
   unfolding a_separator
   reads_separator n p = by_separator (separator_of n.token)
     where
       by_separator : (s : Option Separator) →
-          Reads (separator_by n s) (λ s e. is_some s.0 ≡ true → Stands Command s.1 e) p
+          AddsNone (separator_by n s) (λ s e. is_some s.0 ≡ true → Stands Command s.1 e) p
       by_separator (Some s) = next_on tt (λ x m e stands. λ y. stands)
       by_separator None = gives (λ y. absurd cc)
 
   -- a reserved word or a bracket, and the token after it
   pub reads_reserved_or_paren : (text : Spelled) (paren : Bool) (position : Position) (p : ℕ) →
-      Reads (reserved_or_paren text paren position) (λ x e. Stands position x.1 e) p
+      AddsNone (reserved_or_paren text paren position) (λ x e. Stands position x.1 e) p
   unfolding reserved_or_paren
   reads_reserved_or_paren text paren position p =
       after tt (λ x e. first (reads_next position e) (λ n d stands. gives stands))
 
   pub reads_closing : (inner : Inner) (c : Closing) (n : Next) (p : ℕ) →
-      Reads (closing inner c n) (λ x e. Stands Command x.1 e) p
+      AddsNone (closing inner c n) (λ x e. Stands Command x.1 e) p
   unfolding closing
   reads_closing inner c n p = picks (is_closing c n.token) (λ is. reads_reserved_or_paren _ _ _ p) (stopped inner n)
 
@@ -422,7 +424,7 @@ module _ (g : Given) where
     pub is : w ≡ word (span g.offset p q) (substs_of substs)
 
   -- a word that is read is one that may be read where nothing waits
-  pub reads_word : (room p : ℕ) → Reads (a_word (level room)) (WordRead room p) p
+  pub reads_word : (room p : ℕ) → AddsNone (a_word (level room)) (WordRead room p) p
   reads_word room p =
       let some = (computed_is_only (a_word (level room)) g (standing p)).some in
       let word_is = holds_by (λ w t. WordRead room p w t.at) (may (a_word (level room)) g (standing p)) _ some.0 some.1
@@ -457,11 +459,11 @@ module _ (B : List ℕ) (g : Given) (here : g.text ≡ drop g.offset B) where
 
   -- a comment or none
   pub reads_comment : (X : Type 0) (n : Next) (p : ℕ) → (X → Stands g Command n p) →
-      Reads g (a_comment n) (Commented X) p
+      AddsNone g (a_comment n) (Commented X) p
   unfolding a_comment
   reads_comment X n p so = sees g (λ s. refl) (by_comment (comment_at g.text g.offset p) refl)
     where
-      by_comment : (c : Option Span) → comment_at g.text g.offset p ≡ c → Reads g (comment_by n c) (Commented X) p
+      by_comment : (c : Option Span) → comment_at g.text g.offset p ≡ c → AddsNone g (comment_by n c) (Commented X) p
       by_comment (Some c) is = next_on g tt (λ x m e stands. (comment_good p c is, (λ y. stands), (λ y. stands)))
       by_comment None is = gives g (tt, so, (λ y. absurd cc))
 
@@ -473,7 +475,8 @@ module _ (B : List ℕ) (g : Given) (here : g.text ≡ drop g.offset B) where
 
   -- so they are with one more, or with none
   reads_with : (cs : Row Span) (c : Option Span) (p : ℕ) → Comments cs →
-      GoodOwnComment (option_map (shape_of_comment B) c) → Reads g (with_comment cs c) (λ ds e. Comments ds × (e ≡ p)) p
+      GoodOwnComment (option_map (shape_of_comment B) c) →
+      AddsNone g (with_comment cs c) (λ ds e. Comments ds × (e ≡ p)) p
   reads_with cs (Some c) p all one =
       record { reads = λ D s docs. record { told = (docs, (comments_more B cs c all one, refl)) } }
   reads_with cs None p all one = gives g (all, refl)
@@ -484,7 +487,7 @@ module _ (B : List ℕ) (g : Given) (here : g.text ≡ drop g.offset B) where
 
   -- a comment and a newline, or one of them, within a join
   reads_join_turn : (X : Type 0) (j : JoinSoFar) (p : ℕ) → JoinGood X j p →
-      Reads g (join_turn j) (Turned g (JoinGood X) (JoinGood X)) p
+      AddsNone g (join_turn j) (Turned g (JoinGood X) (JoinGood X)) p
   unfolding join_turn
   reads_join_turn X j p so =
       first g (reads_comment (X ⊎ (j.join.broken ≡ true)) j.next p so.1) (λ c e one.
@@ -501,7 +504,7 @@ module _ (B : List ℕ) (g : Given) (here : g.text ≡ drop g.offset B) where
 
   -- comments and newlines where no command has to follow
   pub reads_linebreak : (X : Type 0) (cs : Row Span) (n : Next) (p : ℕ) → Comments cs → (X → Stands g Command n p) →
-      Reads g (a_linebreak cs n) (JoinGood X) p
+      AddsNone g (a_linebreak cs n) (JoinGood X) p
   unfolding a_linebreak
   reads_linebreak X cs n p good so =
       repeats g join_turn (JoinGood X) (JoinGood X) (JoinGood X) (reads_join_turn X) (λ j d on. on) (λ j d on. on) _ p
@@ -509,7 +512,7 @@ module _ (B : List ℕ) (g : Given) (here : g.text ≡ drop g.offset B) where
 
   -- comments and newlines after an operator
   pub reads_join : (broken : Bool) (p : ℕ) →
-      Reads g (a_join broken) (λ x e. Comments x.0.comments × Stands g Command x.1 e) p
+      AddsNone g (a_join broken) (λ x e. Comments x.0.comments × Stands g Command x.1 e) p
   unfolding a_join
   reads_join broken p =
       first g (reads_next g Command p) (λ n e stands.

@@ -13,7 +13,7 @@ use Rattle.shprint.specs.declared.layout.Layout.{Layout}
 use Rattle.shprint.specs.Marks.{Marks, laid_after, held_after, one, text}
 use Rattle.shprint.specs.Printed.{is_broken_item, print_item}
 use Rattle.shprint.specs.Written.{Sheet, item_after, marks_of_items, stretch, written}
-use Rattle.shprint.proofs.Copying.{taken}
+use Rattle.shprint.proofs.Copying.{first_taken}
 use Rattle.shprint.proofs.Writing.{written_append, written_cons}
 
 module _ (B : Text) where
@@ -38,7 +38,7 @@ module _ (B : Text) where
     unfolding written laid_after held_after
     word_is i at s unbroken printed blank next some t =
         let before : at < s.«end» = omega (arith, next, some) in
-        let told : stretch B at s.«end» ≡ space ∷ text_at B s = taken B at s.«end» space blank before
+        let told : stretch B at s.«end» ≡ space ∷ text_at B s = first_taken B at s.«end» space blank before
         ∙ ap (λ r. space ∷ r) (rw (← next) refl) in
         rw (unbroken, printed, told) refl
 

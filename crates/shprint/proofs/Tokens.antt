@@ -2,6 +2,7 @@
 use Rattle.std.proofs.Common.{◌≡◌, ℕ, suc, ◌+◌, ◌==◌, Bool, true, false, not, ◌&&◌, ◌||◌, ◌⊎◌, inl, inr, List, List as Row, [], ◌∷◌, ◌++◌, length, drop, take, codes, Option, Some, None, is_some, slice_get, refl, sym, ap, subst, ◌∙◌, arith, cond}
 use Rattle.std.proofs.lemmas.Bool.{and_from, and_parts, both_ways, false_from_ne_true, not-true, or_parts}
 use Rattle.std.proofs.lemmas.Bool.Decides.{nat_tests}
+use Rattle.std.proofs.Math.Seq.{drop-append_seam, take-append_seam}
 use Rattle.std.proofs.lemmas.List.{drop-drop}
 use Rattle.shgrammar.specs.declared.edition.Edition.{Edition}
 use Rattle.shgrammar.specs.declared.token.Position.{Position}
@@ -18,52 +19,42 @@ use Rattle.shgrammar.specs.Tokens.{Spelling, is_word_at, first_of_words, reserve
 use Rattle.shsource.specs.Text.{is_newline}
 use Rattle.shgrammar.proofs.Stretches.{get_drop, joined_none, joined_more, place_low, past_more, past_none, raw_more, raw_none, byte_is}
 use Rattle.shgrammar.proofs.SameBytes.{no_backslash}
-use Rattle.shgrammar.proofs.Ahead.{past_byte_is, spelled_none, spelled_more, ender}
+use Rattle.shgrammar.proofs.Ahead.{past_byte_is, spelled_none, spelled_more, ender_is_other}
 use Rattle.shgrammar.proofs.NamesBefore.{name_clear}
 use Rattle.shgrammar.specs.Commands.{is_word, is_paren, begins_redirect, begins_simple, begins_word, after_word}
 use Rattle.shgrammar.specs.HereDocuments.{ADelimiter, delimiter_in, delimiter_of}
 use Rattle.shast.specs.declared.tree.RedirectOperator.{RedirectOperator}
 use Rattle.shast.specs.declared.tree.RedirectOperator.TheVariants as redirects
 use Rattle.shast.specs.Spelling.{redirect_text}
-use Rattle.shgrammar.proofs.Elsewhere.{is_a_word}
+use Rattle.shgrammar.proofs.ItemsAnywhere.{is_a_word}
 use Rattle.shprint.proofs.Good.{all_digits}
 
 -- ---- the bytes from a place on
 
--- past the front of a list stands the rest of it
-skip_front : (xs ys : List ℕ) → drop (length xs) (xs ++ ys) ≡ ys
-skip_front [] ys = refl
-skip_front (x ∷ xs) ys = skip_front xs ys
-
--- what is taken from the front of a list is that front
-take_front : (xs ys : List ℕ) → take (length xs) (xs ++ ys) ≡ xs
-take_front [] ys = refl
-take_front (x ∷ xs) ys = ap (λ z. x ∷ z) (take_front xs ys)
-
 -- past some bytes that stand here the rest stands
-pub skip : (T : List ℕ) (p : ℕ) (xs ys : List ℕ) → drop p T ≡ xs ++ ys → drop (p + length xs) T ≡ ys
-skip T p xs ys at = sym (drop-drop (length xs) p T) ∙ ap (drop (length xs)) at ∙ skip_front xs ys
+pub past_text_stands : (T : List ℕ) (p : ℕ) (xs ys : List ℕ) → drop p T ≡ xs ++ ys → drop (p + length xs) T ≡ ys
+past_text_stands T p xs ys at = sym (drop-drop (length xs) p T) ∙ ap (drop (length xs)) at ∙ drop-append_seam xs ys
 
 -- they are the text of that length from here on
 pub text_here : (T : List ℕ) (p : ℕ) (xs ys : List ℕ) → drop p T ≡ xs ++ ys → take (length xs) (drop p T) ≡ xs
-text_here T p xs ys at = ap (take (length xs)) at ∙ take_front xs ys
+text_here T p xs ys at = ap (take (length xs)) at ∙ take-append_seam xs ys
 
 -- one of them stands alone
-pub first : (T : List ℕ) (p c : ℕ) (xs : List ℕ) → drop p T ≡ c ∷ xs → slice_get T p ≡ Some c
-first T p c xs at = let e : p + 0 ≡ p = omega arith in
+pub first_stands : (T : List ℕ) (p c : ℕ) (xs : List ℕ) → drop p T ≡ c ∷ xs → slice_get T p ≡ Some c
+first_stands T p c xs at = let e : p + 0 ≡ p = omega arith in
     ap (slice_get T) (sym e) ∙ sym (get_drop p T 0) ∙ ap (λ z. slice_get z 0) at
 
 -- where the text has ended no byte stands
-pub none_first : (T : List ℕ) (p : ℕ) → drop p T ≡ [] → slice_get T p ≡ None
-none_first T p at = let e : p + 0 ≡ p = omega arith in
+pub none_stands : (T : List ℕ) (p : ℕ) → drop p T ≡ [] → slice_get T p ≡ None
+none_stands T p at = let e : p + 0 ≡ p = omega arith in
     ap (slice_get T) (sym e) ∙ sym (get_drop p T 0) ∙ ap (λ (z : List ℕ). slice_get z 0) at
 
 -- past one byte the others stand
 pub next_one : (T : List ℕ) (p c : ℕ) (xs : List ℕ) → drop p T ≡ c ∷ xs → drop (p + 1) T ≡ xs
-next_one T p c xs at = skip T p (c ∷ []) xs at
+next_one T p c xs at = past_text_stands T p (c ∷ []) xs at
 
 -- a byte that is no backslash is read where it stands
-pub record Reads (T : List ℕ) (p c : ℕ) (xs : List ℕ) : Type 0 where
+pub record ByteRead (T : List ℕ) (p c : ℕ) (xs : List ℕ) : Type 0 where
   pub raw : slice_get T p ≡ Some c
   pub place : past_continuations T p ≡ p
   pub byte : byte_at T p ≡ Some c
@@ -71,10 +62,10 @@ pub record Reads (T : List ℕ) (p c : ℕ) (xs : List ℕ) : Type 0 where
   pub rest : drop (p + 1) T ≡ xs
 
 -- what is read of such a byte
-pub byte_here : (T : List ℕ) (p c : ℕ) (xs : List ℕ) → (c == backslash) ≡ false → drop p T ≡ c ∷ xs → Reads T p c xs
+pub byte_here : (T : List ℕ) (p c : ℕ) (xs : List ℕ) → (c == backslash) ≡ false → drop p T ≡ c ∷ xs → ByteRead T p c xs
 unfolding raw_stands
 byte_here T p c xs clear at =
-    let raw = first T p c xs at in
+    let raw = first_stands T p c xs at in
     let place : past_continuations T p ≡ p =
     joined_none T p (no_backslash T p (ap (λ x. is_byte x backslash) raw ∙ clear)) in
     record {
@@ -86,11 +77,11 @@ byte_here T p c xs clear at =
     }
 
 -- the class of a byte that is read, and which byte it is
-pub in_class : {T : List ℕ} {p c : ℕ} {xs : List ℕ} (test : ℕ → Bool) → Reads T p c xs → stands_in test T p ≡ test c
+pub in_class : {T : List ℕ} {p c : ℕ} {xs : List ℕ} (test : ℕ → Bool) → ByteRead T p c xs → stands_in test T p ≡ test c
 unfolding stands_in
 in_class test r = ap (passes test) r.byte
 
-pub is_here : {T : List ℕ} {p c : ℕ} {xs : List ℕ} (x : ℕ) → Reads T p c xs → stands T p x ≡ (c == x)
+pub is_here : {T : List ℕ} {p c : ℕ} {xs : List ℕ} (x : ℕ) → ByteRead T p c xs → stands T p x ≡ (c == x)
 unfolding stands
 is_here x r = ap (λ b. is_byte b x) r.byte
 
@@ -107,7 +98,7 @@ pub record Start (T : List ℕ) (p : ℕ) : Type 0 where
   pub no_blank : stands_in is_blank T p ≡ false
 
 -- a byte that is no blank begins a token
-pub start_here : {T : List ℕ} {p c : ℕ} {xs : List ℕ} → Reads T p c xs → is_blank c ≡ false → Start T p
+pub start_here : {T : List ℕ} {p c : ℕ} {xs : List ℕ} → ByteRead T p c xs → is_blank c ≡ false → Start T p
 start_here r e = record { place = r.place; no_blank = in_class is_blank r ∙ e }
 
 -- where a token may begin no continuation begins
@@ -178,9 +169,9 @@ joined_gap : {T : List ℕ} {p q b : ℕ} {xs : List ℕ} → is_blank b ≡ tru
     Gap T (p + 2) q false → Gap T p q true
 unfolding past_blanks is_broken_at continues stands_in
 joined_gap {T = T} {p = p} {q = q} {b = b} {xs = xs} e at gap =
-    let raw1 = first T p backslash _ at in
+    let raw1 = first_stands T p backslash _ at in
     let at1 = next_one T p backslash _ at in
-    let raw2 = first T (p + 1) newline_char _ at1 in
+    let raw2 = first_stands T (p + 1) newline_char _ at1 in
     let at2 = next_one T (p + 1) newline_char _ at1 in
     let two : p + 1 + 1 ≡ p + 2 = omega arith in
     let r = byte_here T (p + 2) b xs (blank_clear b e) (subst (λ r. drop r T ≡ b ∷ xs) two at2) in
@@ -202,7 +193,7 @@ pub broken_gap : (T : List ℕ) (p b : ℕ) (bs xs : List ℕ) → all_blank (b 
     → Gap T p (p + 3 + length (b ∷ bs)) true
 broken_gap T p b bs xs all at s =
     let at1 = next_one T p space _ at in
-    let at3 : drop (p + 1 + 2) T ≡ b ∷ (bs ++ xs) = skip T (p + 1) (backslash ∷ newline_char ∷ []) _ at1 in
+    let at3 : drop (p + 1 + 2) T ≡ b ∷ (bs ++ xs) = past_text_stands T (p + 1) (backslash ∷ newline_char ∷ []) _ at1 in
     let e : p + 1 + 2 + length (b ∷ bs) ≡ p + 3 + length (b ∷ bs) = omega arith in
     let last = blanks_gap T (p + 1 + 2) (b ∷ bs) xs all at3 (subst (Start T) (sym e) s) in
     blank_gap refl at (joined_gap (and_parts _ _ all).0 at1 (subst (λ q. Gap T (p + 1 + 2) q false) e last))
@@ -215,7 +206,7 @@ next_after position gap = rw (gap.blanks, gap.breaks) refl
 -- ---- tokens of one byte or two
 
 -- the token is told by its first byte
-pub token_here : {T : List ℕ} {p c : ℕ} {xs : List ℕ} (position : Position) → Reads T p c xs →
+pub token_here : {T : List ℕ} {p c : ℕ} {xs : List ℕ} (position : Position) → ByteRead T p c xs →
     token_at position T p ≡ token_of position T p (Some c)
 unfolding token_at
 token_here {T = T} {p = p} position r = ap (token_of position T p) r.byte
@@ -234,7 +225,7 @@ pub close_token : (position : Position) (T : List ℕ) (p : ℕ) (xs : List ℕ)
 close_token position T p xs at = token_here position (byte_here T p right_parenthesis xs refl at)
 
 -- the byte after this one
-second : {T : List ℕ} {p c d : ℕ} {xs : List ℕ} (x : ℕ) → (d == backslash) ≡ false → Reads T p c (d ∷ xs) →
+second : {T : List ℕ} {p c d : ℕ} {xs : List ℕ} (x : ℕ) → (d == backslash) ≡ false → ByteRead T p c (d ∷ xs) →
     stands T (past_byte T p) x ≡ (d == x)
 second {T = T} {p = p} {d = d} {xs = xs} x clear r = ap (λ q. stands T q x) r.place_after
     ∙ is_here x (byte_here T (p + 1) d xs clear r.rest)
@@ -293,7 +284,7 @@ pub record Ended (T : List ℕ) (p : ℕ) : Type 0 where
 pub end_here : (T : List ℕ) (p : ℕ) → drop p T ≡ [] → Ended T p
 unfolding raw_stands stands_in token_at
 end_here T p at =
-    let raw = none_first T p at in
+    let raw = none_stands T p at in
     let place : past_continuations T p ≡ p = joined_none T p (no_backslash T p (ap (λ x. is_byte x backslash) raw)) in
     let byte : byte_at T p ≡ None = ap (slice_get T) place ∙ raw in
     record {
@@ -341,7 +332,7 @@ module _ (T : List ℕ) (x : ℕ) (xs : List ℕ) (clear : (x == backslash) ≡ 
   spelled_here p (d ∷ v) [] one two at =
       let r = byte_here T p x xs clear at in
       spelled_more T p d v ∙ ap (λ b. b && is_word_at T (past_byte T p) v)
-      (is_here d r ∙ ender x d ends_it (plain_parts d v one).0)
+      (is_here d r ∙ ender_is_other x d ends_it (plain_parts d v one).0)
   spelled_here p (d ∷ v) (c ∷ w) one two at =
       let parts = plain_parts c w two in
       let r = byte_here T p c (w ++ x ∷ xs) parts.1 at in
@@ -578,9 +569,9 @@ pub no_word : (t : Token) → begins_simple t ≡ false → is_word t ≡ false
 no_word t none = false_from_ne_true (is_word t)
     (λ e. both_ways (begins_simple t) none (ap begins_simple (word_token t e)))
 
-none_of : (x : Option Position) → is_some x ≡ false → x ≡ None
-none_of None e = refl
-none_of (Some x) e = absurd cc
+not_some_is_none : (x : Option Position) → is_some x ≡ false → x ≡ None
+not_some_is_none None e = refl
+not_some_is_none (Some x) e = absurd cc
 
 -- and begins neither an item that is a word nor a redirection
 pub record NoItem (t : Token) : Type 0 where
@@ -592,7 +583,7 @@ pub record NoItem (t : Token) : Type 0 where
 pub no_item_token : (t : Token) → begins_simple t ≡ false → NoItem t
 no_item_token t none =
     let parts = or_parts (begins_word t) (begins_redirect t) none in
-    record { after = none_of (after_word t) parts.0; redirect = parts.1; word = no_word t none }
+    record { after = not_some_is_none (after_word t) parts.0; redirect = parts.1; word = no_word t none }
 
 -- ---- redirections
 
@@ -779,7 +770,7 @@ number_token position T p x d ds xs all angle at =
     let r = byte_here T p d (ds ++ x ∷ xs) (digit_clear d digit) at in
     let q = p + length (d ∷ ds) in
     let past_it = digits_here T p x (d ∷ ds) xs angle all at in
-    let s = byte_here T q x xs (angle_clear x angle) (skip T p (d ∷ ds) (x ∷ xs) at) in
+    let s = byte_here T q x xs (angle_clear x angle) (past_text_stands T p (d ∷ ds) (x ∷ xs) at) in
     let number : is_number T p ≡ true =
     and_from _ _ (in_class is_digit r ∙ digit)
     (rw (past_it, is_here less_than_sign s, is_here greater_than_sign s) angle) in

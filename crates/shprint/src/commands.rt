@@ -37,6 +37,7 @@ fn ender(falls: bool) -> &'static [u8]
     if falls { b";&" } else { b";;" }
 }
 
+/// Whether an entry holds an and-or list, and no comment.
 fn is_command(content: &Content) -> bool
     ensures { (bytes : Row ℕ) →
         result ≡ is_command (shape_of_content bytes (view_content content.now)) }
@@ -62,6 +63,7 @@ fn is_one_line(condition: &[Entry]) -> bool
     }
 }
 
+/// Whether the body of a function is a brace group.
 fn is_brace(body: &Compound) -> bool
     ensures { (bytes : Row ℕ) →
         result ≡ is_brace (shape_of_compound bytes (view_compound body.now)) }
@@ -76,12 +78,14 @@ fn print_blank(blank: bool, page: &mut Page) -> Result<(), AllocError>
     if blank { page.end_line() } else { Ok(()) }
 }
 
+/// The `&` of an entry in the background, with the blank before it.
 fn print_background(background: bool, page: &mut Page) -> Result<(), AllocError>
     ensures { OnOk result (Prints page.old page.new (print_background background)) }
 {
     if background { page.put(b" &") } else { Ok(()) }
 }
 
+/// The `!` of a pipeline that has one, with the blank after it.
 fn print_bang(bang: Option<Span>, page: &mut Page) -> Result<(), AllocError>
     ensures { OnOk result (Prints page.old page.new (print_bang (shape_of_bang bang))) }
 {
@@ -180,6 +184,7 @@ impl<'a, S: Source> Printer<'a, S> {
         Ok(())
     }
 
+    /// An entry, on lines of its own.
     #[cycle(print)]
     fn print_entry(&self, entry: &Entry, page: &mut Page) -> Result<(), AllocError>
         ensures { OnOk result (LaysOut S.bytes self.now page.old page.new
@@ -193,6 +198,7 @@ impl<'a, S: Source> Printer<'a, S> {
         page.end_line()
     }
 
+    /// What an entry holds: an and-or list or a comment.
     #[cycle(print)]
     #[inline(always)]
     fn print_content(&self, content: &Content, page: &mut Page) -> Result<(), AllocError>
@@ -205,6 +211,7 @@ impl<'a, S: Source> Printer<'a, S> {
         }
     }
 
+    /// An and-or list: its first pipeline, and the others with their operators.
     #[cycle(print)]
     fn print_and_or(&self, and_or: &AndOr, page: &mut Page) -> Result<(), AllocError>
         ensures { OnOk result (LaysOut S.bytes self.now page.old page.new
@@ -237,6 +244,7 @@ impl<'a, S: Source> Printer<'a, S> {
         Ok(())
     }
 
+    /// A pipeline: its `!`, its first command, and the others after their `|`.
     #[cycle(print)]
     #[inline(always)]
     fn print_pipeline(&self, pipeline: &Pipeline, page: &mut Page) -> Result<(), AllocError>
@@ -271,6 +279,7 @@ impl<'a, S: Source> Printer<'a, S> {
         Ok(())
     }
 
+    /// A command: a simple one, a compound one or a function.
     #[cycle(print)]
     fn print_command(&self, command: &Command, page: &mut Page) -> Result<(), AllocError>
         ensures { OnOk result (LaysOut S.bytes self.now page.old page.new
@@ -283,6 +292,7 @@ impl<'a, S: Source> Printer<'a, S> {
         }
     }
 
+    /// A function: its name, its brackets, and its body.
     #[cycle(print)]
     fn print_function(&self, function: &Function, page: &mut Page) -> Result<(), AllocError>
         ensures { OnOk result (LaysOut S.bytes self.now page.old page.new
@@ -305,6 +315,7 @@ impl<'a, S: Source> Printer<'a, S> {
         self.print_items(&compound.redirects, page)
     }
 
+    /// A compound command without its redirections, by its form.
     #[cycle(print)]
     fn print_form(&self, form: &Form, page: &mut Page) -> Result<(), AllocError>
         ensures { OnOk result (LaysOut S.bytes self.now page.old page.new
@@ -377,6 +388,7 @@ impl<'a, S: Source> Printer<'a, S> {
         page.begin_line()
     }
 
+    /// A `while` or an `until`, by the word that opens it.
     #[cycle(print)]
     fn print_loop(&self, opener: &[u8], branch: &Branch, page: &mut Page) -> Result<(), AllocError>
         ensures { OnOk result (LaysOut S.bytes self.now page.old page.new
@@ -431,6 +443,7 @@ impl<'a, S: Source> Printer<'a, S> {
         }
     }
 
+    /// The `elif` branches of an `if`.
     #[cycle(print)]
     #[tactic(auto, using(crate::proofs::Writing::written_append, crate::proofs::Writing::written_cons, crate::proofs::Writing::written_none, crate::proofs::Rows::from_end, crate::proofs::Rows::branches_are))]
     fn print_branches(&self, branches: &[Branch], page: &mut Page) -> Result<(), AllocError>
@@ -464,6 +477,7 @@ impl<'a, S: Source> Printer<'a, S> {
         Ok(())
     }
 
+    /// The items of a `case`.
     #[cycle(print)]
     #[tactic(auto, using(crate::proofs::Writing::written_append, crate::proofs::Writing::written_cons, crate::proofs::Writing::written_none, crate::proofs::Rows::from_end, crate::proofs::Rows::cases_are))]
     fn print_cases(&self, items: &[CaseItem], page: &mut Page) -> Result<(), AllocError>
