@@ -12,7 +12,7 @@ use Rattle.shast.specs.declared.tree.Span.{Span}
 use Rattle.shgrammar.specs.declared.fault.Fault.{Fault}
 use Rattle.shline.specs.declared.documents.Waiting as the_waiting
 use Rattle.shgrammar.specs.declared.fault.FaultKind.TheVariants.{UnclosedHere}
-use Rattle.shgrammar.specs.Characters.{newline_char, tab}
+use Rattle.shgrammar.specs.Characters.{backslash, newline_char, tab}
 use Rattle.shgrammar.specs.Standing.{is_byte, raw_stands, raw_past, count_front, next_newline}
 use Rattle.shgrammar.specs.Comments.{span}
 use Rattle.shline.specs.declared.documents.Documents as the_documents
@@ -25,7 +25,6 @@ use Rattle.shgrammar.specs.HereDocuments.{rest_of_line, stripped, past_line, del
 use Rattle.shgrammar.specs.Form.{change, does, nothing_read, raw}
 use Rattle.shgrammar.proofs.Runs.{run_part}
 use Rattle.shgrammar.proofs.Stretches.{byte_is, get_drop, raw_first}
-pub use Rattle.shgrammar.proofs.Stretches.{raw_nothing}
 
 -- ---- bytes from one place up to another
 
@@ -130,7 +129,7 @@ stripped_line T p =
 
 -- a line ends in an odd number of backslashes
 abbrev pub odd : List ℕ → Bool
-odd line = fold (λ o b. b == 92 && not o) false line
+odd line = fold (λ o b. b == backslash && not o) false line
 
 -- the flag x, turned where the first one is set
 abbrev pub flipped : Bool → Bool → Bool
@@ -138,12 +137,12 @@ flipped true x = not x
 flipped false x = x
 
 -- a line with one backslash more ends in an odd number just where it did not before
-flip_last : (line : List ℕ) → odd (line ++ 92 ∷ []) ≡ not (odd line)
-flip_last line = fold-append (λ o b. b == 92 && not o) false line (92 ∷ [])
+flip_last : (line : List ℕ) → odd (line ++ backslash ∷ []) ≡ not (odd line)
+flip_last line = fold-append (λ o b. b == backslash && not o) false line (backslash ∷ [])
 
 -- a line that ends in another byte does not end so
-other_last : (line : List ℕ) (b : ℕ) → (b == 92) ≡ false → odd (line ++ b ∷ []) ≡ false
-other_last line b other = fold-append (λ o c. c == 92 && not o) false line (b ∷ []) ∙ rw other refl
+other_last : (line : List ℕ) (b : ℕ) → (b == backslash) ≡ false → odd (line ++ b ∷ []) ≡ false
+other_last line b other = fold-append (λ o c. c == backslash && not o) false line (b ∷ []) ∙ rw other refl
 
 -- it is the same which of two flags is turned
 flipped_not : (b x : Bool) → flipped (not b) x ≡ flipped b (not x)
@@ -152,13 +151,13 @@ flipped_not true false = refl
 flipped_not false x = refl
 
 -- one more backslash before q
-odd_more : (T : List ℕ) (p q : ℕ) (so : Bool) (all : Bool) → p < q → raw_stands T (q - 1) 92 ≡ true →
+odd_more : (T : List ℕ) (p q : ℕ) (so : Bool) (all : Bool) → p < q → raw_stands T (q - 1) backslash ≡ true →
     flipped so (odd (raw T p q)) ≡ all → flipped (not so) (odd (raw T p (q - 1))) ≡ all
 unfolding raw_stands
 odd_more T p q so all lt is before =
     let last : q - 1 + 1 ≡ q = omega (arith, lt) in
-    let here : raw T p q ≡ raw T p (q - 1) ++ 92 ∷ [] = ap (raw T p) (sym last)
-    ∙ raw_some T p (q - 1) 92 (omega (arith, lt)) (byte_is (slice_get T (q - 1)) 92 is) in
+    let here : raw T p q ≡ raw T p (q - 1) ++ backslash ∷ [] = ap (raw T p) (sym last)
+    ∙ raw_some T p (q - 1) backslash (omega (arith, lt)) (byte_is (slice_get T (q - 1)) backslash is) in
     flipped_not so (odd (raw T p (q - 1))) ∙ ap (flipped so) (sym (ap odd here ∙ flip_last (raw T p (q - 1)))) ∙ before
 
 -- a flag that is not set, turned where b is, is b
@@ -167,25 +166,28 @@ flipped_false true = refl
 flipped_false false = refl
 
 -- bytes that end in another byte do not end in an odd number of backslashes
-none_or : (T : List ℕ) (p q : ℕ) → p < q → q ≤ length T → raw_stands T (q - 1) 92 ≡ false → odd (raw T p q) ≡ false
+none_or : (T : List ℕ) (p q : ℕ) → p < q → q ≤ length T → raw_stands T (q - 1) backslash ≡ false →
+    odd (raw T p q) ≡ false
 unfolding raw_stands
 none_or T p q lt within other =
     let last : q - 1 + 1 ≡ q = omega (arith, lt) in
     let is : slice_get T (q - 1) ≡ Some (get_or T (q - 1) 0) =
     slice_get-get_or T (q - 1) 0 (omega (arith, lt, within)) in
-    let no : (get_or T (q - 1) 0 == 92) ≡ false = sym (ap (λ x. is_byte x 92) is) ∙ other in
+    let no : (get_or T (q - 1) 0 == backslash) ≡ false = sym (ap (λ x. is_byte x backslash) is) ∙ other in
     ap (λ n. odd (raw T p n)) (sym last) ∙ ap odd (raw_some T p (q - 1) (get_or T (q - 1) 0) (omega (arith, lt)) is)
     ∙ other_last (raw T p (q - 1)) (get_or T (q - 1) 0) no
 
 -- the same of places that count from b
-pub odd_more_on : (T : List ℕ) (b p q : ℕ) (so : Bool) (all : Bool) → p < q → raw_stands T (b + (q - 1)) 92 ≡ true →
+pub odd_more_on : (T : List ℕ) (b p q : ℕ) (so : Bool) (all : Bool) → p < q →
+    raw_stands T (b + (q - 1)) backslash ≡ true →
     flipped so (odd (raw T (b + p) (b + q))) ≡ all → flipped (not so) (odd (raw T (b + p) (b + (q - 1)))) ≡ all
 odd_more_on T b p q so all lt is before =
     let back : b + (q - 1) ≡ b + q - 1 = omega (arith, lt) in
     rw back (odd_more T (b + p) (b + q) so all (omega (arith, lt)) (rw back at is) before)
 
 -- no more of them
-odd_stops : (T : List ℕ) (p q : ℕ) (so all : Bool) → q ≤ length T → (nat_lt p q && raw_stands T (q - 1) 92) ≡ false →
+odd_stops : (T : List ℕ) (p q : ℕ) (so all : Bool) → q ≤ length T →
+    (nat_lt p q && raw_stands T (q - 1) backslash) ≡ false →
     flipped so (odd (raw T p q)) ≡ all → so ≡ all
 odd_stops T p q so all within stops before = sym (ap (flipped so) none ∙ flipped_false so) ∙ before
   where
@@ -195,23 +197,25 @@ odd_stops T p q so all within stops before = sym (ap (flipped so) none ∙ flipp
 
     none : odd (raw T p q) ≡ false
     none =
-        ⊎_elim (λ lt. none_or T p q lt within (second (nat_lt p q) (raw_stands T (q - 1) 92) stops (lt-ltb p q lt)))
+        ⊎_elim (λ lt. none_or T p q lt within
+        (second (nat_lt p q) (raw_stands T (q - 1) backslash) stops (lt-ltb p q lt)))
         (λ ge. let empty : q - p ≡ 0 = omega (arith, ge) in ap (λ n. odd (take n (drop p T))) empty) (cases_lt p q)
 
 -- the same of places that count from b
 pub odd_stops_on : (T : List ℕ) (b p q : ℕ) (so all : Bool) → b + q ≤ length T →
-    (nat_lt p q && raw_stands T (b + (q - 1)) 92) ≡ false → flipped so (odd (raw T (b + p) (b + q))) ≡ all → so ≡ all
+    (nat_lt p q && raw_stands T (b + (q - 1)) backslash) ≡ false → flipped so (odd (raw T (b + p) (b + q))) ≡ all →
+    so ≡ all
 odd_stops_on T b p q so all within stops before =
     odd_stops T (b + p) (b + q) so all within (⊎_elim (λ lt. here lt) (λ ge. none ge) (cases_lt p q)) before
   where
-    here : p < q → (nat_lt (b + p) (b + q) && raw_stands T (b + q - 1) 92) ≡ false
+    here : p < q → (nat_lt (b + p) (b + q) && raw_stands T (b + q - 1) backslash) ≡ false
     here lt =
         let back : b + q - 1 ≡ b + (q - 1) = omega (arith, lt) in
         let one : nat_lt p q ≡ true = lt-ltb p q lt in
         let two : nat_lt (b + p) (b + q) ≡ true = lt-ltb (b + p) (b + q) (omega (arith, lt)) in
         rw (back, two) (rw one at stops)
 
-    none : q ≤ p → (nat_lt (b + p) (b + q) && raw_stands T (b + q - 1) 92) ≡ false
+    none : q ≤ p → (nat_lt (b + p) (b + q) && raw_stands T (b + q - 1) backslash) ≡ false
     none ge =
         let two : nat_lt (b + p) (b + q) ≡ false = grind (arith, nat_tests, ge) in
         rw two refl

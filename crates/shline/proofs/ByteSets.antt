@@ -8,13 +8,12 @@ use Rattle.shline.specs.declared.sets.TheConstants.{BRACE, DOUBLE, DOUBLE_BRACE,
 use Rattle.shline.specs.Sought.{ArePlain}
 use Rattle.shgrammar.specs.Plain.{is_plain}
 use Rattle.shgrammar.specs.declared.mode.Mode.TheVariants.{Plain, Double, Brace, DoubleBrace}
-use Rattle.shgrammar.proofs.PlainTable.{same_is}
-unfoldable pub use Rattle.shgrammar.proofs.PlainTable.{same}
+use Rattle.shgrammar.proofs.PlainTable.{same_flag, same_flag_is}
 
 -- two tests agree below n
 unfoldable pub agree : (ℕ → Bool) → (ℕ → Bool) → ℕ → Bool
 agree f g zero = true
-agree f g (suc n) = same (f n) (g n) && agree f g n
+agree f g (suc n) = same_flag (f n) (g n) && agree f g n
 
 -- tests that agree below n are equal at each number below it
 pub agree_at : (f g : ℕ → Bool) (n k : ℕ) → agree f g n ≡ true → k < n → f k ≡ g k
@@ -25,25 +24,25 @@ agree_at f g (suc n) k all low =
       | inl below ↦ agree_at f g n k (and_parts _ _ all).1 below
       | inr above ↦
           let here : k ≡ n = omega (arith, low, above) in
-          ap f here ∙ same_is (f n) (g n) (and_parts _ _ all).0 ∙ ap g (sym here)
+          ap f here ∙ same_flag_is (f n) (g n) (and_parts _ _ all).0 ∙ ap g (sym here)
     ]
 
 -- each table is that of its set
 
 plain_set : agree (is_outside PLAIN SPECIAL) (is_plain Plain) 256 ≡ true
-unfolding agree same
+unfolding agree same_flag
 plain_set = refl
 
 double_set : agree (is_outside DOUBLE SPECIAL) (is_plain Double) 256 ≡ true
-unfolding agree same
+unfolding agree same_flag
 double_set = refl
 
 brace_set : agree (is_outside BRACE SPECIAL) (is_plain Brace) 256 ≡ true
-unfolding agree same
+unfolding agree same_flag
 brace_set = refl
 
 double_brace_set : agree (is_outside DOUBLE_BRACE SPECIAL) (is_plain DoubleBrace) 256 ≡ true
-unfolding agree same
+unfolding agree same_flag
 double_brace_set = refl
 
 -- the bytes before the first one of a set

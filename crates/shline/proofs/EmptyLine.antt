@@ -40,11 +40,11 @@ unfolding past_byte
 next U = ap (λ n. n + 1) (joins U)
 
 -- a text that begins with a newline has no entry on its first line, which ends after that
-pub told : (edition : Edition) (U : List ℕ) (keep : Keep) (blank : Bool) (o : ℕ) →
+pub empty_line_told : (edition : Edition) (U : List ℕ) (keep : Keep) (blank : Bool) (o : ℕ) →
     line_told edition (10 ∷ U) keep blank 0 o ≡ Ok (([], true), standing 1)
 unfolding a_line an_open_line nothing_waits filled_row next_token on_line a_remark a_comment end_of_line token_at
     comment_at raw_stands raw_in raw_past count_front continues is_broken_at bodies_from newline_first
-told edition U keep blank o =
+empty_line_told edition U keep blank o =
     let none = no_entries (level most_open) (list_so_far (none_listed blank) newline_first) keep
     (given edition (10 ∷ U) o)
     (standing 0) refl in
@@ -63,7 +63,7 @@ begun edition [] keep blank o is = absurd cc
 begun edition (b ∷ U) keep blank o is =
     let newline : b ≡ 10 = ap value is in
     subst (λ c. line_told edition (c ∷ U) keep blank 0 o ≡ Ok (([], true), standing 1)) (sym newline)
-    (told edition U keep blank o)
+    (empty_line_told edition U keep blank o)
 
 -- a newline is the first byte of the line at p
 pub newline_told : (edition : Edition) (B : List ℕ) (p : ℕ) (keep : Keep) (blank : Bool) (o : ℕ) →

@@ -1,5 +1,6 @@
 -- The next place of a byte that is sought: a search goes on from one run to the next.
 use Rattle.std.proofs.Common.{◌≡◌, ℕ, ◌+◌, ◌-◌, ◌<◌, ◌≤◌, ◌==◌, Bool, true, false, not, Option, Some, None, slice_get, slice_index, List, length, drop, refl, sym, ap, ◌∙◌, arith}
+use Rattle.std.proofs.lemmas.Bool.{not_from_true}
 use Rattle.std.proofs.lemmas.List.{drop-drop}
 use Rattle.std.proofs.lemmas.Option.{slice_get-get_or, slice_get_past}
 use Rattle.memchr.specs.Find.{IsFirstByte}
@@ -11,10 +12,6 @@ use Rattle.shgrammar.proofs.Stretches.{raw_is, raw_on, raw_more, raw_none}
 no_pass : (x : Bool) → (x ≡ true → ⊥) → not x ≡ true
 no_pass true never = absurd (never refl)
 no_pass false never = refl
-
--- and one that holds
-one_pass : (x : Bool) → x ≡ true → not x ≡ false
-one_pass x e = rw e refl
 
 -- a byte of a run, as it stands in the text
 in_run : (B : List ℕ) (at i : ℕ) (run : List ℕ) → IsRun B at run → at ≤ length B → i < length run →
@@ -47,7 +44,7 @@ module _ (test : ℕ → Bool) (B : List ℕ) (at : ℕ) (run : List ℕ) (is : 
       let first = found.0 in
       let high : i < length run = first.high in
       raw_is (λ c. not (test c)) B at i (others i (omega (arith, high)) (λ j lt. first.before j (omega arith) lt))
-      (rw (in_run B at i run is low high) (one_pass (test (slice_index run i)) found.1))
+      (rw (in_run B at i run is low high) (not_from_true (test (slice_index run i)) found.1))
 
 -- at the end there is none
 pub such_end : (test : ℕ → Bool) (B : List ℕ) (at : ℕ) → length B ≤ at → next_such test B at ≡ at

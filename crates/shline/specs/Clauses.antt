@@ -160,7 +160,7 @@ pub record Stays {S : Type 0} {k : ℕ} {g : _} (old new : Cursor S k g) : Type 
   pub documents : new.documents ≡ old.documents
 
 -- and the token in hand
-pub record Holds {S : Type 0} {k : ℕ} {g : _} (old new : Cursor S k g) : Type 0 where
+pub record HoldsToken {S : Type 0} {k : ℕ} {g : _} (old new : Cursor S k g) : Type 0 where
   pub stays : Stays old new
   pub next : new.next ≡ old.next
   pub start : start_of new ≡ start_of old

@@ -31,29 +31,18 @@ fn item_of(word: Word, position: Position, broken: bool) -> Item
 }
 
 impl<'a, S: Source, const TREE: u8> Cursor<'a, S, TREE> {
-    /// One more item, which is this word, by the position after it, if a tree grows here.
+    /// One more item, if a tree grows here. Where it is most often the only one it takes room for no more.
     #[inline(always)]
-    fn add_word(
-        &self,
-        word: Word,
-        items: &mut Vec<Item>,
-        position: Position,
-        broken: bool,
-    ) -> Result<(), AllocError>
+    #[tactic(auto, using(crate::proofs::Kept::pushed_seen))]
+    fn add_item(&self, items: &mut Vec<Item>, item: Item, alone: bool) -> Result<(), AllocError>
         ensures memory { IfErr result (λ e. (TREE == 1) ≡ true) }
         ensures value { IfOk result (λ _. view_items items.new ≡ pushed (grows (keep_of self.now))
-            (view_items items.old) (item broken (as_item position (view_word word)))) }
+            (view_items items.old) (view_item item)) }
     {
-        if !self.grows() {
-            mem::forget(word);
-            return Ok(());
-        }
-        // An assignment is most often all of its command: it takes room for no more.
-        if items.capacity() == 0 && position == Position::Prefix {
+        if alone && self.grows() && items.capacity() == 0 {
             items.reserve_exact(1)?;
         }
-        items.push(item_of(word, position, broken))?;
-        Ok(())
+        self.push(items, item)
     }
 
     /// One more item, which is the word here, and the token after it, which stands in this position.
@@ -74,8 +63,9 @@ impl<'a, S: Source, const TREE: u8> Cursor<'a, S, TREE> {
         ensures same { Keeps self.old self.new }
     {
         let broken = !items.is_empty() && self.next.broken;
-        let word = self.word(room)?;
-        self.add_word(word, items, position, broken)?;
+        let item = item_of(self.word(room)?, position, broken);
+        // An assignment is most often all of its command.
+        self.add_item(items, item, position == Position::Prefix)?;
         // Asked for only now, so that the push is done when the items are moved.
         self.next_token(position);
         Ok(())
@@ -128,25 +118,6 @@ impl<'a, S: Source, const TREE: u8> Cursor<'a, S, TREE> {
         Ok(())
     }
 
-    /// Adds the first word of a command, after which the token in hand stands.
-    #[inline(always)]
-    fn add_first(&self, word: Word, items: &mut Vec<Item>) -> Result<(), AllocError>
-        ensures memory { IfErr result (λ e. (TREE == 1) ≡ true) }
-        ensures value { IfOk result (λ _. view_items items.new ≡ pushed (grows (keep_of self.now))
-            (view_items items.old) (item false (argument (view_word word)))) }
-    {
-        if !self.grows() {
-            mem::forget(word);
-            return Ok(());
-        }
-        // A command of one word takes room for no more.
-        if items.capacity() == 0 && !self.next.token.begins_simple() {
-            items.reserve_exact(1)?;
-        }
-        items.push(argument_of(word, false))?;
-        Ok(())
-    }
-
     /// The command that begins with the word here: a function, if `(` follows, or a simple command.
     #[cycle(commands)]
     #[tactic(auto, unfolding(shgrammar::specs::Commands::a_word_command, shgrammar::specs::Commands::a_simple, shgrammar::specs::Commands::next_token, crate::specs::InHand::InHand))]
@@ -163,7 +134,8 @@ impl<'a, S: Source, const TREE: u8> Cursor<'a, S, TREE> {
         }
         // Made here and not handed over: a vector that was just pushed to is slow to move.
         let mut items = self.room_for_items();
-        self.add_first(word, &mut items)?;
+        let alone = !self.next.token.begins_simple();
+        self.add_item(&mut items, argument_of(word, false), alone)?;
         let mut position = Position::Suffix;
         self.items(&mut items, &mut position, room)?;
         Ok(simple_of(items))

@@ -1,6 +1,6 @@
 //! Comments (XCU 2.3, rule 9).
 ghost use Rattle.std.specs.Prelude.{◌≡◌, ◌<◌, ◌≤◌, false, option_map, IfSome};
-ghost use Rattle.shline.specs.Clauses.{here_of, Holds, Inside, on, seen, start_of, text_of};
+ghost use Rattle.shline.specs.Clauses.{here_of, HoldsToken, Inside, on, seen, start_of, text_of};
 ghost use Rattle.shgrammar.specs.Comments.{comment_at, past_comment};
 ghost use Rattle.shgrammar.specs.Classes.{is_blank};
 ghost use Rattle.shgrammar.specs.Standing.{before_blanks, raw_in};
@@ -37,7 +37,7 @@ impl<'a, S: Source, const TREE: u8> Cursor<'a, S, TREE> {
         ensures place { IfSome result (λ c. here_of self.new ≡ past_comment (text_of self.old)
             (start_of self.old)) }
         ensures onward { IfSome result (λ c. start_of self.old ≤ here_of self.new) }
-        ensures same { Holds self.old self.new }
+        ensures same { HoldsToken self.old self.new }
     {
         let at = self.next_at;
         if !self.raw_stands(at, b'#') {

@@ -74,7 +74,7 @@ pub(crate) struct Cursor<'a, S: Source, const TREE: u8> {
 }
 
 impl<'a, S: Source, const TREE: u8> Cursor<'a, S, TREE> {
-    ghost use Rattle.shline.specs.Clauses.{at_place, Holds, keep_of};
+    ghost use Rattle.shline.specs.Clauses.{at_place, HoldsToken, keep_of};
     ghost use Rattle.std.specs.Prelude.{IfErr, IfOk};
     ghost use Rattle.shgrammar.specs.Form.{grows, pushed};
     ghost use Rattle.shgrammar.specs.Sights.{standing};
@@ -144,7 +144,7 @@ impl<'a, S: Source, const TREE: u8> Cursor<'a, S, TREE> {
     #[inline(always)]
     pub(crate) fn room_for_items(&mut self) -> Vec<Item>
         ensures empty { result.items ≡ [] }
-        ensures same { Holds self.old self.new }
+        ensures same { HoldsToken self.old self.new }
     {
         if self.grows()
             && let Some(spare) = &mut self.spare
@@ -158,7 +158,7 @@ impl<'a, S: Source, const TREE: u8> Cursor<'a, S, TREE> {
     #[inline(always)]
     pub(crate) fn room_for_entries(&mut self) -> Vec<Entry>
         ensures empty { result.items ≡ [] }
-        ensures same { Holds self.old self.new }
+        ensures same { HoldsToken self.old self.new }
     {
         if self.grows()
             && let Some(spare) = &mut self.spare

@@ -119,7 +119,7 @@ impl<'a, S: Source, const TREE: u8> Cursor<'a, S, TREE> {
 
     /// The bytes from a place up to this one.
     #[cold]
-    #[tactic(auto, using(crate::proofs::Awaited::raw_some, crate::proofs::Awaited::raw_nothing))]
+    #[tactic(auto, using(crate::proofs::Awaited::raw_some, shgrammar::proofs::Stretches::raw_nothing))]
     fn bytes_from(&self, from: usize) -> Result<Vec<u8>, AllocError>
         requires { from ≤ self.now.at }
         ensures { IfOk result (λ bytes. bytes.items ≡ bytes_between self.now from self.now.at) }

@@ -1,6 +1,6 @@
 //! Lists: entries on one line or on many (XCU 2.9.3, 2.10.2).
 ghost use Rattle.std.specs.Prelude.{◌≡◌, ◌++◌, ◌==◌, [], ◌∷◌, IfErr, IfOk, None, false, map, option_map, true};
-ghost use Rattle.shline.specs.Clauses.{Holds, keep_of, TokenToToken, Turns};
+ghost use Rattle.shline.specs.Clauses.{HoldsToken, keep_of, TokenToToken, Turns};
 ghost use Rattle.shgrammar.specs.Commands.{is_background, past_separator};
 ghost use Rattle.shgrammar.specs.Form.{grows, many, pushed};
 ghost use Rattle.shgrammar.specs.Levels.{level};
@@ -113,7 +113,7 @@ impl<'a, S: Source, const TREE: u8> Cursor<'a, S, TREE> {
     #[inline(always)]
     fn room_for_entry(&mut self, listed: &mut Listed) -> Result<(), AllocError>
         ensures listed { IfOk result (λ _. view_listed listed.new ≡ view_listed listed.old) }
-        ensures same { Holds self.old self.new }
+        ensures same { HoldsToken self.old self.new }
     {
         if listed.entries.is_empty() {
             listed.entries = self.room_for_entries();
@@ -138,7 +138,7 @@ impl<'a, S: Source, const TREE: u8> Cursor<'a, S, TREE> {
             listed.old).entries (entry (command (view_and_or and_or)) (is_background separator)
             (is_blank_next (view_listed listed.old)) (option_map view_comment comment)))
             (past_separator separator)) }
-        ensures same { Holds self.old self.new }
+        ensures same { HoldsToken self.old self.new }
     {
         let blank = listed.blank && !listed.begun;
         let background = matches!(separator, Some((Separator::Ampersand, _)));

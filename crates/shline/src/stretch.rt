@@ -3,7 +3,7 @@
 //! cold function of its own that goes on and does the whole, so that the test is the one which the next read
 //! makes anyway.
 ghost use Rattle.std.specs.Prelude.{◌≡◌, ◌+◌, ◌≤◌};
-ghost use Rattle.shline.specs.Clauses.{here_of, Holds, start_of, Stays};
+ghost use Rattle.shline.specs.Clauses.{here_of, HoldsToken, start_of, Stays};
 
 use crate::cursor::Cursor;
 use shgrammar::{Next, Token};
@@ -31,7 +31,7 @@ impl<'a, S: Source, const TREE: u8> Cursor<'a, S, TREE> {
     pub(crate) fn stretch_from(&mut self, place: usize)
         requires { place ≤ start_of self.old }
         ensures begin { self.new.begin ≡ place }
-        ensures same { Holds self.old self.new }
+        ensures same { HoldsToken self.old self.new }
     {
         let start = self.start();
         self.front = self.source.run(self.base + place);

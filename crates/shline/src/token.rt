@@ -4,7 +4,7 @@ ghost use Rattle.shgrammar.specs.Characters.{newline_char, semicolon};
 ghost use Rattle.shgrammar.specs.Classes.{is_blank};
 ghost use Rattle.shgrammar.specs.Standing.{continues, raw_past, raw_stands};
 ghost use Rattle.shgrammar.specs.Tokens.{begins_assignment, greater_at, is_name_at, is_number, less_at, past_digits, semicolon_at, token_in, word_by};
-ghost use Rattle.shline.specs.Clauses.{here_of, Holds, Inside, Looks, on, Reaches, seen, start_of, Stays, Still, text_of, token_of};
+ghost use Rattle.shline.specs.Clauses.{here_of, HoldsToken, Inside, Looks, on, Reaches, seen, start_of, Stays, Still, text_of, token_of};
 
 use crate::cursor::Cursor;
 use shast::RedirectOperator;
@@ -53,7 +53,7 @@ impl<'a, S: Source, const TREE: u8> Cursor<'a, S, TREE> {
     pub(crate) fn is_name_from(&mut self, place: usize) -> bool
         requires { place ≤ start_of self.old }
         ensures value { result ≡ is_name_at (text_of self.old) place }
-        ensures same { Holds self.old self.new }
+        ensures same { HoldsToken self.old self.new }
     {
         if place < self.begin {
             self.stretch_from(place);

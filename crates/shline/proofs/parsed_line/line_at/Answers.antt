@@ -8,7 +8,7 @@ use Rattle.shgrammar.specs.Lines.{an_open_line}
 use Rattle.shgrammar.specs.Scripts.{line_told}
 use Rattle.shgrammar.specs.Sights.{given, standing}
 use Rattle.shgrammar.proofs.Levels.{line_read}
-use Rattle.shgrammar.proofs.Within.{line_within}
+use Rattle.shgrammar.proofs.NodesInLimit.{line_within}
 use Rattle.shline.proofs.LineEnds.{newline_there, whole_there}
 use Rattle.shline.proofs.parsed_line.line_at.Goals as goal
 
