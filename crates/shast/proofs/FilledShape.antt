@@ -162,10 +162,10 @@ module _ (B : List ℕ) where
     unfolding opened open_entry open_content open_and_or open_and_or_parts open_pipeline open_pipes open_command
         open_compound open_form open_branch open_branches open_else open_cases open_case
 
-    pub shape_open : (nothing : Span) (es : Entries) →
+    pub entries_open : (nothing : Span) (es : Entries) →
         shape_of B (opened nothing es) ≡ opened (text_at B nothing) (shape_of B es)
-    shape_open nothing no_entry = refl
-    shape_open nothing (more_entries e es) = rw (entry_open nothing e, shape_open nothing es) refl
+    entries_open nothing no_entry = refl
+    entries_open nothing (more_entries e es) = rw (entry_open nothing e, entries_open nothing es) refl
 
     entry_open : (nothing : Span) (e : AnEntry) →
         shape_of_entry B (open_entry nothing e) ≡ open_entry (text_at B nothing) (shape_of_entry B e)
@@ -208,18 +208,18 @@ module _ (B : List ℕ) where
 
     form_open : (nothing : Span) (f : AForm) →
         shape_of_form B (open_form nothing f) ≡ open_form (text_at B nothing) (shape_of_form B f)
-    form_open nothing (brace es) = rw (shape_open nothing es) refl
-    form_open nothing (subshell es) = rw (shape_open nothing es) refl
+    form_open nothing (brace es) = rw (entries_open nothing es) refl
+    form_open nothing (subshell es) = rw (entries_open nothing es) refl
     form_open nothing (if_then first rest other) =
         rw (branch_open nothing first, branches_open nothing rest, else_open nothing other) refl
     form_open nothing (while_do b) = rw (branch_open nothing b) refl
     form_open nothing (until_do b) = rw (branch_open nothing b) refl
-    form_open nothing (for_in name words body) = rw (shape_open nothing body) refl
+    form_open nothing (for_in name words body) = rw (entries_open nothing body) refl
     form_open nothing (case_in w cases tail) = rw (cases_open nothing cases) refl
 
     branch_open : (nothing : Span) (b : ABranch) →
         shape_of_branch B (open_branch nothing b) ≡ open_branch (text_at B nothing) (shape_of_branch B b)
-    branch_open nothing (branch condition body) = rw (shape_open nothing condition, shape_open nothing body) refl
+    branch_open nothing (branch condition body) = rw (entries_open nothing condition, entries_open nothing body) refl
 
     branches_open : (nothing : Span) (rs : Branches) →
         shape_of_branches B (open_branches nothing rs) ≡ open_branches (text_at B nothing) (shape_of_branches B rs)
@@ -229,7 +229,7 @@ module _ (B : List ℕ) where
     else_open : (nothing : Span) (o : Otherwise) →
         shape_of_else B (open_else nothing o) ≡ open_else (text_at B nothing) (shape_of_else B o)
     else_open nothing no_else = refl
-    else_open nothing (otherwise es) = rw (shape_open nothing es) refl
+    else_open nothing (otherwise es) = rw (entries_open nothing es) refl
 
     cases_open : (nothing : Span) (cs : CaseItems) →
         shape_of_cases B (open_cases nothing cs) ≡ open_cases (text_at B nothing) (shape_of_cases B cs)
@@ -238,7 +238,7 @@ module _ (B : List ℕ) where
 
     case_open : (nothing : Span) (c : ACaseItem) →
         shape_of_case B (open_case nothing c) ≡ open_case (text_at B nothing) (shape_of_case B c)
-    case_open nothing (case_item comments patterns body span) = rw (shape_open nothing body) refl
+    case_open nothing (case_item comments patterns body span) = rw (entries_open nothing body) refl
 
   -- for each kind of part: the bodies of its shape are the texts of its bodies
   item_content_texts : (c : AnItemContent) (bs : Row Span) →

@@ -131,15 +131,18 @@ module _ (b : ℕ) where
       ap (λ (s : Span). node NodeKind.Pipeline s ∷ []) (pipeline_there (pipeline (Some bang) first rest) so)
 
   -- where two rows of nodes are moved, or three, or a node and a row, they are moved together
-  two : (ms ns : Row NodeLine) (os qs : Row NodeLine) → os ≡ there ms → qs ≡ there ns → os ++ qs ≡ there (ms ++ ns)
-  two ms ns os qs one other = rw (one, other) (sym (map-append (placed b) ms ns))
+  two_rows_there : (ms ns : Row NodeLine) (os qs : Row NodeLine) → os ≡ there ms → qs ≡ there ns →
+      os ++ qs ≡ there (ms ++ ns)
+  two_rows_there ms ns os qs one other = rw (one, other) (sym (map-append (placed b) ms ns))
 
-  three : (ls ms ns os qs rs : Row NodeLine) → os ≡ there ls → qs ≡ there ms → rs ≡ there ns →
+  three_rows_there : (ls ms ns os qs rs : Row NodeLine) → os ≡ there ls → qs ≡ there ms → rs ≡ there ns →
       os ++ qs ++ rs ≡ there (ls ++ ms ++ ns)
-  three ls ms ns os qs rs one other last = two (ls ++ ms) ns (os ++ qs) rs (two ls ms os qs one other) last
+  three_rows_there ls ms ns os qs rs one other last =
+      two_rows_there (ls ++ ms) ns (os ++ qs) rs (two_rows_there ls ms os qs one other) last
 
-  one_more : (m n : NodeLine) (ms ns : Row NodeLine) → m ≡ placed b n → ms ≡ there ns → m ∷ ms ≡ there (n ∷ ns)
-  one_more m n ms ns one other = rw (one, other) refl
+  node_and_row_there : (m n : NodeLine) (ms ns : Row NodeLine) → m ≡ placed b n → ms ≡ there ns →
+      m ∷ ms ≡ there (n ∷ ns)
+  node_and_row_there m n ms ns one other = rw (one, other) refl
 
   mutual
     -- for each kind of part: its nodes at the base are its nodes, moved
@@ -147,12 +150,12 @@ module _ (b : ℕ) where
         entries_nodes (carried f fb true es) ≡ there (entries_nodes es)
     entries_there no_entry so = refl
     entries_there (more_entries e es) so =
-        two (entry_nodes e) (entries_nodes es) _ _ (entry_there e so.0) (entries_there es so.1)
+        two_rows_there (entry_nodes e) (entries_nodes es) _ _ (entry_there e so.0) (entries_there es so.1)
 
     entry_there : (e : AnEntry) → InEntry Always IsSome e →
         entry_nodes (carried_entry f fb true e) ≡ there (entry_nodes e)
     entry_there (entry what background blank comment) so =
-        two (content_nodes what) _ _ _ (content_there what so.0) (comment_there comment)
+        two_rows_there (content_nodes what) _ _ _ (content_there what so.0) (comment_there comment)
 
     content_there : (c : AContent) → InContent Always IsSome c →
         content_nodes (carried_content f fb true c) ≡ there (content_nodes c)
@@ -162,52 +165,54 @@ module _ (b : ℕ) where
     and_or_nodes_there : (a : AnAndOr) → InAndOr Always IsSome a →
         and_or_nodes (carried_and_or f fb true a) ≡ there (and_or_nodes a)
     and_or_nodes_there (and_or first rest) so =
-        three (and_or_node (and_or first rest)) (pipeline_nodes first) (and_or_parts_nodes rest) _ _ _
+        three_rows_there (and_or_node (and_or first rest)) (pipeline_nodes first) (and_or_parts_nodes rest) _ _ _
         (and_or_node_there (and_or first rest) so) (pipeline_nodes_there first so.0) (parts_there rest so.1)
 
     parts_there : (ps : AndOrParts) → InAndOrParts Always IsSome ps →
         and_or_parts_nodes (carried_and_or_parts f fb true ps) ≡ there (and_or_parts_nodes ps)
     parts_there no_and_or so = refl
     parts_there (more_and_or operator join p ps) so =
-        three (map comment_node join.comments) (pipeline_nodes p) (and_or_parts_nodes ps) _ _ _
+        three_rows_there (map comment_node join.comments) (pipeline_nodes p) (and_or_parts_nodes ps) _ _ _
         (comments_there join.comments) (pipeline_nodes_there p so.1) (parts_there ps so.2)
 
     pipeline_nodes_there : (p : APipeline) → InPipeline Always IsSome p →
         pipeline_nodes (carried_pipeline f fb true p) ≡ there (pipeline_nodes p)
     pipeline_nodes_there (pipeline bang first rest) so =
-        three (pipeline_node (pipeline bang first rest)) (command_nodes first) (pipes_nodes rest) _ _ _
+        three_rows_there (pipeline_node (pipeline bang first rest)) (command_nodes first) (pipes_nodes rest) _ _ _
         (pipeline_node_there (pipeline bang first rest) so) (command_nodes_there first so.1) (pipes_there rest so.2)
 
     pipes_there : (cs : PipelineParts) → InPipes Always IsSome cs →
         pipes_nodes (carried_pipes f fb true cs) ≡ there (pipes_nodes cs)
     pipes_there no_pipe so = refl
     pipes_there (more_pipes join c cs) so =
-        three (map comment_node join.comments) (command_nodes c) (pipes_nodes cs) _ _ _ (comments_there join.comments)
+        three_rows_there (map comment_node join.comments) (command_nodes c) (pipes_nodes cs) _ _ _
+        (comments_there join.comments)
         (command_nodes_there c so.1) (pipes_there cs so.2)
 
     command_nodes_there : (c : ACommand) → InCommand Always IsSome c →
         command_nodes (carried_command f fb true c) ≡ there (command_nodes c)
     command_nodes_there (simple items) so =
-        one_more (node NodeKind.Simple (items_span (carried_items f fb true items)))
+        node_and_row_there (node NodeKind.Simple (items_span (carried_items f fb true items)))
         (node NodeKind.Simple (items_span items)) _ _
         (ap (λ (s : Span). node NodeKind.Simple s) (items_there items so.0)) (items_nodes_there items so.1)
     command_nodes_there (compound c) so = compound_nodes_there c so
     command_nodes_there (function name comments body) so =
-        one_more (named_node NodeKind.Function (through (f name) (compound_span (carried_compound f fb true body)))
+        node_and_row_there (named_node NodeKind.Function
+        (through (f name) (compound_span (carried_compound f fb true body)))
         (f name)) (named_node NodeKind.Function (through name (compound_span body)) name) _ _
         (ap (λ (s : Span). named_node NodeKind.Function (through (f name) s) (f name)) (compound_there body))
-        (two (map comment_node comments) (compound_nodes body) _ _ (comments_there comments)
+        (two_rows_there (map comment_node comments) (compound_nodes body) _ _ (comments_there comments)
         (compound_nodes_there body so.2))
 
     compound_nodes_there : (c : ACompound) → InCompound Always IsSome c →
         compound_nodes (carried_compound f fb true c) ≡ there (compound_nodes c)
     compound_nodes_there (formed form span redirects) so =
-        one_more (form_node (carried_form f fb true form)
+        node_and_row_there (form_node (carried_form f fb true form)
         (through (f span) (last_item (f span) (carried_items f fb true redirects))))
         (form_node form (through span (last_item span redirects))) _ _
         (ap (λ (s : Span). form_node (carried_form f fb true form) (through (f span) s))
         (last_item_there span (f span) redirects refl) ∙ form_there form (through span (last_item span redirects)))
-        (two (form_nodes form) (items_nodes redirects) _ _ (form_nodes_there form so.0)
+        (two_rows_there (form_nodes form) (items_nodes redirects) _ _ (form_nodes_there form so.0)
         (items_nodes_there redirects so.2))
 
     form_nodes_there : (m : AForm) → InForm Always IsSome m →
@@ -215,26 +220,28 @@ module _ (b : ℕ) where
     form_nodes_there (brace es) so = entries_there es so
     form_nodes_there (subshell es) so = entries_there es so
     form_nodes_there (if_then first rest other) so =
-        three (branch_nodes first) (branches_nodes rest) (else_nodes other) _ _ _ (branch_there first so.0)
+        three_rows_there (branch_nodes first) (branches_nodes rest) (else_nodes other) _ _ _ (branch_there first so.0)
         (branches_there rest so.1) (else_there other so.2)
     form_nodes_there (while_do c) so = branch_there c so
     form_nodes_there (until_do c) so = branch_there c so
     form_nodes_there (for_in name words body) so =
-        three (word_nodes name) (for_words_nodes words) (entries_nodes body) _ _ _ (word_nodes_there name so.0)
+        three_rows_there (word_nodes name) (for_words_nodes words) (entries_nodes body) _ _ _
+        (word_nodes_there name so.0)
         (for_words_there words so.1) (entries_there body so.2)
     form_nodes_there (case_in w cases tail) so =
-        three (word_nodes w) (cases_nodes cases) (map comment_node tail) _ _ _ (word_nodes_there w so.0)
+        three_rows_there (word_nodes w) (cases_nodes cases) (map comment_node tail) _ _ _ (word_nodes_there w so.0)
         (cases_there cases so.1) (comments_there tail)
 
     branch_there : (c : ABranch) → InBranch Always IsSome c →
         branch_nodes (carried_branch f fb true c) ≡ there (branch_nodes c)
     branch_there (branch condition body) so =
-        two (entries_nodes condition) _ _ _ (entries_there condition so.0) (entries_there body so.1)
+        two_rows_there (entries_nodes condition) _ _ _ (entries_there condition so.0) (entries_there body so.1)
 
     branches_there : (bs : Branches) → InBranches Always IsSome bs →
         branches_nodes (carried_branches f fb true bs) ≡ there (branches_nodes bs)
     branches_there no_branch so = refl
-    branches_there (more_branches c bs) so = two (branch_nodes c) _ _ _ (branch_there c so.0) (branches_there bs so.1)
+    branches_there (more_branches c bs) so =
+        two_rows_there (branch_nodes c) _ _ _ (branch_there c so.0) (branches_there bs so.1)
 
     else_there : (o : Otherwise) → InElse Always IsSome o → else_nodes (carried_else f fb true o) ≡ there (else_nodes o)
     else_there no_else so = refl
@@ -248,32 +255,34 @@ module _ (b : ℕ) where
     cases_there : (cs : CaseItems) → InCases Always IsSome cs →
         cases_nodes (carried_cases f fb true cs) ≡ there (cases_nodes cs)
     cases_there no_case so = refl
-    cases_there (more_cases c cs) so = two (case_nodes c) _ _ _ (case_there c so.0) (cases_there cs so.1)
+    cases_there (more_cases c cs) so = two_rows_there (case_nodes c) _ _ _ (case_there c so.0) (cases_there cs so.1)
 
     case_there : (c : ACaseItem) → InCase Always IsSome c → case_nodes (carried_case f fb true c) ≡ there (case_nodes c)
     case_there (case_item comments patterns body mark) so =
-        one_more (node NodeKind.Item (f mark.mark)) (node NodeKind.Item mark.mark) _ _ refl
-        (three (map comment_node comments) (patterns_nodes patterns) (entries_nodes body) _ _ _
+        node_and_row_there (node NodeKind.Item (f mark.mark)) (node NodeKind.Item mark.mark) _ _ refl
+        (three_rows_there (map comment_node comments) (patterns_nodes patterns) (entries_nodes body) _ _ _
         (comments_there comments) (patterns_there patterns so.1) (entries_there body so.2))
 
     patterns_there : (ws : Patterns) → InPatterns Always IsSome ws →
         patterns_nodes (carried_patterns f fb true ws) ≡ there (patterns_nodes ws)
     patterns_there no_pattern so = refl
-    patterns_there (more_patterns w ws) so = two (word_nodes w) _ _ _ (word_nodes_there w so.0) (patterns_there ws so.1)
+    patterns_there (more_patterns w ws) so =
+        two_rows_there (word_nodes w) _ _ _ (word_nodes_there w so.0) (patterns_there ws so.1)
 
     items_nodes_there : (is : Items) → InItems Always IsSome is →
         items_nodes (carried_items f fb true is) ≡ there (items_nodes is)
     items_nodes_there no_item so = refl
     items_nodes_there (more_items i is) so =
-        two (item_nodes i) _ _ _ (item_nodes_there i so.0) (items_nodes_there is so.1)
+        two_rows_there (item_nodes i) _ _ _ (item_nodes_there i so.0) (items_nodes_there is so.1)
 
     item_nodes_there : (i : AnItem) → InItem Always IsSome i →
         item_nodes (carried_item f fb true i) ≡ there (item_nodes i)
     item_nodes_there (item broken (assign (word span substs))) so =
-        one_more (node NodeKind.Assign (f span)) (node NodeKind.Assign span) _ _ refl (substs_there substs so.1)
+        node_and_row_there (node NodeKind.Assign (f span)) (node NodeKind.Assign span) _ _ refl
+        (substs_there substs so.1)
     item_nodes_there (item broken (argument w)) so = word_nodes_there w so
     item_nodes_there (item broken (redirect number operator span w here)) so =
-        one_more (node NodeKind.Redirect
+        node_and_row_there (node NodeKind.Redirect
         (through (unwrap_or (option_map f number) (f span)) (word_span (carried_word f fb true w))))
         (node NodeKind.Redirect (through (unwrap_or number span) (word_span w))) _ _
         (ap (λ (s : Span). node NodeKind.Redirect (through s (word_span (carried_word f fb true w))))
@@ -284,17 +293,19 @@ module _ (b : ℕ) where
     word_nodes_there : (w : AWord) → InWord Always IsSome w →
         word_nodes (carried_word f fb true w) ≡ there (word_nodes w)
     word_nodes_there (word span substs) so =
-        one_more (node NodeKind.Word (f span)) (node NodeKind.Word span) _ _ refl (substs_there substs so.1)
+        node_and_row_there (node NodeKind.Word (f span)) (node NodeKind.Word span) _ _ refl (substs_there substs so.1)
 
     substs_there : (ss : Substs) → InSubsts Always IsSome ss →
         substs_nodes (carried_substs f fb true ss) ≡ there (substs_nodes ss)
     substs_there no_subst so = refl
-    substs_there (more_substs s ss) so = two (subst_nodes s) _ _ _ (subst_there s so.0) (substs_there ss so.1)
+    substs_there (more_substs s ss) so =
+        two_rows_there (subst_nodes s) _ _ _ (subst_there s so.0) (substs_there ss so.1)
 
     subst_there : (s : ASubst) → InSubst Always IsSome s →
         subst_nodes (carried_subst f fb true s) ≡ there (subst_nodes s)
     subst_there (subst entries span) so =
-        one_more (node NodeKind.Subst (f span)) (node NodeKind.Subst span) _ _ refl (entries_there entries so.0)
+        node_and_row_there (node NodeKind.Subst (f span)) (node NodeKind.Subst span) _ _ refl
+        (entries_there entries so.0)
 
 -- the nodes of a list at a base are its nodes, moved there
 pub nodes_moved : (base : ℕ) (es : Entries) → HaveItems es →

@@ -77,44 +77,44 @@ module _ (limit : ℕ) where
   -- ---- rows of parts
 
   -- the nodes of two rows fit where those of each do
-  pub both : (ms ns : Row NodeLine) → Nodes ms → Nodes ns → Nodes (ms ++ ns)
-  both ms ns one two = All-append (IsWithin limit) ms ns one two
+  pub fits_both : (ms ns : Row NodeLine) → Nodes ms → Nodes ns → Nodes (ms ++ ns)
+  fits_both ms ns one two = All-append (IsWithin limit) ms ns one two
 
   -- for each kind of part: the nodes of a row fit where each part of it does
   pub fits_substs : (ss : Row ASubst) → All SubstFits ss → Nodes (substs_nodes (substs_of ss))
   fits_substs [] so = All-nil (IsWithin limit)
-  fits_substs (s ∷ ss) so = both (subst_nodes s) (substs_nodes (substs_of ss)) (All-head SubstFits s ss so)
+  fits_substs (s ∷ ss) so = fits_both (subst_nodes s) (substs_nodes (substs_of ss)) (All-head SubstFits s ss so)
       (fits_substs ss (All-tail SubstFits s ss so))
 
   pub fits_items : (is : Row AnItem) → All ItemFits is → Nodes (items_nodes (items_of is))
   fits_items [] so = All-nil (IsWithin limit)
-  fits_items (i ∷ is) so = both (item_nodes i) (items_nodes (items_of is)) (All-head ItemFits i is so).1
+  fits_items (i ∷ is) so = fits_both (item_nodes i) (items_nodes (items_of is)) (All-head ItemFits i is so).1
       (fits_items is (All-tail ItemFits i is so))
 
   fits_pipes : (ps : Row APipelinePart) → All PipeFits ps → Nodes (pipes_nodes (pipeline_parts_of ps))
   fits_pipes [] so = All-nil (IsWithin limit)
   fits_pipes (p ∷ ps) so =
       let one = All-head PipeFits p ps so in
-      both (map comment_node p.join.comments ++ command_nodes p.command) _
-      (both _ (command_nodes p.command) (fits_comments p.join.comments one.0) one.1.1)
+      fits_both (map comment_node p.join.comments ++ command_nodes p.command) _
+      (fits_both _ (command_nodes p.command) (fits_comments p.join.comments one.0) one.1.1)
       (fits_pipes ps (All-tail PipeFits p ps so))
 
   fits_parts : (ps : Row AnAndOrPart) → All PartFits ps → Nodes (and_or_parts_nodes (and_or_parts_of ps))
   fits_parts [] so = All-nil (IsWithin limit)
   fits_parts (p ∷ ps) so =
       let one = All-head PartFits p ps so in
-      both (map comment_node p.join.comments ++ pipeline_nodes p.pipeline) _
-      (both _ (pipeline_nodes p.pipeline) (fits_comments p.join.comments one.0) one.1.1)
+      fits_both (map comment_node p.join.comments ++ pipeline_nodes p.pipeline) _
+      (fits_both _ (pipeline_nodes p.pipeline) (fits_comments p.join.comments one.0) one.1.1)
       (fits_parts ps (All-tail PartFits p ps so))
 
   pub fits_entries : (es : Row AnEntry) → All EntryFits es → NodesWithin limit (entries_of es)
   fits_entries [] so = All-nil (IsWithin limit)
-  fits_entries (e ∷ es) so = both (entry_nodes e) (entries_nodes (entries_of es)) (All-head EntryFits e es so)
+  fits_entries (e ∷ es) so = fits_both (entry_nodes e) (entries_nodes (entries_of es)) (All-head EntryFits e es so)
       (fits_entries es (All-tail EntryFits e es so))
 
   pub fits_branches : (bs : Row ABranch) → All BranchFits bs → Nodes (branches_nodes (branches_of bs))
   fits_branches [] so = All-nil (IsWithin limit)
-  fits_branches (b ∷ bs) so = both (branch_nodes b) (branches_nodes (branches_of bs)) (All-head BranchFits b bs so)
+  fits_branches (b ∷ bs) so = fits_both (branch_nodes b) (branches_nodes (branches_of bs)) (All-head BranchFits b bs so)
       (fits_branches bs (All-tail BranchFits b bs so))
 
   -- ---- where the last of a row stands
@@ -205,7 +205,7 @@ module _ (limit : ℕ) where
       let last = last_item_fits s is so items in (
         (so.0, last.1),
         first _ _ (fits_form_node f _ (so.0, last.1) all)
-            (both (form_nodes f) (items_nodes (items_of is)) all (fits_items is items)),
+            (fits_both (form_nodes f) (items_nodes (items_of is)) all (fits_items is items)),
       )
 
   pub fits_function : (name : Span) (cs : Row Span) (body : ACompound) → IsSpanWithin limit name → All CommentFits cs →
@@ -214,7 +214,7 @@ module _ (limit : ℕ) where
       let span : IsSpanWithin limit (through name (compound_span body)) = (one.0, so.0.1) in (
         span,
         first _ _ (record { start = span.0; «end» = span.1; name = one })
-            (both (map comment_node cs) (compound_nodes body) (fits_comments cs all) so.1),
+            (fits_both (map comment_node cs) (compound_nodes body) (fits_comments cs all) so.1),
       )
 
   pipeline_span_fits : (bang : Option Span) (c : ACommand) (ps : Row APipelinePart) →
@@ -226,26 +226,29 @@ module _ (limit : ℕ) where
   pub fits_pipeline : (bang : Option Span) (c : ACommand) (ps : Row APipelinePart) →
       MatchOption bang (Unit {0}) (IsSpanWithin limit) → CommandFits c → All PipeFits ps
       → PipelineFits (pipeline bang c (pipeline_parts_of ps))
-  fits_pipeline None c [] one so all = (so.0, both (command_nodes c) [] so.1 (All-nil (IsWithin limit)))
+  fits_pipeline None c [] one so all = (so.0, fits_both (command_nodes c) [] so.1 (All-nil (IsWithin limit)))
   fits_pipeline None c (p ∷ ps) one so all =
-      let span = pipeline_span_fits None c (p ∷ ps) one so.0 all in
-      (span, first _ _ (fits_node NodeKind.Pipeline _ span) (both (command_nodes c) _ so.1 (fits_pipes (p ∷ ps) all)))
+      let span = pipeline_span_fits None c (p ∷ ps) one so.0 all in (
+        span,
+        first _ _ (fits_node NodeKind.Pipeline _ span)
+            (fits_both (command_nodes c) _ so.1 (fits_pipes (p ∷ ps) all)),
+      )
   fits_pipeline (Some b) c ps one so all =
       let span = pipeline_span_fits (Some b) c ps one so.0 all in
-      (span, first _ _ (fits_node NodeKind.Pipeline _ span) (both (command_nodes c) _ so.1 (fits_pipes ps all)))
+      (span, first _ _ (fits_node NodeKind.Pipeline _ span) (fits_both (command_nodes c) _ so.1 (fits_pipes ps all)))
 
   pub fits_and_or : (p : APipeline) (ps : Row AnAndOrPart) → PipelineFits p → All PartFits ps →
       Nodes (and_or_nodes (and_or p (and_or_parts_of ps)))
-  fits_and_or p [] so all = both (pipeline_nodes p) [] so.1 (All-nil (IsWithin limit))
+  fits_and_or p [] so all = fits_both (pipeline_nodes p) [] so.1 (All-nil (IsWithin limit))
   fits_and_or p (q ∷ ps) so all =
       let last = last_pipeline_fits (pipeline_span p) (q ∷ ps) so.0 all in
       first _ _ (fits_node NodeKind.AndOr (and_or_span (and_or p (and_or_parts_of (q ∷ ps)))) (so.0.0, last.1))
-      (both (pipeline_nodes p) _ so.1 (fits_parts (q ∷ ps) all))
+      (fits_both (pipeline_nodes p) _ so.1 (fits_parts (q ∷ ps) all))
 
   pub fits_command : (a : AnAndOr) (background blank : Bool) (c : Option Span) → Nodes (and_or_nodes a) →
       MatchOption c (Unit {0}) CommentFits → EntryFits (entry (command a) background blank c)
   fits_command a background blank c so one =
-      both (and_or_nodes a) (map comment_node (option_to_list c)) so (fits_comment c one)
+      fits_both (and_or_nodes a) (map comment_node (option_to_list c)) so (fits_comment c one)
 
   pub fits_remark : (c : Span) (background blank : Bool) → CommentFits c →
       EntryFits (entry (remark c) background blank None)
@@ -261,7 +264,7 @@ module _ (limit : ℕ) where
   -- patterns, an item, items and a `case` fit where what they are made of does
   fits_patterns : (ws : Row AWord) → All WordFits ws → Nodes (patterns_nodes (patterns_of ws))
   fits_patterns [] so = All-nil (IsWithin limit)
-  fits_patterns (w ∷ ws) so = both (word_nodes w) (patterns_nodes (patterns_of ws))
+  fits_patterns (w ∷ ws) so = fits_both (word_nodes w) (patterns_nodes (patterns_of ws))
       (fits_word w (All-head WordFits w ws so)) (fits_patterns ws (All-tail WordFits w ws so))
 
   pub fits_case : (cs : Row Span) (ws : Row AWord) (es : Entries) (s : ACaseMark) → All CommentFits cs → All WordFits ws
@@ -269,19 +272,19 @@ module _ (limit : ℕ) where
       → CaseFits (case_item cs (patterns_of ws) es s)
   fits_case cs ws es s comments patterns body span =
       first (node NodeKind.Item s.mark) _ (fits_node NodeKind.Item s.mark span)
-      (both (map comment_node cs ++ patterns_nodes (patterns_of ws)) (entries_nodes es)
-      (both (map comment_node cs) _ (fits_comments cs comments) (fits_patterns ws patterns)) body)
+      (fits_both (map comment_node cs ++ patterns_nodes (patterns_of ws)) (entries_nodes es)
+      (fits_both (map comment_node cs) _ (fits_comments cs comments) (fits_patterns ws patterns)) body)
 
   fits_cases : (cs : Row ACaseItem) → All CaseFits cs → Nodes (cases_nodes (cases_of cs))
   fits_cases [] so = All-nil (IsWithin limit)
-  fits_cases (c ∷ cs) so = both (case_nodes c) (cases_nodes (cases_of cs)) (All-head CaseFits c cs so)
+  fits_cases (c ∷ cs) so = fits_both (case_nodes c) (cases_nodes (cases_of cs)) (All-head CaseFits c cs so)
       (fits_cases cs (All-tail CaseFits c cs so))
 
   pub fits_case_in : (w : AWord) (cs : Row ACaseItem) (tail : Row Span) → WordFits w → All CaseFits cs →
       All CommentFits tail → Nodes (form_nodes (case_in w (cases_of cs) tail))
   fits_case_in w cs tail one items comments =
-      both (word_nodes w ++ cases_nodes (cases_of cs)) (map comment_node tail)
-      (both (word_nodes w) _ (fits_word w one) (fits_cases cs items)) (fits_comments tail comments)
+      fits_both (word_nodes w ++ cases_nodes (cases_of cs)) (map comment_node tail)
+      (fits_both (word_nodes w) _ (fits_word w one) (fits_cases cs items)) (fits_comments tail comments)
 
   -- ---- where the last command of a list ends
 
@@ -332,7 +335,7 @@ module _ (limit : ℕ) where
   pub within_append : (es ls : Row AnEntry) → NodesWithin limit (entries_of es) → NodesWithin limit (entries_of ls) →
       NodesWithin limit (entries_of (es ++ ls))
   within_append es ls one two =
-      All-same (IsWithin limit) _ _ (nodes_append es ls) (both (entries_nodes (entries_of es)) _ one two)
+      All-same (IsWithin limit) _ _ (nodes_append es ls) (fits_both (entries_nodes (entries_of es)) _ one two)
 
 -- ---- a greater limit
 

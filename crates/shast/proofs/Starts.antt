@@ -22,17 +22,17 @@ module _ (S : ℕ → Type 0) where
   N ns = All OfNode ns
 
   -- it is so of no nodes, of one more, and of two or three rows together
-  none : N []
-  none = All-nil OfNode
+  no_nodes_begin : N []
+  no_nodes_begin = All-nil OfNode
 
-  first : (n : NodeLine) (ns : Row NodeLine) → S n.start → N ns → N (n ∷ ns)
-  first n ns one rest = All-cons OfNode n ns one rest
+  one_more_begins : (n : NodeLine) (ns : Row NodeLine) → S n.start → N ns → N (n ∷ ns)
+  one_more_begins n ns one rest = All-cons OfNode n ns one rest
 
-  both : (ms ns : Row NodeLine) → N ms → N ns → N (ms ++ ns)
-  both ms ns one two = All-append OfNode ms ns one two
+  two_rows_begin : (ms ns : Row NodeLine) → N ms → N ns → N (ms ++ ns)
+  two_rows_begin ms ns one two = All-append OfNode ms ns one two
 
-  three : (ls ms ns : Row NodeLine) → N ls → N ms → N ns → N (ls ++ ms ++ ns)
-  three ls ms ns one two rest = both (ls ++ ms) ns (both ls ms one two) rest
+  three_rows_begin : (ls ms ns : Row NodeLine) → N ls → N ms → N ns → N (ls ++ ms ++ ns)
+  three_rows_begin ls ms ns one two rest = two_rows_begin (ls ++ ms) ns (two_rows_begin ls ms one two) rest
 
   -- ---- where a part begins
 
@@ -72,12 +72,12 @@ module _ (S : ℕ → Type 0) where
 
   -- so do the nodes of comments, and the nodes that parts themselves are
   comments_begin : (cs : Row Span) → OfEach P cs → N (map comment_node cs)
-  comments_begin [] so = none
-  comments_begin (c ∷ cs) so = first (comment_node c) (map comment_node cs) so.0 (comments_begin cs so.1)
+  comments_begin [] so = no_nodes_begin
+  comments_begin (c ∷ cs) so = one_more_begins (comment_node c) (map comment_node cs) so.0 (comments_begin cs so.1)
 
   comment_begins : (c : Option Span) → OfSome P c → N (map comment_node (option_to_list c))
-  comment_begins None so = none
-  comment_begins (Some c) so = first (comment_node c) [] so none
+  comment_begins None so = no_nodes_begin
+  comment_begins (Some c) so = one_more_begins (comment_node c) [] so no_nodes_begin
 
   form_begins : (m : AForm) (s : Span) → P s → S (form_node m s).start
   form_begins (brace es) s so = so
@@ -89,137 +89,142 @@ module _ (S : ℕ → Type 0) where
   form_begins (case_in w items tail) s so = so
 
   and_or_node_begins : (a : AnAndOr) → InAndOr P IsSome a → N (and_or_node a)
-  and_or_node_begins (and_or one no_and_or) so = none
+  and_or_node_begins (and_or one no_and_or) so = no_nodes_begin
   and_or_node_begins (and_or one (more_and_or operator join p ps)) so =
-      first _ [] (and_or_begins (and_or one (more_and_or operator join p ps)) so) none
+      one_more_begins _ [] (and_or_begins (and_or one (more_and_or operator join p ps)) so) no_nodes_begin
 
   pipeline_node_begins : (p : APipeline) → InPipeline P IsSome p → N (pipeline_node p)
-  pipeline_node_begins (pipeline None one no_pipe) so = none
+  pipeline_node_begins (pipeline None one no_pipe) so = no_nodes_begin
   pipeline_node_begins (pipeline None one (more_pipes join c cs)) so =
-      first _ [] (pipeline_begins (pipeline None one (more_pipes join c cs)) so) none
+      one_more_begins _ [] (pipeline_begins (pipeline None one (more_pipes join c cs)) so) no_nodes_begin
   pipeline_node_begins (pipeline (Some bang) one rest) so =
-      first _ [] (pipeline_begins (pipeline (Some bang) one rest) so) none
+      one_more_begins _ [] (pipeline_begins (pipeline (Some bang) one rest) so) no_nodes_begin
 
   mutual
     -- for each kind of part: so do all of its nodes
     pub nodes_begin : (es : Entries) → Throughout P IsSome es → N (entries_nodes es)
-    nodes_begin no_entry so = none
+    nodes_begin no_entry so = no_nodes_begin
     nodes_begin (more_entries e es) so =
-        both (entry_nodes e) (entries_nodes es) (entry_nodes_begin e so.0) (nodes_begin es so.1)
+        two_rows_begin (entry_nodes e) (entries_nodes es) (entry_nodes_begin e so.0) (nodes_begin es so.1)
 
     entry_nodes_begin : (e : AnEntry) → InEntry P IsSome e → N (entry_nodes e)
     entry_nodes_begin (entry what background blank comment) so =
-        both (content_nodes what) _ (content_nodes_begin what so.0) (comment_begins comment so.1)
+        two_rows_begin (content_nodes what) _ (content_nodes_begin what so.0) (comment_begins comment so.1)
 
     content_nodes_begin : (c : AContent) → InContent P IsSome c → N (content_nodes c)
     content_nodes_begin (command a) so = and_or_nodes_begin a so
-    content_nodes_begin (remark c) so = first (comment_node c) [] so none
+    content_nodes_begin (remark c) so = one_more_begins (comment_node c) [] so no_nodes_begin
 
     and_or_nodes_begin : (a : AnAndOr) → InAndOr P IsSome a → N (and_or_nodes a)
     and_or_nodes_begin (and_or one rest) so =
-        three (and_or_node (and_or one rest)) (pipeline_nodes one) (and_or_parts_nodes rest)
+        three_rows_begin (and_or_node (and_or one rest)) (pipeline_nodes one) (and_or_parts_nodes rest)
         (and_or_node_begins (and_or one rest) so) (pipeline_nodes_begin one so.0) (parts_nodes_begin rest so.1)
 
     parts_nodes_begin : (ps : AndOrParts) → InAndOrParts P IsSome ps → N (and_or_parts_nodes ps)
-    parts_nodes_begin no_and_or so = none
+    parts_nodes_begin no_and_or so = no_nodes_begin
     parts_nodes_begin (more_and_or operator join p ps) so =
-        three (map comment_node join.comments) (pipeline_nodes p) (and_or_parts_nodes ps)
+        three_rows_begin (map comment_node join.comments) (pipeline_nodes p) (and_or_parts_nodes ps)
         (comments_begin join.comments so.0) (pipeline_nodes_begin p so.1) (parts_nodes_begin ps so.2)
 
     pipeline_nodes_begin : (p : APipeline) → InPipeline P IsSome p → N (pipeline_nodes p)
     pipeline_nodes_begin (pipeline bang one rest) so =
-        three (pipeline_node (pipeline bang one rest)) (command_nodes one) (pipes_nodes rest)
+        three_rows_begin (pipeline_node (pipeline bang one rest)) (command_nodes one) (pipes_nodes rest)
         (pipeline_node_begins (pipeline bang one rest) so) (command_nodes_begin one so.1)
         (pipes_nodes_begin rest so.2)
 
     pipes_nodes_begin : (cs : PipelineParts) → InPipes P IsSome cs → N (pipes_nodes cs)
-    pipes_nodes_begin no_pipe so = none
+    pipes_nodes_begin no_pipe so = no_nodes_begin
     pipes_nodes_begin (more_pipes join c cs) so =
-        three (map comment_node join.comments) (command_nodes c) (pipes_nodes cs) (comments_begin join.comments so.0)
+        three_rows_begin (map comment_node join.comments) (command_nodes c) (pipes_nodes cs)
+        (comments_begin join.comments so.0)
         (command_nodes_begin c so.1) (pipes_nodes_begin cs so.2)
 
     command_nodes_begin : (c : ACommand) → InCommand P IsSome c → N (command_nodes c)
     command_nodes_begin (simple items) so =
-        first _ (items_nodes items) (items_begin items so.0 so.1) (items_nodes_begin items so.1)
+        one_more_begins _ (items_nodes items) (items_begin items so.0 so.1) (items_nodes_begin items so.1)
     command_nodes_begin (compound c) so = compound_nodes_begin c so
     command_nodes_begin (function name comments body) so =
-        first _ (map comment_node comments ++ compound_nodes body) so.0
-        (both (map comment_node comments) (compound_nodes body) (comments_begin comments so.1)
+        one_more_begins _ (map comment_node comments ++ compound_nodes body) so.0
+        (two_rows_begin (map comment_node comments) (compound_nodes body) (comments_begin comments so.1)
         (compound_nodes_begin body so.2))
 
     compound_nodes_begin : (c : ACompound) → InCompound P IsSome c → N (compound_nodes c)
     compound_nodes_begin (formed form span redirects) so =
-        first _ (form_nodes form ++ items_nodes redirects) (form_begins form _ so.1)
-        (both (form_nodes form) (items_nodes redirects) (form_nodes_begin form so.0)
+        one_more_begins _ (form_nodes form ++ items_nodes redirects) (form_begins form _ so.1)
+        (two_rows_begin (form_nodes form) (items_nodes redirects) (form_nodes_begin form so.0)
         (items_nodes_begin redirects so.2))
 
     form_nodes_begin : (m : AForm) → InForm P IsSome m → N (form_nodes m)
     form_nodes_begin (brace es) so = nodes_begin es so
     form_nodes_begin (subshell es) so = nodes_begin es so
     form_nodes_begin (if_then one rest other) so =
-        three (branch_nodes one) (branches_nodes rest) (else_nodes other) (branch_nodes_begin one so.0)
+        three_rows_begin (branch_nodes one) (branches_nodes rest) (else_nodes other) (branch_nodes_begin one so.0)
         (branches_nodes_begin rest so.1) (else_nodes_begin other so.2)
     form_nodes_begin (while_do c) so = branch_nodes_begin c so
     form_nodes_begin (until_do c) so = branch_nodes_begin c so
     form_nodes_begin (for_in name words body) so =
-        three (word_nodes name) (for_words_nodes words) (entries_nodes body) (word_nodes_begin name so.0)
+        three_rows_begin (word_nodes name) (for_words_nodes words) (entries_nodes body) (word_nodes_begin name so.0)
         (for_words_nodes_begin words so.1) (nodes_begin body so.2)
     form_nodes_begin (case_in w cases tail) so =
-        three (word_nodes w) (cases_nodes cases) (map comment_node tail) (word_nodes_begin w so.0)
+        three_rows_begin (word_nodes w) (cases_nodes cases) (map comment_node tail) (word_nodes_begin w so.0)
         (cases_nodes_begin cases so.1) (comments_begin tail so.2)
 
     branch_nodes_begin : (c : ABranch) → InBranch P IsSome c → N (branch_nodes c)
     branch_nodes_begin (branch condition body) so =
-        both (entries_nodes condition) (entries_nodes body) (nodes_begin condition so.0) (nodes_begin body so.1)
+        two_rows_begin (entries_nodes condition) (entries_nodes body) (nodes_begin condition so.0)
+        (nodes_begin body so.1)
 
     branches_nodes_begin : (bs : Branches) → InBranches P IsSome bs → N (branches_nodes bs)
-    branches_nodes_begin no_branch so = none
+    branches_nodes_begin no_branch so = no_nodes_begin
     branches_nodes_begin (more_branches c bs) so =
-        both (branch_nodes c) (branches_nodes bs) (branch_nodes_begin c so.0) (branches_nodes_begin bs so.1)
+        two_rows_begin (branch_nodes c) (branches_nodes bs) (branch_nodes_begin c so.0) (branches_nodes_begin bs so.1)
 
     else_nodes_begin : (o : Otherwise) → InElse P IsSome o → N (else_nodes o)
-    else_nodes_begin no_else so = none
+    else_nodes_begin no_else so = no_nodes_begin
     else_nodes_begin (otherwise es) so = nodes_begin es so
 
     for_words_nodes_begin : (ws : ForWords) → InForWords P IsSome ws → N (for_words_nodes ws)
-    for_words_nodes_begin no_in so = none
+    for_words_nodes_begin no_in so = no_nodes_begin
     for_words_nodes_begin (in_words items) so = items_nodes_begin items so
 
     cases_nodes_begin : (cs : CaseItems) → InCases P IsSome cs → N (cases_nodes cs)
-    cases_nodes_begin no_case so = none
+    cases_nodes_begin no_case so = no_nodes_begin
     cases_nodes_begin (more_cases c cs) so =
-        both (case_nodes c) (cases_nodes cs) (case_nodes_begin c so.0) (cases_nodes_begin cs so.1)
+        two_rows_begin (case_nodes c) (cases_nodes cs) (case_nodes_begin c so.0) (cases_nodes_begin cs so.1)
 
     case_nodes_begin : (c : ACaseItem) → InCase P IsSome c → N (case_nodes c)
     case_nodes_begin (case_item comments patterns body span) so =
-        first _ (map comment_node comments ++ patterns_nodes patterns ++ entries_nodes body) so.3
-        (three (map comment_node comments) (patterns_nodes patterns) (entries_nodes body) (comments_begin comments so.0)
+        one_more_begins _ (map comment_node comments ++ patterns_nodes patterns ++ entries_nodes body) so.3
+        (three_rows_begin (map comment_node comments) (patterns_nodes patterns) (entries_nodes body)
+        (comments_begin comments so.0)
         (patterns_nodes_begin patterns so.1) (nodes_begin body so.2))
 
     patterns_nodes_begin : (ws : Patterns) → InPatterns P IsSome ws → N (patterns_nodes ws)
-    patterns_nodes_begin no_pattern so = none
+    patterns_nodes_begin no_pattern so = no_nodes_begin
     patterns_nodes_begin (more_patterns w ws) so =
-        both (word_nodes w) (patterns_nodes ws) (word_nodes_begin w so.0) (patterns_nodes_begin ws so.1)
+        two_rows_begin (word_nodes w) (patterns_nodes ws) (word_nodes_begin w so.0) (patterns_nodes_begin ws so.1)
 
     items_nodes_begin : (is : Items) → InItems P IsSome is → N (items_nodes is)
-    items_nodes_begin no_item so = none
+    items_nodes_begin no_item so = no_nodes_begin
     items_nodes_begin (more_items i is) so =
-        both (item_nodes i) (items_nodes is) (item_nodes_begin i so.0) (items_nodes_begin is so.1)
+        two_rows_begin (item_nodes i) (items_nodes is) (item_nodes_begin i so.0) (items_nodes_begin is so.1)
 
     item_nodes_begin : (i : AnItem) → InItem P IsSome i → N (item_nodes i)
     item_nodes_begin (item broken (assign (word span substs))) so =
-        first _ (substs_nodes substs) so.0 (substs_nodes_begin substs so.1)
+        one_more_begins _ (substs_nodes substs) so.0 (substs_nodes_begin substs so.1)
     item_nodes_begin (item broken (argument w)) so = word_nodes_begin w so
     item_nodes_begin (item broken (redirect number operator span w here)) so =
-        first _ (word_nodes w) (begins number span so.0 so.1) (word_nodes_begin w so.2)
+        one_more_begins _ (word_nodes w) (begins number span so.0 so.1) (word_nodes_begin w so.2)
 
     word_nodes_begin : (w : AWord) → InWord P IsSome w → N (word_nodes w)
-    word_nodes_begin (word span substs) so = first _ (substs_nodes substs) so.0 (substs_nodes_begin substs so.1)
+    word_nodes_begin (word span substs) so =
+        one_more_begins _ (substs_nodes substs) so.0 (substs_nodes_begin substs so.1)
 
     substs_nodes_begin : (ss : Substs) → InSubsts P IsSome ss → N (substs_nodes ss)
-    substs_nodes_begin no_subst so = none
+    substs_nodes_begin no_subst so = no_nodes_begin
     substs_nodes_begin (more_substs s ss) so =
-        both (subst_nodes s) (substs_nodes ss) (subst_nodes_begin s so.0) (substs_nodes_begin ss so.1)
+        two_rows_begin (subst_nodes s) (substs_nodes ss) (subst_nodes_begin s so.0) (substs_nodes_begin ss so.1)
 
     subst_nodes_begin : (s : ASubst) → InSubst P IsSome s → N (subst_nodes s)
-    subst_nodes_begin (subst entries span) so = first _ (entries_nodes entries) so.1 (nodes_begin entries so.0)
+    subst_nodes_begin (subst entries span) so =
+        one_more_begins _ (entries_nodes entries) so.1 (nodes_begin entries so.0)

@@ -24,10 +24,10 @@ use Rattle.shgrammar.specs.Lines.{ALine, IsLine, a_line, an_open_line, kind_of, 
 use Rattle.shgrammar.specs.Lists.{list_so_far, none_listed, on_line}
 use Rattle.shgrammar.specs.Sights.{Given, State, given, standing}
 use Rattle.shgrammar.proofs.EachSpan.{EntryIn, entries_in, throughout_so}
-use Rattle.shgrammar.proofs.Everywhere.{level_in}
+use Rattle.shgrammar.proofs.SpansInLimit.{level_in}
 use Rattle.shgrammar.proofs.Holds.{Holds, Tells, no_form_goes_back, tells_give, tells_level, tells_then}
 use Rattle.shgrammar.proofs.Lined.{end_ended}
-use Rattle.shgrammar.proofs.ListsEverywhere.{ListIn, on_line_in}
+use Rattle.shgrammar.proofs.SpansOfLists.{ListIn, on_line_in}
 use Rattle.shgrammar.proofs.OneOutcome.{computed_is_only}
 use Rattle.shheld.proofs.Nodes.{kind_nodes}
 

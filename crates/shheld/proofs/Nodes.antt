@@ -11,8 +11,8 @@ use Rattle.shast.proofs.Reach.{within_more}
 use Rattle.shgrammar.specs.declared.edition.Edition.{Edition}
 use Rattle.shgrammar.specs.Joined.{blanked, has_entry}
 use Rattle.shgrammar.specs.Lines.{AKind, EntrySpansWithin, EntryNodesWithin, blank_line, entries_line, end_line, faulty_line}
-use Rattle.shgrammar.proofs.Everywhere.{line_everywhere}
-use Rattle.shgrammar.proofs.Within.{entries_within}
+use Rattle.shgrammar.proofs.SpansInLimit.{line_everywhere}
+use Rattle.shgrammar.proofs.NodesInLimit.{entries_within}
 use Rattle.shwindow.specs.Lines.{IsRow, extent, last_line, more_lines}
 use Rattle.shwindow.specs.declared.line.HeldLine.{HeldLine}
 use Rattle.shwindow.proofs.Rows.{row_extent}

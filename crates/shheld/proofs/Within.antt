@@ -6,8 +6,8 @@ use Rattle.shast.specs.Tree.{Entries}
 use Rattle.shast.proofs.Reach.{within_more}
 use Rattle.shgrammar.specs.declared.edition.Edition.{Edition}
 use Rattle.shgrammar.specs.Lines.{AKind, EntryNodesWithin, EntrySpansWithin, entries_line}
-use Rattle.shgrammar.proofs.Everywhere.{line_everywhere}
-use Rattle.shgrammar.proofs.Within.{entries_within}
+use Rattle.shgrammar.proofs.SpansInLimit.{line_everywhere}
+use Rattle.shgrammar.proofs.NodesInLimit.{entries_within}
 use Rattle.shwindow.specs.declared.line.HeldLine.{HeldLine}
 use Rattle.shheld.specs.TopLines.{IsTopLine, as_read}
 

@@ -77,6 +77,6 @@ no_line_before zero = refl
 no_line_before (suc n) = ap not (same_so_far (suc n) nothing_yet)
 
 -- the first entry of a line is blank just where that is told before the line
-pub told : (blank : Bool) → is_blank_next (none_listed blank) ≡ blank
-told true = refl
-told false = refl
+pub first_blank_told : (blank : Bool) → is_blank_next (none_listed blank) ≡ blank
+first_blank_told true = refl
+first_blank_told false = refl

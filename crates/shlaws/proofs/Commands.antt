@@ -23,7 +23,7 @@ use Rattle.shgrammar.proofs.MovedTrees.{parted_some}
 use Rattle.shgrammar.proofs.Places.{after_low}
 use Rattle.shgrammar.proofs.Shown.{no_end, shown_in}
 use Rattle.shlaws.proofs.Forms.{Goes, Steps, ahead, beyond, changing, first, follows, gives, leads_byte, leads_far, leads_from, led, led_on, moves, moves_to, picks, picks_by, pushes, repeats, sees, step_by, stops, tokens as one_token, with_the_bytes}
-use Rattle.shlaws.proofs.Words.{All, Begins, Fine, word_on}
+use Rattle.shlaws.proofs.Words.{All, Begins, InnerOnward, word_on}
 
 module _ (g : Given) where
   -- the text that is given
@@ -149,7 +149,7 @@ module _ (g : Given) where
   abbrev pub ItemsShown : ItemsSoFar → State → Type 0
   ItemsShown i t = Begins g i.next t
 
-  module _ (inner : Inner) (fine : Fine g inner) where
+  module _ (inner : Inner) (fine : InnerOnward g inner) where
     -- what is wrong with a token that no row takes is read so
     wrong_on : (n : Next) (s : State) → Goes g (what_is_wrong inner n) (All g) s
     unfolding what_is_wrong

@@ -26,7 +26,7 @@ use Rattle.shgrammar.proofs.Places.{after_low, past_low}
 use Rattle.shgrammar.proofs.Shown.{end_closes}
 use Rattle.shgrammar.specs.Classes.{is_name}
 use Rattle.shlaws.proofs.Forms.{Goes, Steps, ahead, ending, first, follows, gives, in_level, in_subst, leads_byte, leads_from, led, moves, moves_to, picks, picks_by, pushes, pushes_to, repeats, sees, step_by, stops, tokens as one_token}
-use Rattle.shlaws.proofs.Words.{All, Begins, Fine, word_on}
+use Rattle.shlaws.proofs.Words.{All, Begins, InnerOnward, word_on}
 use Rattle.shlaws.proofs.Commands.{Further, HandsOn, ItemsShown, JoinShown, byte_passed, comment_on, compound_on_by, entry_on, item_on, join_turn_on, newline_on, next_given, next_on, nothing_on, read_here, semicolon_on, stopped}
 
 -- a reserved word ends to the right of where it begins
@@ -71,7 +71,7 @@ module _ (g : Given) where
   unfolding a_linebreak
   linebreak_on cs n s so = repeats g (JoinShown g) (join_turn_on g) _ s so
 
-  module _ (inner : Inner) (fine : Fine g inner) where
+  module _ (inner : Inner) (fine : InnerOnward g inner) where
     -- ---- lists
 
     -- the token after the entries of a list so far is the one that begins there

@@ -8,7 +8,7 @@ use Rattle.std.proofs.lemmas.List.Elements.{All-cons}
 use Rattle.std.proofs.lemmas.List.Sorted.{All-permutation, IsPermutation-cons, IsPermutation-middle, IsPermutation-refl, IsPermutation-trans}
 use Rattle.shast.specs.declared.node.NodeLine.{NodeLine}
 use Rattle.shast.specs.Nodes.{by_place, in_order, inserted}
-use Rattle.shast.proofs.Picked.{two_tests, without}
+use Rattle.shast.proofs.Picked.{picked_comm, picked_injective}
 use Rattle.shlaws.specs.Order.{AreInOrder, HaveTheSameAtEachPlace, MayPrecede, stands_from}
 
 -- ---- two places
@@ -62,11 +62,11 @@ has_members n (m ∷ ms) =
     ]
 
 -- nodes that are put in order are the same nodes
-pub members : (ns : Row NodeLine) → IsPermutation ns (in_order ns)
-members [] = IsPermutation-refl []
-members (n ∷ ns) =
+pub in_order_permutes : (ns : Row NodeLine) → IsPermutation ns (in_order ns)
+in_order_permutes [] = IsPermutation-refl []
+in_order_permutes (n ∷ ns) =
     IsPermutation-trans (n ∷ ns) (n ∷ in_order ns) (inserted n (in_order ns))
-    (IsPermutation-cons n ns (in_order ns) (members ns)) (has_members n (in_order ns))
+    (IsPermutation-cons n ns (in_order ns) (in_order_permutes ns)) (has_members n (in_order ns))
 
 -- ---- in order
 
@@ -114,9 +114,9 @@ inserted_sorted n (m ∷ ms) sorted =
     sorted_by n m ms (is_lt (by_place m n)) refl sorted (inserted_sorted n ms (without_first m ms sorted))
 
 -- so nodes that are put in order are in order
-pub sorted : (ns : Row NodeLine) → AreInOrder (in_order ns)
-sorted [] = none_sorted
-sorted (n ∷ ns) = inserted_sorted n (in_order ns) (sorted ns)
+pub in_order_sorted : (ns : Row NodeLine) → AreInOrder (in_order ns)
+in_order_sorted [] = none_sorted
+in_order_sorted (n ∷ ns) = inserted_sorted n (in_order ns) (in_order_sorted ns)
 
 -- ---- the same at each place
 
@@ -142,7 +142,7 @@ same_by s e n m ms true is rest =
     both_ways (is_lt (by_place m n))
     (at_one_place m.start m.«end» n.start n.«end» (one.0 ∙ sym two.0) (one.1 ∙ sym two.1)) is in
     ap (λ r. cond (stands_from s e m) (m ∷ r) r) rest
-    ∙ two_tests (stands_from s e m) (stands_from s e n) m n (filter (stands_from s e) ms) apart
+    ∙ picked_comm (stands_from s e m) (stands_from s e n) m n (filter (stands_from s e) ms) apart
 same_by s e n m ms false is rest = refl
 
 inserted_same : (s e : ℕ) (n : NodeLine) (ms : Row NodeLine)
@@ -215,10 +215,11 @@ one_order (m ∷ ms) (n ∷ ns) up there same =
     let first : m ≡ n = cc in
     let rest : ms ≡ ns =
     one_order ms ns (without_first m ms up) (without_first n ns there)
-    (λ s e. without (stands_from s e m) m (filter (stands_from s e) ms) (filter (stands_from s e) ns)
+    (λ s e. picked_injective (stands_from s e m) m (filter (stands_from s e) ms) (filter (stands_from s e) ns)
     (rw (← first) at (same s e))) in
     cc
 
 -- a row in order that has the same as another at each place is that other, put in order
-pub only : (ms ns : Row NodeLine) → AreInOrder ms → HaveTheSameAtEachPlace ms ns → ms ≡ in_order ns
-only ms ns up same = one_order ms (in_order ns) up (sorted ns) (λ s e. same s e ∙ sym (same_at_each ns s e))
+pub in_order_only : (ms ns : Row NodeLine) → AreInOrder ms → HaveTheSameAtEachPlace ms ns → ms ≡ in_order ns
+in_order_only ms ns up same = one_order ms (in_order ns) up (in_order_sorted ns)
+    (λ s e. same s e ∙ sym (same_at_each ns s e))

@@ -138,31 +138,31 @@ module _ (edition : Edition) (W : List ℕ) where
   -- ---- all of them
 
   -- what pieces leave is left byte by byte, up to where what closes them ends
-  pub walk : (mode : Mode) (p q : ℕ) (text : List ℕ) → is_unquoted mode ≡ true
+  pub pieces_lead : (mode : Mode) (p q : ℕ) (text : List ℕ) → is_unquoted mode ≡ true
       → Leaves edition W mode p q text → At mode p text Plain q
-  walk mode p q text read (ended is) = ended_leads mode p read is
-  walk mode p q text read (ordinary {left = left} b is byte rest) =
+  pieces_lead mode p q text read (ended is) = ended_leads mode p read is
+  pieces_lead mode p q text read (ordinary {left = left} b is byte rest) =
       leads_on (is_later edition) W (quoting_in mode) (quoting_in mode) not_quoted p (past_byte W p) q
-      (b ∷ []) left (byte_leads mode p b read is byte) (walk mode (past_byte W p) q left read rest)
-  walk mode p q text read (pid {left = left} is rest) =
+      (b ∷ []) left (byte_leads mode p b read is byte) (pieces_lead mode (past_byte W p) q left read rest)
+  pieces_lead mode p q text read (pid {left = left} is rest) =
       leads_on (is_later edition) W (quoting_in mode) (quoting_in mode) not_quoted p (past_byte W (past_byte W p)) q
       (dollar_sign ∷ dollar_sign ∷ []) left (both_leads mode p read is)
-      (walk mode (past_byte W (past_byte W p)) q left read rest)
-  walk mode p q text read (escape {left = left} c is next rest) =
+      (pieces_lead mode (past_byte W (past_byte W p)) q left read rest)
+  pieces_lead mode p q text read (escape {left = left} c is next rest) =
       leads_on (is_later edition) W (quoting_in mode) (quoting_in mode) not_quoted p
       (past_continuations W p + 2) q (escape_leaves mode c) left (taken_leads mode p c read is next)
-      (walk mode (past_continuations W p + 2) q left read rest)
-  walk mode p q text read (single {left = left} is more rest) =
+      (pieces_lead mode (past_continuations W p + 2) q left read rest)
+  pieces_lead mode p q text read (single {left = left} is more rest) =
       leads_on (is_later edition) W (quoting_in mode) (quoting_in mode) not_quoted p
       (next_quote W (past_byte W p) + 1) q (raw W (past_byte W p) (next_quote W (past_byte W p))) left
       (quoted_leads mode p read is more)
-      (walk mode (next_quote W (past_byte W p) + 1) q left read rest)
-  walk mode p q text read (double {m = m} {inside = inside} {left = left} is held rest) =
+      (pieces_lead mode (next_quote W (past_byte W p) + 1) q left read rest)
+  pieces_lead mode p q text read (double {m = m} {inside = inside} {left = left} is held rest) =
       let plain = (double_there mode p read is).1 in
       let one : At mode p inside Plain m =
       leads_on (is_later edition) W (quoting_in mode) in_double not_quoted p (past_byte W p) m [] inside
-      (opened_leads mode p read is) (walk Double (past_byte W p) m inside refl held) in
-      let two : At mode m left Plain q = walk mode m q left read rest in
+      (opened_leads mode p read is) (pieces_lead Double (past_byte W p) m inside refl held) in
+      let two : At mode m left Plain q = pieces_lead mode m q left read rest in
       leads_on (is_later edition) W (quoting_in mode) not_quoted not_quoted p m q inside left one
       (subst (λ (n : Mode). At n m left Plain q) plain two)
 
@@ -187,27 +187,27 @@ module _ (edition : Edition) (W : List ℕ) where
       after_some W (past_byte W p) dollar_sign (pid_of _ _ there.0 _ mode there.2).1
 
   -- and the one where pieces end, which is not before where they begin
-  pub far : (mode : Mode) (p q : ℕ) (text : List ℕ) → is_unquoted mode ≡ true → Leaves edition W mode p q text
+  pub pieces_within : (mode : Mode) (p q : ℕ) (text : List ℕ) → is_unquoted mode ≡ true → Leaves edition W mode p q text
       → p ≤ length W → (p ≤ q) × (q ≤ length W)
-  far mode p q text read (ended is) within = closer_far mode p read is within
-  far mode p q text read (ordinary {left = left} b is byte rest) within =
-      let r = far mode (past_byte W p) q left read rest (after_some W p b byte) in
+  pieces_within mode p q text read (ended is) within = closer_far mode p read is within
+  pieces_within mode p q text read (ordinary {left = left} b is byte rest) within =
+      let r = pieces_within mode (past_byte W p) q left read rest (after_some W p b byte) in
       (omega (arith, r.0, after_low W p), r.1)
-  far mode p q text read (pid {left = left} is rest) within =
-      let r = far mode (past_byte W (past_byte W p)) q left read rest (pid_within mode p read is) in
+  pieces_within mode p q text read (pid {left = left} is rest) within =
+      let r = pieces_within mode (past_byte W (past_byte W p)) q left read rest (pid_within mode p read is) in
       (omega (arith, r.0, after_low W p, after_low W (past_byte W p)), r.1)
-  far mode p q text read (escape {left = left} c is next rest) within =
+  pieces_within mode p q text read (escape {left = left} c is next rest) within =
       let lt = slice_get_within W (past_continuations W p + 1) c next in
-      let r = far mode (past_continuations W p + 2) q left read rest (omega (arith, lt)) in
+      let r = pieces_within mode (past_continuations W p + 2) q left read rest (omega (arith, lt)) in
       (omega (arith, r.0, place_low W p), r.1)
-  far mode p q text read (single {left = left} is more rest) within =
+  pieces_within mode p q text read (single {left = left} is more rest) within =
       let lt = not_end_low W (next_quote W (past_byte W p)) more in
-      let r = far mode (next_quote W (past_byte W p) + 1) q left read rest (omega (arith, lt)) in
+      let r = pieces_within mode (next_quote W (past_byte W p) + 1) q left read rest (omega (arith, lt)) in
       (omega (arith, r.0, after_low W p, next_of_low apostrophe W (past_byte W p)), r.1)
-  far mode p q text read (double {m = m} {inside = inside} {left = left} is held rest) within =
+  pieces_within mode p q text read (double {m = m} {inside = inside} {left = left} is held rest) within =
       let there = double_there mode p read is in
-      let one = far Double (past_byte W p) m inside refl held (after_some W p quotation_mark there.0) in
-      let two = far mode m q left read rest one.1 in
+      let one = pieces_within Double (past_byte W p) m inside refl held (after_some W p quotation_mark there.0) in
+      let two = pieces_within mode m q left read rest one.1 in
       (omega (arith, one.0, two.0, after_low W p), two.1)
 
   -- ---- the whole word
@@ -217,7 +217,7 @@ module _ (edition : Edition) (W : List ℕ) where
       → unquoted not_quoted false W ≡ Some left
   unfolding unquoted
   left_all q left end leaves =
-      let lead = walk Plain 0 q left refl leaves in
+      let lead = pieces_lead Plain 0 q left refl leaves in
       let none : unquoted not_quoted false (drop q W) ≡ Some [] =
       ap (unquoted not_quoted false) (drop_all q W end) in
       lead.left ∙ ap (Rattle.shgrammar.specs.Unquoting.left_of left) none
@@ -228,7 +228,7 @@ module _ (edition : Edition) (W : List ℕ) where
       → is_later edition ≡ true → has_dollar_single not_quoted false W ≡ false
   unfolding has_dollar_single
   none_found q left end leaves newer =
-      let lead = walk Plain 0 q left refl leaves in
+      let lead = pieces_lead Plain 0 q left refl leaves in
       lead.found newer ∙ ap (has_dollar_single not_quoted false) (drop_all q W end)
 
   -- so the word is a delimiter of the text that they leave

@@ -26,7 +26,7 @@ use Rattle.shgrammar.specs.States.{Given, State, given, standing}
 use Rattle.shgrammar.specs.Tokens.{is_later}
 use Rattle.shgrammar.specs.Unquoting.{left_of}
 use Rattle.shgrammar.specs.Words.{WordSoFar, a_piece, a_word, contents, word_so_far, piece_row, single}
-use Rattle.shgrammar.proofs.Anywhere.{anywhere}
+use Rattle.shgrammar.proofs.WordsAnywhere.{reads_word_anywhere}
 use Rattle.shgrammar.proofs.Levels.{level_below, level_closed}
 use Rattle.shgrammar.proofs.OneOutcome.{computed_is_only}
 use Rattle.shgrammar.proofs.Places.{after_low, after_some, next_of_low, not_end_low, quote_clear}
@@ -34,7 +34,7 @@ use Rattle.shgrammar.proofs.Stretches.{place_low}
 use Rattle.shgrammar.proofs.Turns.{many_again, many_done, turns_fault}
 use Rattle.shlaws.specs.Quotes.{Leaves, double, ended, escape, ordinary, pid, piece_by_edition, single as quoted}
 use Rattle.shlaws.proofs.PieceBytes.{Begins, another, arithmetic, backquote, byte_there, closes, dollar, dollar_quote, dollars, double_quote, ends_here, escapes, is_unquoted, lone, parameter, quote, quoting_in, stands_alone, substitution}
-use Rattle.shlaws.proofs.QuotePieces.{backslash_there, both_leads, byte_leads, double_there, far, left_all, opened_leads, pid_within, quoted_leads, taken_leads, walk}
+use Rattle.shlaws.proofs.QuotePieces.{backslash_there, both_leads, byte_leads, double_there, pieces_within, left_all, opened_leads, pid_within, quoted_leads, taken_leads, pieces_lead}
 use Rattle.shlaws.proofs.QuoteSteps.{Leads, backquote_none, dollar_quote_found, leads_on, opener_none}
 
 -- ---- what is not expanded
@@ -329,12 +329,12 @@ module _ (edition : Edition) (W : List ℕ) (o : ℕ) where
         (omega (arith, few, near, after_low W s.at)) near
         (clear_on (is_later edition) W (quoting_in mode) in_double s.at (past_byte W s.at) [] opens clear)
         inner in
-        let bounds = far edition W Double (past_byte W s.at) u.at held.0 refl held.1 near in
+        let bounds = pieces_within edition W Double (past_byte W s.at) u.at held.0 refl held.1 near in
         let turn = row_is room mode b h s pieces.Double read is ∙ double_turn some ∙ ap held_by inner in
         let plain : not_quoted ≡ quoting_in mode = sym (ap quoting_in there.1) in
         let leads =
         leads_on (is_later edition) W (quoting_in mode) in_double not_quoted s.at (past_byte W s.at) u.at
-        [] held.0 opens (walk edition W Double (past_byte W s.at) u.at held.0 refl held.1) in
+        [] held.0 opens (pieces_lead edition W Double (past_byte W s.at) u.at held.0 refl held.1) in
         let rest =
         goes_on (word_so_far h.nested k.substs) u held.0 turn (omega (arith, bounds.0, after_low W s.at)) bounds.1
         (subst (λ (r : Quoting). Leads (is_later edition) W (quoting_in mode) s.at held.0 r u.at) plain leads)
@@ -488,7 +488,8 @@ word_alone room p n g read =
     let short : length W ≤ n = omega (arith, length-take (p + n - p) (drop p g.text)) in
     let none : byte_at W (0 + n) ≡ None =
     slice_get_past W (past_continuations W (0 + n)) (omega (arith, short, place_low W (0 + n))) in
-    anywhere room g (given g.edition W 0) p 0 n read same (ap ends none) (ap (λ y. is_byte y left_parenthesis) none)
+    reads_word_anywhere room g (given g.edition W 0) p 0 n read same (ap ends none)
+    (ap (λ y. is_byte y left_parenthesis) none)
 
 -- where a word is a delimiter, its text is left; text in dollar-single quotes, if there is such, is not found
 clear_from : (later : Bool) (found : Bool) (text : Option (List ℕ)) (literal : Bool) (d : ADelimiter)

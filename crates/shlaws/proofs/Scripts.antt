@@ -15,13 +15,13 @@ use Rattle.shgrammar.specs.Tokens.{is_end}
 use Rattle.shgrammar.specs.Words.{Inner, a_word}
 use Rattle.shlaws.specs.Onward.{LineOnward, LinesOnward, PassesOnward, faulty as faulty_on, last_line as last_line_on, line_ended as line_ended_on, may_onward}
 use Rattle.shlaws.proofs.Forms.{Goes, changing, first, follows, gives, in_level, moves, picks, sees, stops}
-use Rattle.shlaws.proofs.Words.{All, Fine, contents_on, word_on}
+use Rattle.shlaws.proofs.Words.{All, InnerOnward, contents_on, word_on}
 use Rattle.shlaws.proofs.Commands.{next_on, nothing_on, stopped}
 use Rattle.shlaws.proofs.Compounds.{compound_on, function_on, line_on, substitution_on}
 
 module _ (g : Given) where
   -- whatever room is left, what may be opened is read so
-  fine : (room : ℕ) → Fine g (level room)
+  fine : (room : ℕ) → InnerOnward g (level room)
   unfolding level
   fine zero =
       record {
@@ -41,7 +41,7 @@ module _ (g : Given) where
 
   -- ---- lines
 
-  module _ (inner : Inner) (good : Fine g inner) where
+  module _ (inner : Inner) (good : InnerOnward g inner) where
     -- what ends a line is read so: a newline with the bodies after it, or the end
     end_on_by : (newline end : Bool) (n : Next) (s : State) → Goes g (line_end_by inner newline end n) (All g) s
     end_on_by newline end n s =

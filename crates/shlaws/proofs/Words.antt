@@ -80,7 +80,7 @@ module _ (g : Given) where
   Begins n t = Shows n.token T t.at
 
   -- what may be opened is read so, and hands on the token after it
-  pub record Fine (inner : Inner) : Type 0 where
+  pub record InnerOnward (inner : Inner) : Type 0 where
     pub construct : (mode : Mode) (b : ℕ) (ss : Row ASubst) (s : State)
         → Goes g (inner.construct mode b ss) All s
     pub substitution : (b : ℕ) (ss : Row ASubst) (s : State) → Goes g (inner.substitution b ss) All s
@@ -93,26 +93,26 @@ module _ (g : Given) where
 
   -- what is there where a piece begins: a word ends where it is closed, and at any other piece a byte is
   -- read, but where the closer is missing
-  abbrev Needs : Mode → ℕ → Piece → Type 0
-  Needs mode p pieces.Closer = mode ≡ Plain → ends_word T p ≡ true
-  Needs mode p pieces.Missing = Unit {0}
-  Needs mode p _ = IsRead T p
+  abbrev PieceRead : Mode → ℕ → Piece → Type 0
+  PieceRead mode p pieces.Closer = mode ≡ Plain → ends_word T p ≡ true
+  PieceRead mode p pieces.Missing = Unit {0}
+  PieceRead mode p _ = IsRead T p
 
   module _ (mode : Mode) (n p : ℕ) where
     -- this is there at the end of the text
-    end_needs : (mode : Mode) → byte_at T p ≡ None → Needs mode p (end_by mode)
+    end_read : (mode : Mode) → byte_at T p ≡ None → PieceRead mode p (end_by mode)
     unfolding ends_word
-    end_needs Plain none = λ e. rw none refl
-    end_needs Double none = tt
-    end_needs Brace none = tt
-    end_needs DoubleBrace none = tt
-    end_needs Arith none = tt
+    end_read Plain none = λ e. rw none refl
+    end_read Double none = tt
+    end_read Brace none = tt
+    end_read DoubleBrace none = tt
+    end_read Arith none = tt
 
     -- and at a `$`, by the byte after it
-    dollar_needs : (x : Option ℕ) → IsRead T p → Needs mode p (dollar_by T (past_byte T p) x)
-    dollar_needs None read = read
-    dollar_needs (Some v) read =
-        let P = Needs mode p in
+    dollar_read : (x : Option ℕ) → IsRead T p → PieceRead mode p (dollar_by T (past_byte T p) x)
+    dollar_read None read = read
+    dollar_read (Some v) read =
+        let P = PieceRead mode p in
         cond_both (v == dollar_sign) _ _ P (λ e. read)
         (λ e. cond_both (v == left_parenthesis) _ _ P
         (λ f. cond_both (stands T (past_byte T (past_byte T p)) left_parenthesis) _ _ P (λ d. read) (λ d. read))
@@ -120,74 +120,75 @@ module _ (g : Given) where
         (λ d. cond_both (v == apostrophe) _ _ P (λ z. read) (λ z. read))))
 
     -- at a `)` in arithmetic, by the brackets that are open
-    bracket_needs : (m : ℕ) (two : Bool) → IsRead T p → Needs Arith p (bracket_by m two)
-    bracket_needs zero true read = λ e. absurd cc
-    bracket_needs zero false read = read
-    bracket_needs (suc m) two read = read
+    bracket_read : (m : ℕ) (two : Bool) → IsRead T p → PieceRead Arith p (bracket_by m two)
+    bracket_read zero true read = λ e. absurd cc
+    bracket_read zero false read = read
+    bracket_read (suc m) two read = read
 
     -- at a byte other than a backslash, a backquote and a `$`
-    byte_needs : (mode : Mode) (v : ℕ) → byte_at T p ≡ Some v → IsRead T p
-        → Needs mode p (byte_by T p mode n v)
+    byte_read : (mode : Mode) (v : ℕ) → byte_at T p ≡ Some v → IsRead T p
+        → PieceRead mode p (byte_by T p mode n v)
     unfolding ends_word
-    byte_needs Plain v some read =
-        let P = Needs Plain p in
+    byte_read Plain v some read =
+        let P = PieceRead Plain p in
         cond_both (ends (Some v)) _ _ P (λ e f. rw some e)
         (λ e. cond_both (v == apostrophe) _ _ P (λ f. read)
         (λ f. cond_both (v == quotation_mark) _ _ P (λ d. read) (λ d. read)))
-    byte_needs Double v some read = cond_both (v == quotation_mark) _ _ (Needs Double p) (λ e f. absurd cc) (λ e. read)
-    byte_needs Brace v some read =
-        let P = Needs Brace p in
+    byte_read Double v some read =
+        cond_both (v == quotation_mark) _ _ (PieceRead Double p) (λ e f. absurd cc) (λ e. read)
+    byte_read Brace v some read =
+        let P = PieceRead Brace p in
         cond_both (v == right_brace) _ _ P (λ e f. absurd cc)
         (λ e. cond_both (v == apostrophe) _ _ P (λ f. read)
         (λ f. cond_both (v == quotation_mark) _ _ P (λ d. read) (λ d. read)))
-    byte_needs DoubleBrace v some read =
-        let P = Needs DoubleBrace p in
+    byte_read DoubleBrace v some read =
+        let P = PieceRead DoubleBrace p in
         cond_both (v == right_brace) _ _ P (λ e f. absurd cc)
         (λ e. cond_both (v == quotation_mark) _ _ P (λ f. read) (λ f. read))
-    byte_needs Arith v some read =
-        let P = Needs Arith p in
+    byte_read Arith v some read =
+        let P = PieceRead Arith p in
         cond_both (v == right_parenthesis) _ _ P
-        (λ e. bracket_needs n (stands T (past_byte T p) right_parenthesis) read)
+        (λ e. bracket_read n (stands T (past_byte T p) right_parenthesis) read)
         (λ e. cond_both (v == left_parenthesis) _ _ P (λ f. read) (λ f. read))
 
     -- at p, by the byte that is read there, or that none is
-    needs_by : (x : Option ℕ) → byte_at T p ≡ x → Needs mode p (piece_by T p mode n x)
+    piece_read_by : (x : Option ℕ) → byte_at T p ≡ x → PieceRead mode p (piece_by T p mode n x)
     unfolding dollar_at
-    needs_by None none = end_needs mode none
-    needs_by (Some v) some =
-        let P = Needs mode p in
+    piece_read_by None none = end_read mode none
+    piece_read_by (Some v) some =
+        let P = PieceRead mode p in
         let read = slice_get_within T (past_continuations T p) v some in
         cond_both (v == backslash) _ _ P (λ e. cond_both (at_end T (past_byte T p)) _ _ P (λ f. read) (λ f. read))
         (λ e. cond_both (v == grave_accent) _ _ P (λ f. read)
-        (λ f. cond_both (v == dollar_sign) _ _ P (λ d. dollar_needs (byte_at T (past_byte T p)) read)
-        (λ d. byte_needs mode v some read)))
+        (λ f. cond_both (v == dollar_sign) _ _ P (λ d. dollar_read (byte_at T (past_byte T p)) read)
+        (λ d. byte_read mode v some read)))
 
     -- and so does the piece that the edition has in its place
-    needs_known : (x : Piece) → Needs mode p x → Needs mode p (piece_in g.edition mode x)
-    needs_known pieces.DollarSingle so =
-        cond_both (is_later g.edition && quotes_singly mode) _ _ (Needs mode p) (λ e. so) (λ e. so)
-    needs_known pieces.Closer so = so
-    needs_known pieces.Missing so = so
-    needs_known pieces.LoneBackslash so = so
-    needs_known pieces.Escape so = so
-    needs_known pieces.Single so = so
-    needs_known pieces.Double so = so
-    needs_known pieces.Backquote so = so
-    needs_known pieces.Pid so = so
-    needs_known pieces.Subst so = so
-    needs_known pieces.Arith so = so
-    needs_known pieces.Param so = so
-    needs_known pieces.Open so = so
-    needs_known pieces.Close so = so
-    needs_known pieces.BadClose so = so
-    needs_known pieces.Ordinary so = so
+    edition_read : (x : Piece) → PieceRead mode p x → PieceRead mode p (piece_in g.edition mode x)
+    edition_read pieces.DollarSingle so =
+        cond_both (is_later g.edition && quotes_singly mode) _ _ (PieceRead mode p) (λ e. so) (λ e. so)
+    edition_read pieces.Closer so = so
+    edition_read pieces.Missing so = so
+    edition_read pieces.LoneBackslash so = so
+    edition_read pieces.Escape so = so
+    edition_read pieces.Single so = so
+    edition_read pieces.Double so = so
+    edition_read pieces.Backquote so = so
+    edition_read pieces.Pid so = so
+    edition_read pieces.Subst so = so
+    edition_read pieces.Arith so = so
+    edition_read pieces.Param so = so
+    edition_read pieces.Open so = so
+    edition_read pieces.Close so = so
+    edition_read pieces.BadClose so = so
+    edition_read pieces.Ordinary so = so
 
     -- so it is there of the piece at p that the edition has
-    needs : Needs mode p (piece_in g.edition mode (piece_at T mode n p))
+    piece_read : PieceRead mode p (piece_in g.edition mode (piece_at T mode n p))
     unfolding piece_at
-    needs = needs_known (piece_at T mode n p) (needs_by (byte_at T p) refl)
+    piece_read = edition_read (piece_at T mode n p) (piece_read_by (byte_at T p) refl)
 
-  module _ (inner : Inner) (fine : Fine inner) where
+  module _ (inner : Inner) (fine : InnerOnward inner) where
     module _ (mode : Mode) (b : ℕ) (h : WordSoFar) (s : State) where
       -- where the piece begins
       abbrev p : ℕ
@@ -233,8 +234,8 @@ module _ (g : Given) where
       closes DoubleBrace so e = absurd cc
       closes Arith so e = absurd cc
 
-      -- each turn leads on that reads the row of a piece, where there is what that piece needs
-      row : (x : Piece) → Needs mode p x → Goes g (piece_row inner mode b h x) Turn s
+      -- each turn leads on that reads the row of a piece, where that is there with which the piece begins
+      row : (x : Piece) → PieceRead mode p x → Goes g (piece_row inner mode b h x) Turn s
       row pieces.Closer so = moves g (gives g (closes mode so))
       row pieces.Missing so = stops g
       row pieces.LoneBackslash so = sees g (stops g)
@@ -258,7 +259,7 @@ module _ (g : Given) where
       -- so does each turn over pieces
       piece_on : Goes g (a_piece inner mode b h) Turn s
       unfolding a_piece
-      piece_on = sees g (row (piece_in g.edition mode (piece_at T mode h.nested p)) (needs mode h.nested p))
+      piece_on = sees g (row (piece_in g.edition mode (piece_at T mode h.nested p)) (piece_read mode h.nested p))
 
     -- what a construct or a word holds is read so; the word ends after it
     pub contents_on : (mode : Mode) (b : ℕ) (ss : Row ASubst) (s : State)

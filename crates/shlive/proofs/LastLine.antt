@@ -79,9 +79,9 @@ module _ (edition : Edition) (B : List ℕ) (row : Row (HeldLine AKind)) (is : I
 -- ---- the script of the lines
 
 -- an option that is not some is none, and none is not some
-pub none_is : (f : Option Fault) → is_some f ≡ false → f ≡ None
-none_is None e = refl
-none_is (Some f) e = absurd cc
+pub not_some_is_none : (f : Option Fault) → is_some f ≡ false → f ≡ None
+not_some_is_none None e = refl
+not_some_is_none (Some f) e = absurd cc
 
 none_some : (f : Fault) → None ≡ Some f → ⊥
 none_some f e = cc
@@ -90,7 +90,7 @@ none_some f e = cc
 pub no_fault : (edition : Edition) (B : List ℕ) (f : Option Fault) → FirstFault edition B f → is_some f ≡ false →
     (g : Fault) → FirstFault edition B (Some g) → ⊥
 no_fault edition B f first none g other =
-    none_some g (sym (none_is f none) ∙ one_fault edition B f (Some g) first other)
+    none_some g (sym (not_some_is_none f none) ∙ one_fault edition B f (Some g) first other)
 
 -- where the script has no fault, what is printed for the entries of its lines is its printed text
 pub text_of_row : (edition : Edition) (y : Layout) (B : List ℕ) (row : Row (HeldLine AKind)) →

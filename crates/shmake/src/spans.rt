@@ -19,6 +19,7 @@ pub fn redirection_span(redirect: &Redirection) -> Span
         .through(redirect.word.span)
 }
 
+/// From where to where an item stands.
 fn item_span(item: &Item) -> Span
     ensures { result ≡ item_span (view_item item.now) }
 {
@@ -67,6 +68,7 @@ pub fn function_span(function: &Function) -> Span
     function.name.through(compound_span(&function.body))
 }
 
+/// From where to where a command stands.
 fn command_span(command: &Command) -> Span
     ensures { result ≡ command_span (view_command command.now) }
 {
@@ -116,6 +118,7 @@ pub fn and_or_span(and_or: &AndOr) -> Span
     first.through(last_pipeline(first, &and_or.rest))
 }
 
+/// Where an and-or list ends; of a comment, what stands before it.
 fn command_end(before: usize, content: &Content) -> usize
     ensures { result ≡ command_end before (view_content content.now) }
 {

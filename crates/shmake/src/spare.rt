@@ -125,6 +125,7 @@ fn spare_list(list: &mut List, spare: &mut Spare) {
         .keep(mem::replace(&mut list.entries, roomless));
 }
 
+/// What an entry holds is taken apart. Of a comment nothing is kept.
 #[cycle(spare)]
 fn spare_entry(entry: Entry, spare: &mut Spare) {
     if let Content::AndOr(and_or) = entry.what {
@@ -132,6 +133,7 @@ fn spare_entry(entry: Entry, spare: &mut Spare) {
     }
 }
 
+/// The pipelines of an and-or list are taken apart, and the vector of its joins is let go.
 #[cycle(spare)]
 fn spare_and_or(mut and_or: AndOr, spare: &mut Spare) {
     while let Some(part) = and_or.rest.pop() {
@@ -142,6 +144,7 @@ fn spare_and_or(mut and_or: AndOr, spare: &mut Spare) {
     spare_pipeline(first, spare);
 }
 
+/// The commands of a pipeline are taken apart, and the vector of those after the first is let go.
 #[cycle(spare)]
 fn spare_pipeline(mut pipeline: Pipeline, spare: &mut Spare) {
     while let Some(part) = pipeline.rest.pop() {
@@ -164,6 +167,7 @@ fn spare_command(command: Command, spare: &mut Spare) {
     }
 }
 
+/// Items are let go one by one, and their vector is kept.
 #[inline(always)]
 fn spare_items(mut items: Vec<Item>, spare: &mut Spare) {
     while let Some(item) = items.pop() {
@@ -178,6 +182,7 @@ fn spare_items_of(items: &mut Vec<Item>, spare: &mut Spare) {
     spare_items(mem::replace(items, roomless), spare);
 }
 
+/// The form of a compound command and its redirections are taken apart.
 #[cycle(spare)]
 #[inline(never)]
 fn spare_compound(compound: &mut Compound, spare: &mut Spare) {
@@ -185,6 +190,7 @@ fn spare_compound(compound: &mut Compound, spare: &mut Spare) {
     spare_items_of(&mut compound.redirects, spare);
 }
 
+/// The lists of a form are taken apart, and the words of a `for`.
 #[cycle(spare)]
 fn spare_form(form: &mut Form, spare: &mut Spare) {
     match form {
@@ -207,12 +213,14 @@ fn spare_form(form: &mut Form, spare: &mut Spare) {
     }
 }
 
+/// A condition and its body are taken apart.
 #[cycle(spare)]
 fn spare_branch(branch: &mut Branch, spare: &mut Spare) {
     spare_list(&mut branch.condition, spare);
     spare_list(&mut branch.body, spare);
 }
 
+/// The same of each branch after the first of an `if`.
 #[cycle(spare)]
 fn spare_branches(branches: &mut [Branch], spare: &mut Spare) {
     for branch in branches.iter_mut() {
@@ -220,6 +228,7 @@ fn spare_branches(branches: &mut [Branch], spare: &mut Spare) {
     }
 }
 
+/// The list after `else` is taken apart, where there is one.
 #[cycle(spare)]
 fn spare_else(otherwise: &mut Option<List>, spare: &mut Spare) {
     if let Some(list) = otherwise {
@@ -227,12 +236,14 @@ fn spare_else(otherwise: &mut Option<List>, spare: &mut Spare) {
     }
 }
 
+/// The words of a `for` are given back, where it has any.
 fn spare_words(words: &mut Option<Vec<Item>>, spare: &mut Spare) {
     if let Some(items) = words {
         spare_items_of(items, spare);
     }
 }
 
+/// The body of each item of a `case` is taken apart.
 #[cycle(spare)]
 fn spare_cases(items: &mut [CaseItem], spare: &mut Spare) {
     for item in items.iter_mut() {

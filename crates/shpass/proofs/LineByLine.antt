@@ -19,7 +19,7 @@ use Rattle.shpass.specs.declared.script_lines.ScriptLines.{ScriptLines}
 use Rattle.shast.specs.Nodes.{NodesWithin}
 use Rattle.shpass.specs.declared.script_lines.LinesBefore.{LinesBefore}
 use Rattle.shpass.specs.LineByLine.{Before, IsReadBy, LineReads, OuterReads, Rest, Stands, is_blank_after}
-use Rattle.shgrammar.proofs.Within.{more_within}
+use Rattle.shgrammar.proofs.NodesInLimit.{more_within}
 use Rattle.shgrammar.specs.Moved.{Same, SameBy}
 use Rattle.shgrammar.specs.Scripts.{AScript, Outcome, LinesSoFar, faulty, is_blank_line, last_line, line_ended, line_from, line_told, the_line, with_line}
 use Rattle.shgrammar.proofs.MovedLine.{line_moved, line_outer}

@@ -1,5 +1,5 @@
 -- Rows of sixteen bytes, lane by lane.
-use Rattle.std.proofs.Common.{◌≡◌, ℕ, ◌+◌, ◌-◌, ◌*◌, ◌/◌, ◌%◌, ◌^◌, ◌<◌, ◌≤◌, Bool, true, false, not, cond, eqb, List, [], ◌∷◌, map, length, get_or, take, drop, replicate, bit_and, refl, sym, ap, ◌∙◌, arith, w8, Fits, eq-eqb, ◌++◌}
+use Rattle.std.proofs.Common.{◌≡◌, ℕ, ◌+◌, ◌-◌, ◌*◌, ◌/◌, ◌%◌, ◌^◌, ◌<◌, ◌≤◌, Bool, true, false, not, cond, eqb, List, [], ◌∷◌, map, length, get_or, take, drop, replicate, bit_and, refl, sym, ap, ◌∙◌, arith, w8, Fits, eq-eqb}
 use Rattle.std.proofs.lemmas.Bool.{ne_eqb}
 use Rattle.std.proofs.lemmas.List.{drop-drop, get_or-map, length-drop, length-map, length-take-le, take-append-drop, ext_get_or}
 use Rattle.std.proofs.lemmas.List.Folds.{prefix_len-append}
@@ -116,15 +116,12 @@ some_first low high v fits mask is some =
 
 -- ---- from row to row
 
-joined : {X : Type 0} (n : ℕ) (xs : List X) → take n xs ++ drop n xs ≡ xs
-joined n xs = take-append-drop n xs
-
 -- a row that has none of them is passed
 pub row_passed : (p : ℕ → Bool) (xs : List ℕ) → 16 ≤ length xs → prefix_len p (take 16 xs) ≡ 16 →
     prefix_len p xs ≡ 16 + prefix_len p (drop 16 xs)
 row_passed p xs long all =
     let whole : length (take 16 xs) ≡ 16 = length-take-le 16 xs long in
-    ap (prefix_len p) (sym (joined 16 xs)) ∙ prefix_len-append p (take 16 xs) (drop 16 xs)
+    ap (prefix_len p) (sym (take-append-drop 16 xs)) ∙ prefix_len-append p (take 16 xs) (drop 16 xs)
     ∙ ap (λ t. cond t (length (take 16 xs) + prefix_len p (drop 16 xs)) (prefix_len p (take 16 xs)))
     (eq-eqb _ _ (all ∙ sym whole))
     ∙ ap (λ n. n + prefix_len p (drop 16 xs)) whole
@@ -136,7 +133,7 @@ row_ends p xs long short =
     let whole : length (take 16 xs) ≡ 16 = length-take-le 16 xs long in
     let other : eqb (prefix_len p (take 16 xs)) (length (take 16 xs)) ≡ false =
     ne_eqb _ _ (λ e. omega (arith, whole, short, e)) in
-    ap (prefix_len p) (sym (joined 16 xs)) ∙ prefix_len-append p (take 16 xs) (drop 16 xs)
+    ap (prefix_len p) (sym (take-append-drop 16 xs)) ∙ prefix_len-append p (take 16 xs) (drop 16 xs)
     ∙ ap (λ t. cond t (length (take 16 xs) + prefix_len p (drop 16 xs)) (prefix_len p (take 16 xs))) other
 
 -- ---- the search from a place on

@@ -13,7 +13,7 @@ use denote.Param.Members.{Mut}
 use denote.Ref.{Bor}
 use Rattle.shast.specs.declared.node.NodeLine.{NodeLine}
 use Rattle.shast.specs.Nodes.{by_place, in_order, inserted}
-use Rattle.shast.proofs.Picked.{two_tests, without}
+use Rattle.shast.proofs.Picked.{picked_comm, picked_injective}
 
 -- ---- a node that has to stand before another
 
@@ -148,7 +148,7 @@ tied_case : (x n m : NodeLine) (ms : Row NodeLine) (b : Bool) → before m n ≡
 tied_case x n m ms true e h =
     let apart : tied x m ≡ true → tied x n ≡ true → ⊥ = λ p q. let no : before m n ≡ false = both_tied x m n p q in
     cc in
-    ap (λ r. cond (tied x m) (m ∷ r) r) h ∙ two_tests (tied x m) (tied x n) m n (filter (tied x) ms) apart
+    ap (λ r. cond (tied x m) (m ∷ r) r) h ∙ picked_comm (tied x m) (tied x n) m n (filter (tied x) ms) apart
 tied_case x n m ms false e h = refl
 
 tied_inserted : (x n : NodeLine) (ms : Row NodeLine) → filter (tied x) (inserted n ms) ≡ filter (tied x) (n ∷ ms)
@@ -207,7 +207,7 @@ one_order (m ∷ ms) (n ∷ ns) u v h =
     let fronts : m ∷ filter (tied m) ms ≡ n ∷ filter (tied m) ns = rw (tied_self m, t) at (h m) in
     let same : m ≡ n = cc in
     let rest : ms ≡ ns = one_order ms ns u.1 v.1
-    (λ x. without (tied x m) m (filter (tied x) ms) (filter (tied x) ns) (rw (← same) at (h x))) in
+    (λ x. picked_injective (tied x m) m (filter (tied x) ms) (filter (tied x) ns) (rw (← same) at (h x))) in
     cc
 
 -- what a stable sort gives

@@ -89,7 +89,7 @@ pub fn bodies_unseen()
 
 /// The shape of a list, over any bytes, holds the texts of its bodies: it is filled as
 /// the list is, and opened as the list is.
-#[tactic(auto, using(shast::proofs::FilledShape::shape_filled, shast::proofs::FilledShape::shape_open, shast::proofs::FilledShape::shape_bodies))]
+#[tactic(auto, using(shast::proofs::FilledShape::shape_filled, shast::proofs::FilledShape::entries_open, shast::proofs::FilledShape::shape_bodies))]
 pub fn shape_of_bodies()
     ensures filled { (bytes : Row ℕ) (bodies : Row Span) (list : Entries) →
         shape_of bytes (filled bodies list)

@@ -1,8 +1,8 @@
 use Rattle.std.proofs.Common.{drop}
 use Rattle.shgrammar.proofs.Answered.{line_alone, line_answered}
 use Rattle.shgrammar.proofs.SameLine.{no_further, same_bytes}
-use Rattle.shgrammar.proofs.Within.{entries_within}
-use Rattle.shgrammar.proofs.Everywhere.{everywhere_more, line_everywhere}
+use Rattle.shgrammar.proofs.NodesInLimit.{entries_within}
+use Rattle.shgrammar.proofs.SpansInLimit.{everywhere_more, line_everywhere}
 use Rattle.shread.proofs.reader.Reader.read_line.Goals as goal
 
 pub returns-clause-only : goal.returns-clause-only
