@@ -1,5 +1,5 @@
-"""How tests/imports, tests/uncited, tests/twice and tests/names read the files of the repository: what their
-code is, what those of the proof language import, and how what they declare begins."""
+"""How tests/names, tests/imports, tests/uncited, tests/twice and tests/stale read the files of the
+repository: what their code is, what those of the proof language import, and how what they declare begins."""
 import glob
 import os
 import re
