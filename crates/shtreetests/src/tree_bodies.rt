@@ -70,23 +70,43 @@ impl<'a> Documents<'a> {
         Ok(case_of(script.word("A"), items, Vec::new(alloc)))
     }
 
-    /// Forms that hold lists, each with a document after it.
-    fn forms(self) -> Result<Vec<Command>, AllocError> {
-        let script = self.script;
-        let mut commands = Vec::new(script.alloc);
-        let mut rest = script.branches(self.branch("F", "G")?)?;
+    /// An `if` with a document in each list, and one after it.
+    fn if_command(self) -> Result<Command, AllocError> {
+        let mut rest = self.script.branches(self.branch("F", "G")?)?;
         rest.push(self.branch("H", "I")?)?;
         let form = if_of(self.branch("D", "E")?, rest, Some(self.list("J")?));
-        commands.push(script.boxed(self.compound(form, "K")?)?)?;
+        self.script.boxed(self.compound(form, "K")?)
+    }
+
+    fn while_command(self) -> Result<Command, AllocError> {
         let form = while_of(self.branch("L", "M")?);
-        commands.push(script.boxed(script.formed(form, "A"))?)?;
-        let form = for_of(script.word("A"), None, self.list("N")?);
-        commands.push(script.boxed(self.compound(form, "O")?)?)?;
-        commands.push(script.boxed(script.formed(self.cases()?, "A"))?)?;
+        self.script.compound(form, "A")
+    }
+
+    fn for_command(self) -> Result<Command, AllocError> {
+        let form = for_of(self.script.word("A"), None, self.list("N")?);
+        self.script.boxed(self.compound(form, "O")?)
+    }
+
+    fn case_command(self) -> Result<Command, AllocError> {
+        self.script.compound(self.cases()?, "A")
+    }
+
+    fn function(self) -> Result<Command, AllocError> {
+        let alloc = self.script.alloc;
         let body = self.compound(until_of(self.branch("R", "S")?), "T")?;
-        let function = function_of(script.at("A"), Vec::new(script.alloc), body);
-        let function = Box::new(script.alloc, function)?;
-        commands.push(function_command(function))?;
+        let function = function_of(self.script.at("A"), Vec::new(alloc), body);
+        Ok(function_command(Box::new(alloc, function)?))
+    }
+
+    /// A command of each form that holds lists, some with a document after it.
+    fn forms(self) -> Result<Vec<Command>, AllocError> {
+        let mut commands = Vec::new(self.script.alloc);
+        commands.push(self.if_command()?)?;
+        commands.push(self.while_command()?)?;
+        commands.push(self.for_command()?)?;
+        commands.push(self.case_command()?)?;
+        commands.push(self.function()?)?;
         Ok(commands)
     }
 
@@ -129,20 +149,28 @@ fn spans(script: Script) -> Result<Vec<Span>, AllocError> {
     Ok(bodies)
 }
 
+/// How a tree is shown in which the documents are open, or have their bodies.
+fn shown_whole(script: Script<'_>, open: bool) -> Result<String, Fail> {
+    shown(script.alloc, &Documents { script, open }.whole()?)
+}
+
+/// How one is shown whose documents were open, once these bodies are put in.
+fn shown_filled(script: Script<'_>, bodies: &[Span]) -> Result<String, Fail> {
+    let mut list = Documents { script, open: true }.whole()?;
+    put_bodies(&mut list, bodies);
+    shown(script.alloc, &list)
+}
+
 #[test]
 fn each_place(rt: HostRuntime) -> Result<(), Fail> {
     let alloc = rt.alloc();
     let script = Script { alloc, text: NAMES };
-    let mut list = Documents { script, open: true }.whole()?;
-    let open = shown(alloc, &list)?;
-    put_bodies(&mut list, &[]);
-    assert_eq!(rt; shown(alloc, &list)?.as_str(), open.as_str());
-    put_bodies(&mut list, &spans(script)?);
-    let open = false;
-    let wanted = Documents { script, open }.whole()?;
+    let open = shown_whole(script, true)?;
+    assert_eq!(rt; shown_filled(script, &[])?.as_str(), open.as_str());
+    let wanted = shown_whole(script, false)?;
     assert_eq!(rt;
-        shown(alloc, &list)?.as_str(),
-        shown(alloc, &wanted)?.as_str()
+        shown_filled(script, &spans(script)?)?.as_str(),
+        wanted.as_str()
     );
     Ok(())
 }
@@ -168,27 +196,22 @@ fn a_substitution(rt: HostRuntime) -> Result<(), Fail> {
     Ok(())
 }
 
+/// Two commands, each with a document: the first one is open, or has its body, and the second one is open.
+fn two_documents(script: Script<'_>, open: bool) -> Result<List, AllocError> {
+    let mut entries = Vec::new(script.alloc);
+    entries.push(script.entry(Documents { script, open }.simple("A")?))?;
+    entries.push(script.entry(Documents { script, open: true }.simple("B")?))?;
+    Ok(list_of(entries))
+}
+
 // The last documents stay open where there are too few bodies.
 #[test]
 fn too_few(rt: HostRuntime) -> Result<(), Fail> {
     let alloc = rt.alloc();
     let script = Script { alloc, text: NAMES };
-    let full = Documents {
-        script,
-        open: false,
-    };
-    let open = Documents { script, open: true };
-    let mut entries = Vec::new(alloc);
-    entries.push(script.entry(open.simple("A")?))?;
-    entries.push(script.entry(open.simple("B")?))?;
-    let mut list = list_of(entries);
+    let mut list = two_documents(script, true)?;
     put_bodies(&mut list, &[script.at("A")]);
-    let mut entries = Vec::new(alloc);
-    entries.push(script.entry(full.simple("A")?))?;
-    entries.push(script.entry(open.simple("B")?))?;
-    assert_eq!(rt;
-        shown(alloc, &list)?.as_str(),
-        shown(alloc, &list_of(entries))?.as_str()
-    );
+    let wanted = shown(alloc, &two_documents(script, false)?)?;
+    assert_eq!(rt; shown(alloc, &list)?.as_str(), wanted.as_str());
     Ok(())
 }

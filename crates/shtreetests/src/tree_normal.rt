@@ -4,8 +4,8 @@ use shtree::make::{
     and_or_of, argument_of, command_entry, comment_entry, list_of, pipeline_of, simple_of,
 };
 use shtree::{
-    Branch, CaseItem, Command, Comment, Content, Entry, Form, Function, Join, List, Subst, Word,
-    is_normal,
+    Branch, CaseItem, Command, Comment, Content, Entry, Form, Function, Item, Join, List, Subst,
+    Word, is_normal,
 };
 use std::alloc::{AllocError, Global};
 use std::process::Abort;
@@ -138,12 +138,33 @@ fn branch(
     Ok(Branch { condition, body })
 }
 
+/// An `if` whose first lists hold a command, with this after them.
 fn if_form(alloc: Global, rest: Vec<Branch>, otherwise: Option<List>) -> Result<Form, AllocError> {
+    let first = branch(alloc, None, None)?;
     Ok(Form::If {
-        first: branch(alloc, None, None)?,
+        first,
         rest,
         otherwise,
     })
+}
+
+/// An `if` of this branch alone.
+fn if_alone(alloc: Global, first: Branch) -> Form {
+    Form::If {
+        first,
+        rest: Vec::new(alloc),
+        otherwise: None,
+    }
+}
+
+fn with_elif(alloc: Global, elif: Branch) -> Result<Form, AllocError> {
+    if_form(alloc, script(alloc).branches(elif)?, None)
+}
+
+fn with_second_elif(alloc: Global, elif: Branch) -> Result<Form, AllocError> {
+    let mut rest = script(alloc).branches(branch(alloc, None, None)?)?;
+    rest.push(elif)?;
+    if_form(alloc, rest, None)
 }
 
 fn for_form(
@@ -178,143 +199,178 @@ fn case_item(alloc: Global, pattern: Word, body: List) -> Result<CaseItem, Alloc
     })
 }
 
-fn in_form(alloc: Global, place: Place, list: List) -> Result<Form, AllocError> {
+/// A form with this list as a condition.
+fn in_condition(alloc: Global, place: Place, list: List) -> Result<Form, AllocError> {
+    let branch = branch(alloc, Some(list), None)?;
+    match place {
+        Place::ElifCondition => with_elif(alloc, branch),
+        Place::WhileCondition => Ok(Form::While(branch)),
+        Place::UntilCondition => Ok(Form::Until(branch)),
+        _ => Ok(if_alone(alloc, branch)),
+    }
+}
+
+/// A form with this list as the body after a condition.
+fn in_body(alloc: Global, place: Place, list: List) -> Result<Form, AllocError> {
+    let branch = branch(alloc, None, Some(list))?;
+    match place {
+        Place::ElifBody => with_elif(alloc, branch),
+        Place::SecondElif => with_second_elif(alloc, branch),
+        Place::WhileBody => Ok(Form::While(branch)),
+        Place::UntilBody => Ok(Form::Until(branch)),
+        _ => Ok(if_alone(alloc, branch)),
+    }
+}
+
+fn in_for(alloc: Global, place: Place, list: List) -> Result<Form, AllocError> {
+    let word = script(alloc).word("");
+    match place {
+        Place::ForName => for_form(alloc, around(alloc, list)?, None, run(alloc)?),
+        Place::ForWord => for_form(alloc, word, Some(around(alloc, list)?), run(alloc)?),
+        _ => for_form(alloc, word, None, list),
+    }
+}
+
+/// A `case` of one item.
+fn case_of_one(alloc: Global, item: CaseItem) -> Result<Form, AllocError> {
     let script = script(alloc);
-    let word = script.word("");
-    Ok(match place {
-        Place::Subshell => Form::Subshell(list),
-        Place::IfCondition => Form::If {
-            first: branch(alloc, Some(list), None)?,
-            rest: Vec::new(alloc),
-            otherwise: None,
-        },
-        Place::IfBody => Form::If {
-            first: branch(alloc, None, Some(list))?,
-            rest: Vec::new(alloc),
-            otherwise: None,
-        },
-        Place::ElifCondition => {
-            let rest = script.branches(branch(alloc, Some(list), None)?)?;
-            if_form(alloc, rest, None)?
-        }
-        Place::ElifBody => {
-            let rest = script.branches(branch(alloc, None, Some(list))?)?;
-            if_form(alloc, rest, None)?
-        }
-        Place::SecondElif => {
-            let mut rest = script.branches(branch(alloc, None, None)?)?;
-            rest.push(branch(alloc, None, Some(list))?)?;
-            if_form(alloc, rest, None)?
-        }
-        Place::Else => if_form(alloc, Vec::new(alloc), Some(list))?,
-        Place::WhileCondition => Form::While(branch(alloc, Some(list), None)?),
-        Place::WhileBody => Form::While(branch(alloc, None, Some(list))?),
-        Place::UntilCondition => Form::Until(branch(alloc, Some(list), None)?),
-        Place::UntilBody => Form::Until(branch(alloc, None, Some(list))?),
-        Place::ForBody => for_form(alloc, word, None, list)?,
-        Place::ForName => for_form(alloc, around(alloc, list)?, None, run(alloc)?)?,
-        Place::ForWord => for_form(alloc, word, Some(around(alloc, list)?), run(alloc)?)?,
-        Place::CaseWord => case_form(alloc, around(alloc, list)?, Vec::new(alloc)),
-        Place::Pattern => {
-            let item = case_item(alloc, around(alloc, list)?, run(alloc)?)?;
-            case_form(alloc, word, script.cases(item)?)
-        }
-        Place::SecondPattern => {
-            let mut item = case_item(alloc, script.word(""), run(alloc)?)?;
-            item.patterns.push(around(alloc, list)?)?;
-            case_form(alloc, word, script.cases(item)?)
-        }
-        Place::SecondCase => {
-            let mut items = script.cases(case_item(alloc, script.word(""), run(alloc)?)?)?;
-            items.push(case_item(alloc, script.word(""), list)?)?;
-            case_form(alloc, word, items)
-        }
-        Place::CaseBody => {
-            let item = case_item(alloc, script.word(""), list)?;
-            case_form(alloc, word, script.cases(item)?)
-        }
-        _ => Form::Brace(list),
-    })
+    Ok(case_form(alloc, script.word(""), script.cases(item)?))
+}
+
+fn in_second_pattern(alloc: Global, list: List) -> Result<Form, AllocError> {
+    let mut item = case_item(alloc, script(alloc).word(""), run(alloc)?)?;
+    item.patterns.push(around(alloc, list)?)?;
+    case_of_one(alloc, item)
+}
+
+fn in_second_case(alloc: Global, list: List) -> Result<Form, AllocError> {
+    let script = script(alloc);
+    let mut items = script.cases(case_item(alloc, script.word(""), run(alloc)?)?)?;
+    items.push(case_item(alloc, script.word(""), list)?)?;
+    Ok(case_form(alloc, script.word(""), items))
+}
+
+fn in_case(alloc: Global, place: Place, list: List) -> Result<Form, AllocError> {
+    match place {
+        Place::CaseWord => Ok(case_form(alloc, around(alloc, list)?, Vec::new(alloc))),
+        Place::Pattern => case_of_one(alloc, case_item(alloc, around(alloc, list)?, run(alloc)?)?),
+        Place::SecondPattern => in_second_pattern(alloc, list),
+        Place::SecondCase => in_second_case(alloc, list),
+        _ => case_of_one(alloc, case_item(alloc, script(alloc).word(""), list)?),
+    }
+}
+
+fn in_form(alloc: Global, place: Place, list: List) -> Result<Form, AllocError> {
+    match place {
+        Place::Subshell => Ok(Form::Subshell(list)),
+        Place::IfCondition | Place::ElifCondition | Place::WhileCondition | Place::UntilCondition =>
+            in_condition(alloc, place, list),
+        Place::IfBody | Place::ElifBody | Place::SecondElif | Place::WhileBody | Place::UntilBody =>
+            in_body(alloc, place, list),
+        Place::Else => if_form(alloc, Vec::new(alloc), Some(list)),
+        Place::ForName | Place::ForWord | Place::ForBody => in_for(alloc, place, list),
+        Place::CaseWord
+        | Place::Pattern
+        | Place::SecondPattern
+        | Place::SecondCase
+        | Place::CaseBody => in_case(alloc, place, list),
+        _ => Ok(Form::Brace(list)),
+    }
+}
+
+/// A simple command of a word that holds a substitution, and then this one.
+fn in_second_subst(alloc: Global, list: List) -> Result<Command, AllocError> {
+    let mut word = around(alloc, run(alloc)?)?;
+    let span = word.span;
+    word.substs.push(Subst { list, span })?;
+    simple(alloc, word)
+}
+
+fn in_second_item(alloc: Global, list: List) -> Result<Command, AllocError> {
+    let mut items = script(alloc).arguments(&["a"])?;
+    items.push(argument_of(around(alloc, list)?, true))?;
+    Ok(simple_of(items))
+}
+
+fn redirect_around(alloc: Global, list: List) -> Result<Item, AllocError> {
+    script(alloc).redirect("", "", around(alloc, list)?)
+}
+
+fn in_redirect_after_compound(alloc: Global, list: List) -> Result<Command, AllocError> {
+    let script = script(alloc);
+    let mut compound = script.formed(Form::Brace(run(alloc)?), "");
+    compound.redirects.push(redirect_around(alloc, list)?)?;
+    script.boxed(compound)
+}
+
+fn in_function(alloc: Global, list: List) -> Result<Command, AllocError> {
+    let script = script(alloc);
+    let body = script.list(simple(alloc, around(alloc, list)?)?)?;
+    let function = Function {
+        name: script.at(""),
+        comments: Vec::new(alloc),
+        body: script.formed(Form::Brace(body), ""),
+    };
+    Ok(Command::Function(Box::new(alloc, function)?))
 }
 
 fn in_command(alloc: Global, place: Place, list: List) -> Result<Command, AllocError> {
     let script = script(alloc);
-    Ok(match place {
-        Place::Assign => {
-            let item = script.assignment(around(alloc, list)?);
-            simple_of(script.one(item)?)
-        }
-        Place::Argument => simple(alloc, around(alloc, list)?)?,
-        Place::SecondSubst => {
-            let mut word = around(alloc, run(alloc)?)?;
-            let span = word.span;
-            word.substs.push(Subst { list, span })?;
-            simple(alloc, word)?
-        }
-        Place::SecondItem => {
-            let mut items = script.arguments(&["a"])?;
-            items.push(argument_of(around(alloc, list)?, true))?;
-            simple_of(items)
-        }
-        Place::Redirect => {
-            let item = script.redirect("", "", around(alloc, list)?)?;
-            simple_of(script.one(item)?)
-        }
-        Place::RedirectAfterCompound => {
-            let mut compound = script.formed(Form::Brace(run(alloc)?), "");
-            compound
-                .redirects
-                .push(script.redirect("", "", around(alloc, list)?)?)?;
-            script.boxed(compound)?
-        }
-        Place::FunctionBody => {
-            let word = around(alloc, list)?;
-            let body = script.list(simple(alloc, word)?)?;
-            let function = Function {
-                name: script.at(""),
-                comments: Vec::new(alloc),
-                body: script.formed(Form::Brace(body), ""),
-            };
-            Command::Function(Box::new(alloc, function)?)
-        }
-        _ => script.compound(in_form(alloc, place, list)?, "")?,
-    })
+    match place {
+        Place::Assign => Ok(simple_of(script.one(script.assignment(around(alloc, list)?))?)),
+        Place::Argument => simple(alloc, around(alloc, list)?),
+        Place::SecondSubst => in_second_subst(alloc, list),
+        Place::SecondItem => in_second_item(alloc, list),
+        Place::Redirect => Ok(simple_of(script.one(redirect_around(alloc, list)?)?)),
+        Place::RedirectAfterCompound => in_redirect_after_compound(alloc, list),
+        Place::FunctionBody => in_function(alloc, list),
+        _ => script.compound(in_form(alloc, place, list)?, ""),
+    }
+}
+
+/// A pipeline of commands and a last one, whose word holds this list.
+fn in_pipeline(alloc: Global, third: bool, list: List) -> Result<List, AllocError> {
+    let script = script(alloc);
+    let last = simple(alloc, around(alloc, list)?)?;
+    let mut rest = Vec::new(alloc);
+    if third {
+        rest.append(&mut script.piped(script.join(false, &[])?, script.simple(&["a"])?)?)?;
+    }
+    rest.append(&mut script.piped(script.join(false, &[])?, last)?)?;
+    let pipeline = pipeline_of(None, script.simple(&["a"])?, rest);
+    script.only(command_entry(script.operand(pipeline), false, false, None))
+}
+
+/// An and-or list of pipelines and a last one, whose word holds this list.
+fn in_and_or(alloc: Global, third: bool, list: List) -> Result<List, AllocError> {
+    let script = script(alloc);
+    let last = simple(alloc, around(alloc, list)?)?;
+    let mut rest = Vec::new(alloc);
+    if third {
+        rest.append(&mut script.joined(script.join(false, &[])?, script.simple(&["a"])?)?)?;
+    }
+    rest.append(&mut script.joined(script.join(false, &[])?, last)?)?;
+    let first = pipeline_of(None, script.simple(&["a"])?, Vec::new(alloc));
+    script.only(command_entry(and_or_of(first, rest), false, false, None))
+}
+
+fn in_second_entry(alloc: Global, list: List) -> Result<List, AllocError> {
+    let script = script(alloc);
+    let mut entries = Vec::new(alloc);
+    entries.push(script.entry(script.simple(&["a"])?))?;
+    let and_or = script.alone(simple(alloc, around(alloc, list)?)?);
+    entries.push(command_entry(and_or, true, true, None))?;
+    Ok(list_of(entries))
 }
 
 fn in_script(alloc: Global, place: Place, list: List) -> Result<List, AllocError> {
-    let script = script(alloc);
     match place {
-        Place::SecondCommand | Place::ThirdCommand => {
-            let mut rest = Vec::new(alloc);
-            if let Place::ThirdCommand = place {
-                let join = script.join(false, &[])?;
-                rest.append(&mut script.piped(join, script.simple(&["a"])?)?)?;
-            }
-            let join = script.join(false, &[])?;
-            rest.append(&mut script.piped(join, simple(alloc, around(alloc, list)?)?)?)?;
-            let pipeline = pipeline_of(None, script.simple(&["a"])?, rest);
-            script.only(command_entry(script.operand(pipeline), false, false, None))
-        }
-        Place::SecondPipeline | Place::ThirdPipeline => {
-            let mut rest = Vec::new(alloc);
-            if let Place::ThirdPipeline = place {
-                let join = script.join(false, &[])?;
-                rest.append(&mut script.joined(join, script.simple(&["a"])?)?)?;
-            }
-            let join = script.join(false, &[])?;
-            rest.append(&mut script.joined(join, simple(alloc, around(alloc, list)?)?)?)?;
-            let first = pipeline_of(None, script.simple(&["a"])?, Vec::new(alloc));
-            script.only(command_entry(and_or_of(first, rest), false, false, None))
-        }
-        Place::SecondEntry => {
-            let mut entries = Vec::new(alloc);
-            entries.push(script.entry(script.simple(&["a"])?))?;
-            let word = around(alloc, list)?;
-            let and_or = script.alone(simple(alloc, word)?);
-            entries.push(command_entry(and_or, true, true, None))?;
-            Ok(list_of(entries))
-        }
-        _ => script.list(in_command(alloc, place, list)?),
+        Place::SecondCommand => in_pipeline(alloc, false, list),
+        Place::ThirdCommand => in_pipeline(alloc, true, list),
+        Place::SecondPipeline => in_and_or(alloc, false, list),
+        Place::ThirdPipeline => in_and_or(alloc, true, list),
+        Place::SecondEntry => in_second_entry(alloc, list),
+        _ => script(alloc).list(in_command(alloc, place, list)?),
     }
 }
 
