@@ -1,10 +1,13 @@
 //! Command substitutions (XCU 2.6.3).
-ghost use Rattle.std.specs.Prelude.{◌≡◌, ◌+◌, ◌≤◌, ◌==◌, IfErr, IfOk, true};
+ghost use Rattle.std.specs.Prelude.{◌≡◌, ◌+◌, ◌≤◌, ◌==◌, IfErr, IfOk, false, true};
 ghost use Rattle.shline.specs.Clauses.{here_of, keep_of, PlaceToPlace};
 ghost use Rattle.shgrammar.specs.Comments.{span};
+ghost use Rattle.shgrammar.specs.Compounds.{is_closing};
+ghost use Rattle.shgrammar.specs.declared.token.Closing.TheVariants.{Paren};
 ghost use Rattle.shgrammar.specs.Form.{grows, pushed};
 ghost use Rattle.shgrammar.specs.Levels.{level};
 ghost use Rattle.shgrammar.specs.Substitutions.{one_substitution, substitution_list};
+ghost use Rattle.shgrammar.specs.Tokens.{is_end};
 ghost use Rattle.shline.specs.Rows.{view_substs};
 ghost use Rattle.shast.specs.Bodies.{filled};
 ghost use Rattle.shast.specs.Tree.{subst};
@@ -30,6 +33,15 @@ fn filled_list(mut list: List, bodies: &[Span]) -> List
 }
 
 impl<'a, S: Source, const TREE: u8> Cursor<'a, S, TREE> {
+    /// Whether the `)` of a substitution stands here. It is apart from the cycle of commands, so that its wrong
+    /// body leaves the proofs of that alone.
+    fn ends_substitution(&self) -> bool
+        ensures value { result ≡ is_closing Paren self.now.next.token }
+        ensures some { result ≡ true → is_end self.now.next.token ≡ false }
+    {
+        self.next.token.is_closing(Closing::Paren)
+    }
+
     /// What stands in a substitution, and its `)`.
     #[cycle(commands)]
     #[tactic(auto, unfolding(shgrammar::specs::Substitutions::substitution_list, shgrammar::specs::Commands::next_token, crate::specs::InHand::InHand))]
@@ -39,7 +51,7 @@ impl<'a, S: Source, const TREE: u8> Cursor<'a, S, TREE> {
         self.next_token(Position::Command);
         let mut listed = Listed::new(self.alloc, false);
         self.list_lines(&mut &mut listed, room)?;
-        if !self.next.token.is_closing(Closing::Paren) {
+        if !self.ends_substitution() {
             return Err(Stop::Wrong(self.what_is_wrong(room)?));
         }
         self.nothing_waits()?;
