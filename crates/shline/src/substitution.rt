@@ -33,8 +33,8 @@ fn filled_list(mut list: List, bodies: &[Span]) -> List
 }
 
 impl<'a, S: Source, const TREE: u8> Cursor<'a, S, TREE> {
-    /// Whether the `)` of a substitution stands here. It is apart from the cycle of commands, so that its wrong
-    /// body leaves the proofs of that alone.
+    /// Whether the `)` of a substitution stands here. It is apart from the cycle of commands, so that its
+    /// wrong body leaves the proofs of that alone.
     fn ends_substitution(&self) -> bool
         ensures value { result ≡ is_closing Paren self.now.next.token }
         ensures some { result ≡ true → is_end self.now.next.token ≡ false }
